@@ -1,0 +1,18 @@
+-- The starred examples hold of the definitions: one statement, computed.
+use mathlib.Core.Path.{refl}
+use Rattle.meaning.specs.Containment.{decide, firstFailure, passes, tooMany}
+use Rattle.meaning.specs.Countermodel.{canonicalModel, countermodel, modelWords}
+use Rattle.meaning.specs.Examples.{Right, starred}
+use Rattle.meaning.specs.Lists.{All, cons, nil}
+use Rattle.meaning.specs.ModelCheck.{factsOf, modelRefusal, refutes}
+use Rattle.meaning.specs.NormalForm.{normalForm, possible, single, singleFeature}
+use Rattle.meaning.specs.Operations.{compliance, complianceOf, equality, equalityOf, inputRefusal, modelCheck, possibility}
+use Rattle.meaning.specs.Policy.{policyOf, policyRefusal, walk}
+use Rattle.meaning.specs.Program.{decimal, printed, program}
+use Rattle.meaning.specs.Splitting.{combinationCount, combinations, valueOf}
+use Rattle.meaning.specs.Vocabulary.{vocabularyOf, vocabularyRefusal}
+
+pub table : All Right starred
+unfolding vocabularyRefusal vocabularyOf policyRefusal walk policyOf single singleFeature normalForm possible valueOf combinations combinationCount passes firstFailure decide tooMany canonicalModel modelWords countermodel modelRefusal factsOf refutes inputRefusal possibility complianceOf compliance equalityOf equality modelCheck decimal printed program
+table =
+    cons refl (cons refl (cons refl (cons refl (cons refl (cons refl (cons refl (cons refl (cons refl (cons refl (cons refl (cons refl (cons refl (cons refl (cons refl (cons refl (cons refl (cons refl (cons refl (cons refl (cons refl (cons refl (cons refl (cons refl (cons refl (cons refl (cons refl (cons refl (cons refl (cons refl (cons refl (cons refl (cons refl (cons refl (cons refl (cons refl nil)))))))))))))))))))))))))))))))))))

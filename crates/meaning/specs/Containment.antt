@@ -1,0 +1,68 @@
+-- Containment of one policy in another: what it means, and how it is decided by combinations and Algorithm 1.
+use Prim.Native.Nat.{_≤_, suc, ℕ}
+use mathlib.Core.Bool.{Bool, _&&_, cond}
+use mathlib.Core.List.{List, [], _∷_}
+use lib.Dec.{T, ltb}
+use Rattle.meaning.specs.Countermodel.{Fact, stands}
+use Rattle.meaning.specs.Interpretation.{In, Interpretation, Proper, Satisfies, Tested, interpreted}
+use Rattle.meaning.specs.Lists.{Found, any, firstFailing, found, nowhere}
+use Rattle.meaning.specs.NormalForm.{Form, normalForm, possible}
+use Rattle.meaning.specs.Policy.{Chain, Policy}
+use Rattle.meaning.specs.Splitting.{combinationCount, combinations}
+use Rattle.meaning.specs.Subsumption.{subsumed}
+use Rattle.meaning.specs.Vocabulary.{Vocabulary}
+
+-- demand 2: "in every interpretation that satisfies the vocabulary each individual of the policy is in the consent"
+abbrev pub Contained : Vocabulary → Policy → Policy → Type 1
+Contained K P Q = (I : Interpretation) → Proper I → Satisfies I K → (d : ℕ) → I .individual d → In I P d → In I Q d
+
+-- the same over interpretations given by tests, and over finite ones given by their facts
+abbrev pub ContainedTested : Vocabulary → Policy → Policy → Type 0
+ContainedTested K P Q =
+    (M : Tested) → Proper (interpreted M) → Satisfies (interpreted M) K →
+    (d : ℕ) → T (M .individual d) → In (interpreted M) P d → In (interpreted M) Q d
+
+abbrev pub ContainedFinite : Vocabulary → Policy → Policy → Type 0
+ContainedFinite K P Q =
+    (n : ℕ) (F : List Fact) → Proper (stands n F) → Satisfies (stands n F) K →
+    (d : ℕ) → (1 ≤ d) × (d ≤ n) → In (stands n F) P d → In (stands n F) Q d
+
+-- the facts stand for a finite interpretation that satisfies K, with individual 1 in the first policy and outside the second
+pub record Refutes (K : Vocabulary) (P Q : Policy) (n : ℕ) (F : List Fact) : Type 0 where
+  pub proper : Proper (stands n F)
+  pub satisfies : Satisfies (stands n F) K
+  pub within : In (stands n F) P 1
+  pub without : In (stands n F) Q 1 → ⊥
+
+-- a combination passes Algorithm 1 against some simple policy of the second
+unfoldable pub passes : Vocabulary → Policy → Form → Bool
+passes K Q u = any (λ q. subsumed K q (u .node) (u .successors)) Q
+
+-- the first combination to fail, counted from 1, of a possible simple policy
+unfoldable pub firstFailure : Vocabulary → Policy → Chain → Found Form
+firstFailure K Q p =
+    let tried = firstFailing (passes K Q) 1 (combinations Q (normalForm K p)) in
+    cond (possible K p) tried nowhere
+
+-- contained, or "simple policy s and combination q, both counted from 1 and the first to fail in that order"
+pub data Decision : Type 0 where
+  contained : Decision
+  escapes : ℕ → ℕ → Form → Decision
+
+abbrev pub orEscape : ℕ → Found Form → Decision → Decision
+orEscape s nowhere rest = rest
+orEscape s (found q u) rest = escapes s q u
+
+abbrev pub decideFrom : Vocabulary → Policy → ℕ → Policy → Decision
+decideFrom K Q s [] = contained
+decideFrom K Q s (p ∷ P) = let rest = decideFrom K Q (suc s) P in orEscape s (firstFailure K Q p) rest
+
+unfoldable pub decide : Vocabulary → Policy → Policy → Decision
+decide K P Q = decideFrom K Q 1 P
+
+-- "22: some possible simple policy of the first has over 65,536 combinations, wherever it stands."
+abbrev pub mostCombinations : ℕ
+mostCombinations = 65536
+
+unfoldable pub tooMany : Vocabulary → Policy → Policy → Bool
+tooMany K P Q = any (λ p. possible K p && ltb mostCombinations (combinationCount Q (normalForm K p))) P

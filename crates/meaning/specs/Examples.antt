@@ -1,0 +1,149 @@
+-- Document 01, "The consent desk's examples": the starred ones as one table, from words to answers and printed bytes.
+use Prim.Native.Nat.{_%_, _/_, ℕ}
+use mathlib.Core.List.{List, [], _++_, _∷_, map}
+use mathlib.Core.Path.{_≡_}
+use Rattle.meaning.specs.Answers.{Answer, compliant, equal, firstPossible, nonePossible, outside}
+use Rattle.meaning.specs.Lists.{flatMap}
+use Rattle.meaning.specs.NormalForm.{normalForm}
+use Rattle.meaning.specs.Operations.{compliance, equality, modelCheck, possibility, workSize}
+use Rattle.meaning.specs.Policy.{policyOf}
+use Rattle.meaning.specs.Program.{program}
+use Rattle.meaning.specs.Splitting.{combinationCount}
+use Rattle.meaning.specs.Vocabulary.{vocabularyOf}
+
+-- a record of a vocabulary, of a policy and of a model, in front of the others
+abbrev four : ℕ → ℕ → ℕ → ℕ → List ℕ → List ℕ
+four a b c d rest = a ∷ (b ∷ (c ∷ (d ∷ rest)))
+
+abbrev five : ℕ → ℕ → ℕ → ℕ → ℕ → List ℕ → List ℕ
+five a b c d e rest = a ∷ four b c d e rest
+
+abbrev six : ℕ → ℕ → ℕ → ℕ → ℕ → ℕ → List ℕ → List ℕ
+six a b c d e f rest = a ∷ five b c d e f rest
+
+-- "classes 1 to 4, roles 1 to 3, feature 1; 2 below 1, 4 below 1, 4 below 3; 1 and 3 disjoint; roles 1, 2 and feature 1
+-- functional; role 3 has range 1"
+abbrev pub desk : List ℕ
+desk =
+    four 4 3 1 1
+    (four 1 2 1 2
+    (four 1 4 1 3
+    (four 1 4 3 4
+    (four 2 1 3 5
+    (four 3 1 0 6
+    (four 3 2 0 7
+    (four 4 1 0 8
+    (four 5 3 1 0 []))))))))
+
+-- the same, with a feature that is not functional
+abbrev pub loose : List ℕ
+loose =
+    four 4 3 1 1
+    (four 1 2 1 2
+    (four 1 4 1 3
+    (four 1 4 3 4
+    (four 2 1 3 5
+    (four 3 1 0 6
+    (four 3 2 0 7
+    (four 5 3 1 0 [])))))))
+
+-- "R1.C means role 1 reaching C": role r reaching class c
+abbrev reaching : ℕ → ℕ → List ℕ
+reaching r c = six 1 0 0 0 0 0 (six 5 0 0 0 2 0 (six 3 r 0 0 3 0 (six 1 c 0 0 0 0 [])))
+
+-- role 1 reaching class 1 with role 1 reaching class 3
+abbrev reachingBoth : List ℕ
+reachingBoth =
+    six 1 0 0 0 0 0
+    (six 5 0 0 0 2 0
+    (six 3 1 0 0 3 4
+    (six 1 1 0 0 0 0
+    (six 3 1 0 0 5 0
+    (six 1 3 0 0 0 0 [])))))
+
+abbrev inClass4 : List ℕ
+inClass4 = six 1 0 0 0 0 0 (six 5 0 0 0 2 0 (six 1 4 0 0 0 0 []))
+
+-- R3.all
+abbrev reachingAny : List ℕ
+reachingAny = six 1 0 0 0 0 0 (six 5 0 0 0 2 0 (six 3 3 0 0 0 0 []))
+
+-- lo..hi on feature 1; one or the other; one with the other
+abbrev span : ℕ → ℕ → List ℕ
+span lo hi = six 1 0 0 0 0 0 (six 5 0 0 0 2 0 (six 4 1 lo hi 0 0 []))
+
+abbrev spanOr : ℕ → ℕ → ℕ → ℕ → List ℕ
+spanOr lo hi lo′ hi′ =
+    six 1 0 0 0 0 0 (six 5 0 0 0 2 3 (six 4 1 lo hi 0 0 (six 5 0 0 0 4 0 (six 4 1 lo′ hi′ 0 0 []))))
+
+abbrev spanWith : ℕ → ℕ → ℕ → ℕ → List ℕ
+spanWith lo hi lo′ hi′ = six 1 0 0 0 0 0 (six 5 0 0 0 2 0 (six 4 1 lo hi 0 3 (six 4 1 lo′ hi′ 0 0 [])))
+
+-- "A policy with no simple policy", and "one whose only term is empty"
+abbrev nobody : List ℕ
+nobody = six 0 0 0 0 0 0 []
+
+abbrev everybody : List ℕ
+everybody = six 1 0 0 0 0 0 (six 5 0 0 0 0 0 [])
+
+-- "each policy above"
+abbrev policies : List (List ℕ)
+policies =
+    reaching 1 2
+    ∷ (reaching 1 1
+    ∷ (reachingBoth
+    ∷ (inClass4
+    ∷ (reachingAny
+    ∷ (reaching 3 1
+    ∷ (span 0 9
+    ∷ (spanOr 0 4 5 9
+    ∷ (spanOr 0 4 6 9
+    ∷ (span 1 9
+    ∷ (span 5 12
+    ∷ (spanWith 0 4 6 9
+    ∷ [])))))))))))
+
+-- a question about tables of words, with its answer; the slices are full
+pub data Example : Type 0 where
+  possibleIs : List ℕ → List ℕ → Answer → Example
+  complianceIs : List ℕ → List ℕ → List ℕ → Answer → List ℕ → Example
+  equalityIs : List ℕ → List ℕ → List ℕ → Answer → List ℕ → Example
+  checkIs : List ℕ → List ℕ → List ℕ → List ℕ → Answer → Example
+  combinationsAre : List ℕ → List ℕ → List ℕ → List ℕ → Example
+  prints : List ℕ → List ℕ → Example
+
+abbrev pub Right : Example → Type 0
+Right (possibleIs v p a) = possibility v p workSize ≡ a
+Right (complianceIs v p q a ws) = compliance v p q workSize 16384 ≡ record { answer = a; words = ws }
+Right (equalityIs v p q a ws) = equality v p q workSize 16384 ≡ record { answer = a; words = ws }
+Right (checkIs v p q m a) = modelCheck v p q m workSize ≡ a
+Right (combinationsAre v p q n) = map (λ t. combinationCount (policyOf q) (normalForm (vocabularyOf v) t)) (policyOf p) ≡ n
+Right (prints b text) = program b ≡ text
+
+abbrev complies : List ℕ → List ℕ → Example
+complies p q = complianceIs desk p q compliant []
+
+abbrev bytes : List ℕ → List ℕ
+bytes ws = flatMap (λ w. four (w % 256) (w / 256 % 256) (w / 65536 % 256) (w / 16777216) []) ws
+
+abbrev pub starred : List Example
+starred =
+    complies (reaching 1 2) (reaching 1 1)
+    -- "outside 1 1", "edge 1 1 2", "member 1 2"
+    ∷ (prints (bytes (36 ∷ (desk ++ (24 ∷ (reaching 1 1 ++ (24 ∷ reaching 1 2)))))) (
+    111 ∷ (117 ∷ (116 ∷ (115 ∷ (105 ∷ (100 ∷ (101 ∷ (32 ∷ (49 ∷ (32 ∷ (49 ∷ (10
+    ∷ (101 ∷ (100 ∷ (103 ∷ (101 ∷ (32 ∷ (49 ∷ (32 ∷ (49 ∷ (32 ∷ (50 ∷ (10
+    ∷ (109 ∷ (101 ∷ (109 ∷ (98 ∷ (101 ∷ (114 ∷ (32 ∷ (49 ∷ (32 ∷ (50 ∷ (10
+    ∷ []))))))))))))))))))))))))))))))))))
+    ∷ (possibleIs desk reachingBoth nonePossible
+    ∷ (possibleIs desk inClass4 nonePossible
+    ∷ (complies reachingAny (reaching 3 1)
+    ∷ (equalityIs desk (span 0 9) (spanOr 0 4 5 9) equal []
+    ∷ (combinationsAre desk (span 0 9) (spanOr 0 4 5 9) (6 ∷ [])
+    ∷ (complianceIs desk (span 0 9) (spanOr 0 4 6 9) (outside 1 4 10) (five 1 1 0 0 0 (five 3 1 1 5 0 []))
+    ∷ (combinationsAre desk (span 1 9) (span 5 12) (5 ∷ [])
+    ∷ (complianceIs desk (span 1 9) (span 5 12) (outside 1 1 10) (five 1 1 0 0 0 (five 3 1 1 1 0 []))
+    ∷ (possibleIs desk (spanWith 0 4 6 9) nonePossible
+    ∷ (possibleIs loose (spanWith 0 4 6 9) (firstPossible 1)
+    ∷ (map (λ p. complies nobody p) policies
+    ++ map (λ p. complies p everybody) policies))))))))))))

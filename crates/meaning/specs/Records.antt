@@ -1,0 +1,27 @@
+-- What the three tables of records share: names, links, lengths, and refusals in order.
+use Prim.Native.Nat.{_%_, _-_, _/_, suc, zero, ℕ}
+use mathlib.Core.Bool.{Bool, _&&_, _||_}
+use mathlib.Core.List.{List}
+use lib.Dec.{eqb, leb, ltb}
+use lib.ListN.{length}
+
+-- "Class, role and feature numbers are three separate series, each from 1": x is a name of a series with so many
+abbrev pub named : ℕ → ℕ → Bool
+named count x = leb 1 x && leb x count
+
+-- "Zero ends the chain; any other next is greater than its record's own number and at most the last record."
+abbrev pub linked : ℕ → ℕ → ℕ → Bool
+linked last k next = eqb next 0 || (ltb k next && leb next last)
+
+-- "length not a multiple of .., under .. or over ..": records of so many words, a header among them
+abbrev pub sized : ℕ → ℕ → ℕ → Bool
+sized width most n = eqb (n % width) 0 && (leb width n && leb n most)
+
+-- the number of the last record: the header is record 0
+abbrev pub lastOf : ℕ → List ℕ → ℕ
+lastOf width l = length l / width - 1
+
+-- "the first refusal in document 01's order"; 0 is none
+abbrev pub orElse : ℕ → ℕ → ℕ
+orElse zero later = later
+orElse (suc n) later = suc n

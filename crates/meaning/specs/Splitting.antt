@@ -1,0 +1,88 @@
+-- Document 01, "Splitting": X, the pieces of a constraint, and the combinations of a normal form.
+use Prim.Native.Nat.{_*_, pred, suc, ℕ}
+use mathlib.Core.Bool.{_&&_, cond}
+use mathlib.Core.List.{List, [], _++_, _∷_, map}
+use lib.Dec.{eqb, leb, ltb}
+use lib.ListN.{length}
+use Rattle.meaning.specs.Lists.{filter, flatMap}
+use Rattle.meaning.specs.NormalForm.{Form, Interval, Node, Successors, none, successor}
+use Rattle.meaning.specs.Policy.{Chain, Policy, class, end, impossible, interval, some}
+
+-- the ends of the constraints on f in a chain
+abbrev pub ends : ℕ → Chain → List ℕ
+ends f end = []
+ends f (class a next) = ends f next
+ends f (impossible next) = ends f next
+ends f (some r child next) = ends f child ++ ends f next
+ends f (interval g lo hi next) = cond (eqb f g) (lo ∷ (hi ∷ ends f next)) (ends f next)
+
+-- into a rising list, without repeats
+abbrev pub insert : ℕ → List ℕ → List ℕ
+insert e [] = e ∷ []
+insert e (x ∷ l) = cond (ltb e x) (e ∷ (x ∷ l)) (cond (eqb e x) (x ∷ l) (x ∷ insert e l))
+
+abbrev pub insertAll : List ℕ → List ℕ → List ℕ
+insertAll [] l = l
+insertAll (e ∷ es) l = insertAll es (insert e l)
+
+-- "let X be lo, hi and every end, between them, of a constraint on f anywhere in the second policy as given"
+abbrev pub points : Policy → Interval → List ℕ
+points Q s =
+    insertAll (filter (λ e. leb (s .lo) e && leb e (s .hi)) (flatMap (ends (s .feature)) Q)) (insert (s .hi) (s .lo ∷ []))
+
+abbrev pub only : ℕ → ℕ → Interval
+only f x = record { feature = f; lo = x; hi = x }
+
+-- strictly between x and y, where anything is
+abbrev pub gap : ℕ → ℕ → ℕ → List Interval
+gap f x y = cond (ltb (suc x) y) (record { feature = f; lo = suc x; hi = pred y } ∷ []) []
+
+-- "The pieces are each member of X and each non-empty gap between neighbours in X, rising."
+abbrev pub piecesFrom : ℕ → ℕ → List ℕ → List Interval
+piecesFrom f x [] = only f x ∷ []
+piecesFrom f x (y ∷ l) = only f x ∷ (gap f x y ++ piecesFrom f y l)
+
+abbrev pub piecesAt : ℕ → List ℕ → List Interval
+piecesAt f [] = []
+piecesAt f (x ∷ l) = piecesFrom f x l
+
+abbrev pub pieces : Policy → Interval → List Interval
+pieces Q s = piecesAt (s .feature) (points Q s)
+
+-- "each piece's upper end as value"
+unfoldable pub valueOf : Interval → ℕ
+valueOf s = s .hi
+
+-- "the choices of one piece per constraint, the last varying fastest"
+abbrev pub choices : Policy → List Interval → List (List Interval)
+choices Q [] = [] ∷ []
+choices Q (s ∷ l) = flatMap (λ p. map (λ r. p ∷ r) (choices Q l)) (pieces Q s)
+
+abbrev pub splitNode : Policy → Node → List Node
+splitNode Q n = map (λ r. record { classes = n .classes; intervals = r }) (choices Q (n .intervals))
+
+abbrev pub splitSuccessors : Policy → Successors → List Successors
+splitSuccessors Q none = none ∷ []
+splitSuccessors Q (successor r n under next) =
+    flatMap (λ m. flatMap (λ bs. map (λ ns. successor r m bs ns) (splitSuccessors Q next)) (splitSuccessors Q under)) (splitNode Q n)
+
+-- "A simple policy's combinations": a combination is again a form, with pieces for constraints
+unfoldable pub combinations : Policy → Form → List Form
+combinations Q t =
+    flatMap (λ n. map (λ ns. record { node = n; successors = ns }) (splitSuccessors Q (t .successors))) (splitNode Q (t .node))
+
+-- "Constraints go by individual, then by place in the walk."
+abbrev pub intervalsOf : Successors → List Interval
+intervalsOf none = []
+intervalsOf (successor r n under next) = n .intervals ++ (intervalsOf under ++ intervalsOf next)
+
+abbrev pub constraints : Form → List Interval
+constraints t = t .node .intervals ++ intervalsOf (t .successors)
+
+-- how many combinations there are: the product of the constraints' numbers of pieces
+abbrev pub product : Policy → List Interval → ℕ
+product Q [] = 1
+product Q (s ∷ l) = length (pieces Q s) * product Q l
+
+unfoldable pub combinationCount : Policy → Form → ℕ
+combinationCount Q t = product Q (constraints t)
