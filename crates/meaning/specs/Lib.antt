@@ -12,5 +12,6 @@ pub mod Containment
 pub mod ModelCheck
 pub mod Answers
 pub mod Operations
+pub mod Reached
 pub mod Program
 pub mod Examples

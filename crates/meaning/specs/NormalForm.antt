@@ -3,7 +3,8 @@ use Prim.Native.Nat.{max, min, ℕ}
 use mathlib.Core.Bool.{Bool, _&&_, _||_, cond, false, not, true}
 use mathlib.Core.List.{List, [], _∷_}
 use lib.Dec.{eqb, leb}
-use Rattle.meaning.specs.Lists.{all, any}
+use Rattle.meaning.specs.Interpretation.{Interpretation, Within}
+use Rattle.meaning.specs.Lists.{All, all, any}
 use Rattle.meaning.specs.Policy.{Chain, class, end, impossible, interval, some}
 use Rattle.meaning.specs.Vocabulary.{Axiom, Vocabulary, below, disjoint, functionalFeature, functionalRole, range}
 
@@ -153,3 +154,20 @@ cleanSuccessors K (successor r n under next) = cleanNode K n && (cleanSuccessors
 unfoldable pub possible : Vocabulary → Chain → Bool
 possible K p =
     not (blocked p) && (cleanNode K (normalForm K p .node) && cleanSuccessors K (normalForm K p .successors))
+
+-- what a normal form says of an individual: its classes, a value for each constraint, a value of each role
+abbrev pub Has : Interpretation → ℕ → Interval → Type 0
+Has I d s = (v : ℕ) × I .hasValue (s .feature) d v × Within (s .lo) (s .hi) v
+
+pub record HoldsNode (I : Interpretation) (n : Node) (d : ℕ) : Type 0 where
+  pub classes : All (λ c. I .inClass c d) (n .classes)
+  pub intervals : All (Has I d) (n .intervals)
+
+abbrev pub HoldsSuccessors : Interpretation → Successors → ℕ → Type 0
+HoldsSuccessors I none d = Unit {0}
+HoldsSuccessors I (successor r n under next) d =
+    ((e : ℕ) × I .byRole r d e × HoldsNode I n e × HoldsSuccessors I under e) × HoldsSuccessors I next d
+
+pub record HoldsForm (I : Interpretation) (t : Form) (d : ℕ) : Type 0 where
+  pub node : HoldsNode I (t .node) d
+  pub successors : HoldsSuccessors I (t .successors) d

@@ -1,0 +1,157 @@
+-- The main theorem: the decision is "contained" exactly where the first policy is contained in the second; else it names the
+-- first simple policy and its first combination that fail, and the canonical model of that combination refutes the containment.
+use Prim.Native.Nat.{_+_, suc, ℕ}
+use mathlib.Core.Bool.{Bool, cond, false, not, true}
+use mathlib.Core.List.{[], _++_, _∷_}
+use mathlib.Core.Path.{_≡_, ap, refl, subst}
+use lib.Dec.{T, T-not}
+use lib.ListN.{length}
+use native.Mathlib.Omega.{arith}
+use Rattle.meaning.proofs.Canonical.{formed, model-proper, satisfied}
+use Rattle.meaning.proofs.First.{First, Searched, first, never, searched}
+use Rattle.meaning.proofs.Neat.{BoundedChain, normal-neat}
+use Rattle.meaning.proofs.Picks.{PickedForm, Ready, combinations-picked, ready-picked}
+use Rattle.meaning.proofs.Pieces.{combinations-held}
+use Rattle.meaning.proofs.Rewriting.{holds-possible, normal-in, normal-out}
+use Rattle.meaning.proofs.Rules.{T-and, all-any, all-at, all-of, any-at, any-in, any-mono, any-out, at-any, isTrue, notTrue}
+use Rattle.meaning.proofs.Stated.{Bounded}
+use Rattle.meaning.proofs.Subsumption.{subsumed-complete, subsumed-sound}
+use Rattle.meaning.specs.Containment.{Contained, ContainedFinite, Decision, Refutes, contained, decide, decideFrom, escapes, firstFailure, orEscape, passes}
+use Rattle.meaning.specs.Countermodel.{canonicalModel, individuals, stands}
+use Rattle.meaning.specs.Interpretation.{Holds, In, Interpretation, Proper, Satisfies}
+use Rattle.meaning.specs.Lists.{All, Found, _∈_, cons, firstFailing, found, nil, nowhere}
+use Rattle.meaning.specs.NormalForm.{Form, HoldsForm, blocked, cleanNode, normalForm, possible}
+use Rattle.meaning.specs.Policy.{Chain, Policy}
+use Rattle.meaning.specs.Splitting.{combinations}
+use Rattle.meaning.specs.Subsumption.{subsumed}
+use Rattle.meaning.specs.Vocabulary.{Vocabulary}
+
+-- a term complies: each of its combinations passes, where it is possible
+abbrev pub Complies : Vocabulary → Policy → Chain → Type 0
+Complies K Q p = T (possible K p) → All (λ u. T (passes K Q u)) (combinations Q (normalForm K p))
+
+passes-sound : (I : Interpretation) (K : Vocabulary) → Satisfies I K → (Q : Policy) (u : Form) (d : ℕ) → T (passes K Q u) → HoldsForm I u d → In I Q d
+unfolding passes
+passes-sound I K s Q u d t h =
+    any-mono (λ q v. subsumed-sound I K s q (u .node) (u .successors) d v (h .node) (h .successors)) (any-out (λ q. subsumed K q (u .node) (u .successors)) Q t)
+
+pub sound : (K : Vocabulary) (P Q : Policy) → All (Complies K Q) P → Contained K P Q
+sound K P Q c I proper s d i h =
+    let a = all-any c h in
+    let u = all-any (a .1 (holds-possible I K s (a .0) d (a .2))) (combinations-held I Q d (normalForm K (a .0)) (normal-in I K s (a .0) d (a .2))) in
+    passes-sound I K s Q (u .0) d (u .1) (u .2)
+
+module _ (N : ℕ) (K : Vocabulary) (w : Bounded N K) where
+  normal-ready : (p : Chain) → BoundedChain N p → T (possible K p) → Ready N K (normalForm K p)
+  unfolding possible
+  normal-ready p f t =
+      let a = T-and (not (blocked p)) _ t in
+      let b = T-and (cleanNode K (normalForm K p .node)) _ (a .1) in
+      record { neat = normal-neat N K w p f; clean = b .0; clean-successors = b .1 }
+
+  -- Lemma 1 for a combination of a possible term
+  pub record Witness (Q : Policy) (p : Chain) (u : Form) : Type 0 where
+    pub ready : Ready N K u
+    pub picked : PickedForm Q (normalForm K p) u
+    pub proper : Proper (stands (individuals u) (canonicalModel N K u))
+    pub satisfies : Satisfies (stands (individuals u) (canonicalModel N K u)) K
+    pub holds : Holds (stands (individuals u) (canonicalModel N K u)) p 1
+
+  pub witness : (Q : Policy) (p : Chain) → BoundedChain N p → T (possible K p) → (u : Form) → u ∈ combinations Q (normalForm K p) → Witness Q p u
+  witness Q p f t u m =
+      let r = normal-ready p f t in
+      let k = all-at (combinations-picked K Q (normalForm K p) (r .clean) (r .clean-successors)) m in
+      let v = ready-picked N K (normalForm K p) u k r in
+      record {
+        ready = v;
+        picked = k;
+        proper = model-proper N K u;
+        satisfies = satisfied N K w u v;
+        holds = normal-out (stands (individuals u) (canonicalModel N K u)) K p 1 t (formed N K w u v (normalForm K p) k);
+      }
+
+  -- a combination passes where its canonical model has individual 1 in the second policy
+  model-passes : (Q : Policy) (p : Chain) (u : Form) → Witness Q p u → In (stands (individuals u) (canonicalModel N K u)) Q 1 → T (passes K Q u)
+  unfolding passes
+  model-passes Q p u v h =
+      let a = any-at h in
+      any-in (λ q. subsumed K q (u .node) (u .successors)) (at-any (a .1) (subsumed-complete N K Q (normalForm K p) u (v .ready) (v .picked) (a .0) (a .1) (a .2)))
+
+  -- containment in the finite interpretations is enough
+  pub complete : (P Q : Policy) → All (BoundedChain N) P → ContainedFinite K P Q → All (Complies K Q) P
+  complete P Q f c =
+      all-of P (λ p m t. all-of (combinations Q (normalForm K p)) (λ u k.
+      let v = witness Q p (all-at f m) t u k in
+      model-passes Q p u v (c (individuals u) (canonicalModel N K u) (v .proper) (v .satisfies) 1 (omega arith, omega arith) (at-any m (v .holds)))))
+
+  -- a combination that fails refutes the containment
+  pub refuted : (P Q : Policy) → All (BoundedChain N) P → (p : Chain) → p ∈ P → T (possible K p) → (u : Form) → u ∈ combinations Q (normalForm K p) →
+      T (not (passes K Q u)) → Refutes K P Q (individuals u) (canonicalModel N K u)
+  refuted P Q f p m t u k b =
+      let v = witness Q p (all-at f m) t u k in
+      record {
+        proper = v .proper;
+        satisfies = v .satisfies;
+        within = at-any m (v .holds);
+        without = λ h. T-not (passes K Q u) b (model-passes Q p u v h);
+      }
+
+-- simple policy p of P at the place s, and its combination u at the place q, are the first to fail
+pub record FirstFailure (K : Vocabulary) (P Q : Policy) (s q : ℕ) (u : Form) : Type 0 where
+  pub before : Policy
+  pub term : Chain
+  pub after : Policy
+  pub split : P ≡ before ++ (term ∷ after)
+  pub place : s ≡ length before
+  pub complied : All (Complies K Q) before
+  pub isPossible : T (possible K term)
+  pub combination : First (passes K Q) (combinations Q (normalForm K term)) q u
+
+pub data Decided (K : Vocabulary) (s : ℕ) (P Q : Policy) : Decision → Type 0 where
+  complies : All (Complies K Q) P → Decided K s P Q contained
+  fails : {i q : ℕ} {u : Form} → FirstFailure K P Q i q u → Decided K s P Q (escapes (s + i) (suc q) u)
+
+data Judged (K : Vocabulary) (Q : Policy) (p : Chain) : Found Form → Type 0 where
+  passing : Complies K Q p → Judged K Q p nowhere
+  failing : {q : ℕ} {u : Form} → T (possible K p) → First (passes K Q) (combinations Q (normalForm K p)) q u → Judged K Q p (found (suc q) u)
+
+judged : (K : Vocabulary) (Q : Policy) (p : Chain) → Judged K Q p (firstFailure K Q p)
+unfolding firstFailure
+judged K Q p = go (possible K p) refl
+  where
+    tried : T (possible K p) → (r : Found Form) → Searched (passes K Q) 1 (combinations Q (normalForm K p)) r → Judged K Q p r
+    tried t r (never h) = passing (λ u. h)
+    tried t r (first {k = k} {x = u} h) = subst (λ (n : ℕ). Judged K Q p (found n u)) (omega arith) (failing t h)
+
+    go : (b : Bool) → possible K p ≡ b → Judged K Q p (cond b (firstFailing (passes K Q) 1 (combinations Q (normalForm K p))) nowhere)
+    go true e = tried (isTrue e) _ (searched (passes K Q) 1 (combinations Q (normalForm K p)))
+    go false e = passing (λ t. absurd (notTrue e t))
+
+decided-from : (K : Vocabulary) (Q : Policy) (s : ℕ) (P : Policy) → Decided K s P Q (decideFrom K Q s P)
+decided-from K Q s [] = complies nil
+decided-from K Q s (p ∷ P) = go (firstFailure K Q p) (judged K Q p) (decided-from K Q (suc s) P)
+  where
+    pass : Complies K Q p → (r : Decision) → Decided K (suc s) P Q r → Decided K s (p ∷ P) Q r
+    pass c r (complies h) = complies (cons c h)
+    pass c r (fails {i = i} {q = q} {u = u} h) =
+        subst (λ (n : ℕ). Decided K s (p ∷ P) Q (escapes n (suc q) u)) (omega arith) (fails {i = suc i} (record {
+          before = p ∷ h .before;
+          term = h .term;
+          after = h .after;
+          split = ap (λ (z : Policy). p ∷ z) (h .split);
+          place = ap suc (h .place);
+          complied = cons c (h .complied);
+          isPossible = h .isPossible;
+          combination = h .combination;
+        }))
+
+    go : (r : Found Form) → Judged K Q p r → Decided K (suc s) P Q (decideFrom K Q (suc s) P) → Decided K s (p ∷ P) Q (orEscape s r (decideFrom K Q (suc s) P))
+    go r (passing c) h = pass c (decideFrom K Q (suc s) P) h
+    go r (failing {q = q} {u = u} t c) h =
+        subst (λ (n : ℕ). Decided K s (p ∷ P) Q (escapes n (suc q) u)) (omega arith)
+        (fails {i = 0} (record { before = []; term = p; after = P; split = refl; place = refl; complied = nil; isPossible = t; combination = c }))
+
+-- the reported s and q are the first to fail, counted from 1
+pub decided : (K : Vocabulary) (P Q : Policy) → Decided K 1 P Q (decide K P Q)
+unfolding decide
+decided K P Q = decided-from K Q 1 P
