@@ -1,5 +1,6 @@
 -- The theorems about the definitions.
 pub mod Rules
+pub mod Links
 pub mod Stated
 pub mod Closure
 pub mod Rewriting
@@ -13,5 +14,15 @@ pub mod Canonical
 pub mod Subsumption
 pub mod First
 pub mod Containment
+pub mod Interpretations
+pub mod ModelCheck
+pub mod ModelWords
+pub mod Terms
+pub mod Accepted
+pub mod Bounds
+pub mod Refusals
+pub mod Compliance
+pub mod Equality
+pub mod Checking
 pub mod Unreached
 pub mod Table

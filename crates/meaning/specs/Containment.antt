@@ -2,6 +2,7 @@
 use Prim.Native.Nat.{_≤_, suc, ℕ}
 use mathlib.Core.Bool.{Bool, _&&_, cond}
 use mathlib.Core.List.{List, [], _∷_}
+use mathlib.Core.Logic.{_↔_}
 use lib.Dec.{T, ltb}
 use Rattle.meaning.specs.Countermodel.{Fact, stands}
 use Rattle.meaning.specs.Interpretation.{In, Interpretation, Proper, Satisfies, Tested, interpreted}
@@ -26,6 +27,15 @@ abbrev pub ContainedFinite : Vocabulary → Policy → Policy → Type 0
 ContainedFinite K P Q =
     (n : ℕ) (F : List Fact) → Proper (stands n F) → Satisfies (stands n F) K →
     (d : ℕ) → (1 ≤ d) × (d ≤ n) → In (stands n F) P d → In (stands n F) Q d
+
+-- demand 3: "no interpretation, finite or countable, tells the two policies apart"
+abbrev pub Indistinct : Vocabulary → Policy → Policy → Type 1
+Indistinct K P Q = (I : Interpretation) → Proper I → Satisfies I K → (d : ℕ) → I .individual d → In I P d ↔ In I Q d
+
+abbrev pub IndistinctTested : Vocabulary → Policy → Policy → Type 0
+IndistinctTested K P Q =
+    (M : Tested) → Proper (interpreted M) → Satisfies (interpreted M) K →
+    (d : ℕ) → T (M .individual d) → In (interpreted M) P d ↔ In (interpreted M) Q d
 
 -- the facts stand for a finite interpretation that satisfies K, with individual 1 in the first policy and outside the second
 pub record Refutes (K : Vocabulary) (P Q : Policy) (n : ℕ) (F : List Fact) : Type 0 where

@@ -1,11 +1,11 @@
 -- Document 01, "The consent desk's examples": the starred ones as one table, from words to answers and printed bytes.
-use Prim.Native.Nat.{_%_, _/_, ℕ}
+use Prim.Native.Nat.{_%_, _/_, suc, zero, ℕ}
 use mathlib.Core.List.{List, [], _++_, _∷_, map}
 use mathlib.Core.Path.{_≡_}
-use Rattle.meaning.specs.Answers.{Answer, compliant, equal, firstPossible, nonePossible, outside}
+use Rattle.meaning.specs.Answers.{Answer, accepted, answeredNo, answeredYes, compliant, differs, equal, firstPossible, nonePossible, outside, refused}
 use Rattle.meaning.specs.Lists.{flatMap}
 use Rattle.meaning.specs.NormalForm.{normalForm}
-use Rattle.meaning.specs.Operations.{compliance, equality, modelCheck, possibility, workSize}
+use Rattle.meaning.specs.Operations.{compliance, equality, modelCheck, possibility, readPolicy, readSecondPolicy, readVocabulary, workSize}
 use Rattle.meaning.specs.Policy.{policyOf}
 use Rattle.meaning.specs.Program.{program}
 use Rattle.meaning.specs.Splitting.{combinationCount}
@@ -105,6 +105,9 @@ policies =
 
 -- a question about tables of words, with its answer; the slices are full
 pub data Example : Type 0 where
+  vocabularyIs : List ℕ → Answer → Example
+  policyIs : List ℕ → List ℕ → Answer → Example
+  secondIs : List ℕ → List ℕ → Answer → Example
   possibleIs : List ℕ → List ℕ → Answer → Example
   complianceIs : List ℕ → List ℕ → List ℕ → Answer → List ℕ → Example
   equalityIs : List ℕ → List ℕ → List ℕ → Answer → List ℕ → Example
@@ -113,6 +116,9 @@ pub data Example : Type 0 where
   prints : List ℕ → List ℕ → Example
 
 abbrev pub Right : Example → Type 0
+Right (vocabularyIs v a) = readVocabulary v ≡ a
+Right (policyIs v p a) = readPolicy v p ≡ a
+Right (secondIs v q a) = readSecondPolicy v q ≡ a
 Right (possibleIs v p a) = possibility v p workSize ≡ a
 Right (complianceIs v p q a ws) = compliance v p q workSize 16384 ≡ record { answer = a; words = ws }
 Right (equalityIs v p q a ws) = equality v p q workSize 16384 ≡ record { answer = a; words = ws }
@@ -147,3 +153,78 @@ starred =
     ∷ (possibleIs loose (spanWith 0 4 6 9) (firstPossible 1)
     ∷ (map (λ p. complies nobody p) policies
     ++ map (λ p. complies p everybody) policies))))))))))))
+
+-- further examples, which tell the listed misreadings and others apart
+
+-- class 3 below 2, 2 below 1: closed in two steps
+abbrev chained : List ℕ
+chained = four 3 0 0 1 (four 1 3 2 2 (four 1 2 1 0 []))
+
+abbrev inClass : ℕ → List ℕ
+inClass c = six 1 0 0 0 0 0 (six 5 0 0 0 2 0 (six 1 c 0 0 0 0 []))
+
+-- role 3 reaching one whom role 3 makes reach class c, or anybody
+abbrev reachingTwice : List ℕ
+reachingTwice = six 1 0 0 0 0 0 (six 5 0 0 0 2 0 (six 3 3 0 0 3 0 (six 3 3 0 0 0 0 [])))
+
+abbrev reachingTwiceIn : ℕ → List ℕ
+reachingTwiceIn c = six 1 0 0 0 0 0 (six 5 0 0 0 2 0 (six 3 3 0 0 3 0 (six 3 3 0 0 4 0 (six 1 c 0 0 0 0 []))))
+
+-- role r reaching lo..hi; and with the same role reaching lo′..hi′
+abbrev reachingSpan : ℕ → ℕ → ℕ → List ℕ
+reachingSpan r lo hi = six 1 0 0 0 0 0 (six 5 0 0 0 2 0 (six 3 r 0 0 3 0 (six 4 1 lo hi 0 0 [])))
+
+abbrev reachingSpanOr : ℕ → ℕ → ℕ → ℕ → ℕ → List ℕ
+reachingSpanOr r lo hi lo′ hi′ =
+    six 1 0 0 0 0 0
+    (six 5 0 0 0 2 4
+    (six 3 r 0 0 3 0
+    (six 4 1 lo hi 0 0
+    (six 5 0 0 0 5 0
+    (six 3 r 0 0 6 0
+    (six 4 1 lo′ hi′ 0 0 []))))))
+
+abbrev reachingSpans : ℕ → ℕ → ℕ → ℕ → ℕ → List ℕ
+reachingSpans r lo hi lo′ hi′ =
+    six 1 0 0 0 0 0
+    (six 5 0 0 0 2 0
+    (six 3 r 0 0 3 4
+    (six 4 1 lo hi 0 0
+    (six 3 r 0 0 5 0
+    (six 4 1 lo′ hi′ 0 0 [])))))
+
+-- role 1 nested so deep: records k to k + n - 1, each the child of the one before
+abbrev nestedFrom : ℕ → ℕ → List ℕ
+nestedFrom zero k = []
+nestedFrom (suc zero) k = six 3 1 0 0 0 0 []
+nestedFrom (suc (suc n)) k = six 3 1 0 0 (suc k) 0 (nestedFrom (suc n) (suc k))
+
+abbrev nested : ℕ → List ℕ
+nested n = six 1 0 0 0 0 0 (six 5 0 0 0 2 0 (nestedFrom n 2))
+
+-- a conjunct that the header's chain reaches again: reached before (7) is found before a kind out of place (6)
+abbrev reachedAgain : List ℕ
+reachedAgain = six 1 0 0 0 0 0 (six 5 0 0 0 2 2 (six 1 1 0 0 0 0 []))
+
+abbrev pub further : List Example
+further =
+    vocabularyIs desk accepted
+    ∷ (policyIs desk (nested 16) accepted
+    ∷ (policyIs desk (nested 17) (refused 8)
+    ∷ (policyIs desk reachedAgain (refused 7)
+    ∷ (secondIs desk reachedAgain (refused 17)
+    ∷ (complianceIs chained (inClass 3) (inClass 1) compliant []
+    ∷ (complies reachingTwice (reachingTwiceIn 1)
+    ∷ (complies (reachingSpan 1 0 9) (reachingSpanOr 1 0 4 5 9)
+    ∷ (possibleIs desk (reachingSpans 1 0 4 6 9) nonePossible
+    ∷ (possibleIs desk (reachingSpans 3 0 4 6 9) (firstPossible 1)
+    -- a gap's upper end is its value
+    ∷ (complianceIs desk (span 0 9) (spanOr 0 4 7 9) (outside 1 4 10) (five 1 1 0 0 0 (five 3 1 1 6 0 []))
+    -- two values of a feature that is not functional, the last varying fastest
+    ∷ (complianceIs loose (spanWith 0 1 5 6) (span 5 5) (outside 1 2 15) (five 1 1 0 0 0 (five 3 1 1 0 2 (five 3 1 1 6 0 [])))
+    ∷ (equalityIs desk (span 0 9) (span 0 4) (differs 1 1 4 10) (five 1 1 0 0 0 (five 3 1 1 8 0 []))
+    ∷ (equalityIs desk (span 0 4) (span 0 9) (differs 2 1 4 10) (five 1 1 0 0 0 (five 3 1 1 8 0 []))
+    ∷ (checkIs desk (span 0 9) (span 0 4) (five 1 1 0 0 0 (five 3 1 1 8 0 [])) answeredYes
+    ∷ (checkIs desk (span 0 4) (span 0 9) (five 1 1 0 0 0 (five 3 1 1 8 0 [])) answeredNo
+    ∷ (checkIs desk (span 0 9) (span 0 4) (five 1 1 0 0 0 (five 3 1 1 8 2 (five 3 1 1 7 0 []))) answeredNo
+    ∷ []))))))))))))))))

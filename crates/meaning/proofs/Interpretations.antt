@@ -1,0 +1,110 @@
+-- Containment over all interpretations, over those given by tests and over finite ones is one and the same.
+use Prim.Native.Nat.{ℕ}
+use mathlib.Core.Bool.{_&&_}
+use mathlib.Core.List.{List}
+use mathlib.Core.Logic.{_↔_}
+use mathlib.Core.Path.{_≡_, subst, sym}
+use lib.Dec.{eqb, eqb-refl, eqb→eq, leb, leb→le, le→leb}
+use native.Mathlib.Omega.{arith}
+use Rattle.meaning.proofs.Containment.{Complies, complete, sound}
+use Rattle.meaning.proofs.ModelCheck.{edge-is, is-edge, is-member, is-value, member-is, value-is}
+use Rattle.meaning.proofs.Neat.{BoundedChain}
+use Rattle.meaning.proofs.Rules.{T-and, all-mono, and-T, any-in, any-mono, any-out}
+use Rattle.meaning.proofs.Stated.{Bounded}
+use Rattle.meaning.specs.Containment.{Contained, ContainedFinite, ContainedTested}
+use Rattle.meaning.specs.Countermodel.{Fact, edge, stands, value}
+use Rattle.meaning.specs.Interpretation.{Holds, In, Interpretation, Obeys, Proper, Satisfies, Tested, interpreted}
+use Rattle.meaning.specs.Lists.{All, any}
+use Rattle.meaning.specs.ModelCheck.{hasWithin, isMember, reaches}
+use Rattle.meaning.specs.Policy.{Chain, Policy, class, end, impossible, interval, some}
+use Rattle.meaning.specs.Vocabulary.{Axiom, Vocabulary, below, disjoint, functionalFeature, functionalRole, range}
+
+-- one interpretation says what another says
+pub record Agree (I J : Interpretation) : Type 0 where
+  pub individuals : (i : ℕ) → I .individual i ↔ J .individual i
+  pub classes : (a i : ℕ) → I .inClass a i ↔ J .inClass a i
+  pub roles : (r i j : ℕ) → I .byRole r i j ↔ J .byRole r i j
+  pub values : (f i v : ℕ) → I .hasValue f i v ↔ J .hasValue f i v
+
+module _ (I J : Interpretation) (g : Agree I J) where
+  pub agree-back : Agree J I
+  agree-back = record {
+    individuals = λ i. (g .individuals i .1, g .individuals i .0);
+    classes = λ a i. (g .classes a i .1, g .classes a i .0);
+    roles = λ r i j. (g .roles r i j .1, g .roles r i j .0);
+    values = λ f i v. (g .values f i v .1, g .values f i v .0);
+  }
+
+  pub agree-holds : (q : Chain) (d : ℕ) → Holds I q d → Holds J q d
+  agree-holds end d h = tt
+  agree-holds (class c next) d h = (g .classes c d .0 (h .0), agree-holds next d (h .1))
+  agree-holds (impossible next) d h = h
+  agree-holds (some r child next) d h = let v = h .0 in ((v .0, g .roles r d (v .0) .0 (v .1), agree-holds child (v .0) (v .2)), agree-holds next d (h .1))
+  agree-holds (interval f lo hi next) d h = let v = h .0 in ((v .0, g .values f d (v .0) .0 (v .1), v .2), agree-holds next d (h .1))
+
+  pub agree-in : (P : Policy) (d : ℕ) → In I P d → In J P d
+  agree-in P d h = any-mono (λ p k. agree-holds p d k) h
+
+  pub agree-obeys : (x : Axiom) → Obeys I x → Obeys J x
+  agree-obeys (below a b) o = λ i p. g .classes b i .0 (o i (g .classes a i .1 p))
+  agree-obeys (disjoint a b) o = λ i p q. o i (g .classes a i .1 p) (g .classes b i .1 q)
+  agree-obeys (functionalRole r) o = λ i j k p q. o i j k (g .roles r i j .1 p) (g .roles r i k .1 q)
+  agree-obeys (functionalFeature f) o = λ i v w p q. o i v w (g .values f i v .1 p) (g .values f i w .1 q)
+  agree-obeys (range r c) o = λ i j p. g .classes c j .0 (o i j (g .roles r i j .1 p))
+
+  pub agree-satisfies : (K : Vocabulary) → Satisfies I K → Satisfies J K
+  agree-satisfies K s = all-mono agree-obeys s
+
+  pub agree-proper : Proper I → Proper J
+  agree-proper p = record {
+    inhabited = (p .inhabited .0, g .individuals (p .inhabited .0) .0 (p .inhabited .1));
+    classes = λ a i m. g .individuals i .0 (p .classes a i (g .classes a i .1 m));
+    sources = λ r i j m. g .individuals i .0 (p .sources r i j (g .roles r i j .1 m));
+    targets = λ r i j m. g .individuals j .0 (p .targets r i j (g .roles r i j .1 m));
+    holders = λ f i v m. g .individuals i .0 (p .holders f i v (g .values f i v .1 m));
+  }
+
+-- the tests of a list of facts
+abbrev pub tests : ℕ → List Fact → Tested
+tests n F = record {
+  individual = λ i. leb 1 i && leb i n;
+  inClass = λ a i. any (isMember a i) F;
+  byRole = λ r i j. any (reaches r i (eqb j)) F;
+  hasValue = λ f i v. any (hasWithin f i v v) F;
+}
+
+tests-agree : (n : ℕ) (F : List Fact) → Agree (stands n F) (interpreted (tests n F))
+tests-agree n F = record {
+  individuals = λ i. (λ h. and-T (leb 1 i) (leb i n) (le→leb 1 i (h .0)) (le→leb i n (h .1)), λ t. let u = T-and (leb 1 i) (leb i n) t in (leb→le 1 i (u .0), leb→le i n (u .1)));
+  classes = λ a i. (λ h. any-in (isMember a i) (any-mono (λ x e. is-member a i x e) h), λ t. any-mono (λ x u. member-is a i x u) (any-out (isMember a i) F t));
+  roles = λ r i j. (
+    λ h. any-in (reaches r i (eqb j)) (any-mono (λ x e. is-edge r i (eqb j) j (eqb-refl j) x e) h),
+    λ t. any-mono (λ x u. let v = edge-is r i (eqb j) x u in subst (λ (z : ℕ). edge r i z ≡ x) (sym (eqb→eq j (v .0) (v .2))) (v .1)) (any-out (reaches r i (eqb j)) F t),
+  );
+  values = λ f i v. (
+    λ h. any-in (hasWithin f i v v) (any-mono (λ x e. is-value f i v v v (omega arith) (omega arith) x e) h),
+    λ t. any-mono (λ x u. let w = value-is f i v v x u in subst (λ (z : ℕ). value f i z ≡ x) (let b = w .2 in omega arith) (w .1)) (any-out (hasWithin f i v v) F t),
+  );
+}
+
+pub tested-finite : (K : Vocabulary) (P Q : Policy) → ContainedTested K P Q → ContainedFinite K P Q
+tested-finite K P Q c n F p s d i h =
+    let I = stands n F in
+    let J = interpreted (tests n F) in
+    let g = tests-agree n F in
+    agree-in J I (agree-back I J g) Q d (c (tests n F) (agree-proper I J g p) (agree-satisfies I J g K s) d (g .individuals d .0 i) (agree-in I J g P d h))
+
+-- all of them, those given by tests, finite ones, and the combinations
+pub record OneContainment (K : Vocabulary) (P Q : Policy) : Type 1 where
+  pub tested : Contained K P Q → ContainedTested K P Q
+  pub finite : ContainedTested K P Q → ContainedFinite K P Q
+  pub passes : ContainedFinite K P Q → All (Complies K Q) P
+  pub contained : All (Complies K Q) P → Contained K P Q
+
+pub one-containment : (N : ℕ) (K : Vocabulary) → Bounded N K → (P Q : Policy) → All (BoundedChain N) P → OneContainment K P Q
+one-containment N K w P Q f = record {
+  tested = λ c M. c (interpreted M);
+  finite = tested-finite K P Q;
+  passes = complete N K w P Q f;
+  contained = sound K P Q;
+}
