@@ -2,7 +2,7 @@
 use Prim.Native.Nat.{ℕ}
 use mathlib.Core.List.{List}
 use mathlib.Core.Path.{_≡_}
-use Rattle.meaning.proofs.Accepted.{accepted-axioms, accepted-terms}
+use Rattle.meaning.proofs.Wellformed.{accepted-axioms, accepted-terms}
 use Rattle.meaning.proofs.Neat.{BoundedChain}
 use Rattle.meaning.proofs.Points.{above}
 use Rattle.meaning.proofs.Rules.{all-at, all-mono}

@@ -1,4 +1,6 @@
--- The theorems about the definitions.
+-- The theorems about the definitions. Modules are checked in the order of their names: where an edit of a definition makes an
+-- example wrong, that is the first error.
+pub mod Answered
 pub mod Rules
 pub mod Links
 pub mod Stated
@@ -18,11 +20,10 @@ pub mod Interpretations
 pub mod ModelCheck
 pub mod ModelWords
 pub mod Terms
-pub mod Accepted
+pub mod Wellformed
 pub mod Bounds
 pub mod Refusals
 pub mod Compliance
 pub mod Equality
 pub mod Checking
 pub mod Unreached
-pub mod Table

@@ -260,4 +260,4 @@ module _ (Q : Policy) (s : Interval) where
 -- the value of a piece lies in it
 pub value-inside : (p : Interval) → p .lo ≤ p .hi → Within (p .lo) (p .hi) (valueOf p)
 unfolding valueOf
-value-inside p a = (a, omega arith)
+value-inside p a = (omega arith, omega arith)

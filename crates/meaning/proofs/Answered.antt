@@ -13,7 +13,11 @@ use Rattle.meaning.specs.Program.{decimal, printed, program}
 use Rattle.meaning.specs.Splitting.{combinationCount, combinations, valueOf}
 use Rattle.meaning.specs.Vocabulary.{vocabularyOf, vocabularyRefusal}
 
-pub table : All Right (starred ++ further)
+pub answered : All Right (starred ++ further)
 unfolding vocabularyRefusal vocabularyOf policyRefusal walk policyOf single singleFeature normalForm possible valueOf combinations combinationCount passes firstFailure decide tooMany canonicalModel modelWords countermodel modelRefusal factsOf refutes inputRefusal readVocabulary readPolicy readSecondPolicy possibility complianceOf compliance equalityOf equality modelCheck decimal printed program
-table =
-    cons refl (cons refl (cons refl (cons refl (cons refl (cons refl (cons refl (cons refl (cons refl (cons refl (cons refl (cons refl (cons refl (cons refl (cons refl (cons refl (cons refl (cons refl (cons refl (cons refl (cons refl (cons refl (cons refl (cons refl (cons refl (cons refl (cons refl (cons refl (cons refl (cons refl (cons refl (cons refl (cons refl (cons refl (cons refl (cons refl (cons refl (cons refl (cons refl (cons refl (cons refl (cons refl (cons refl (cons refl (cons refl (cons refl (cons refl (cons refl (cons refl (cons refl (cons refl (cons refl (cons refl nil))))))))))))))))))))))))))))))))))))))))))))))))))))
+answered =
+    cons refl (cons refl (cons refl (cons refl (cons refl (cons refl (cons refl (cons refl (cons refl (cons refl (cons refl (cons refl
+    (cons refl (cons refl (cons refl (cons refl (cons refl (cons refl (cons refl (cons refl (cons refl (cons refl (cons refl (cons refl
+    (cons refl (cons refl (cons refl (cons refl (cons refl (cons refl (cons refl (cons refl (cons refl (cons refl (cons refl (cons refl
+    (cons refl (cons refl (cons refl (cons refl (cons refl (cons refl (cons refl (cons refl (cons refl (cons refl (cons refl (cons refl
+    (cons refl (cons refl (cons refl (cons refl (cons refl nil))))))))))))))))))))))))))))))))))))))))))))))))))))
