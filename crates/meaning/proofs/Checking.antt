@@ -1,23 +1,27 @@
 -- Demand 2 for the definition of Model check, from words to answers.
-use Prim.Native.Nat.{ℕ}
-use mathlib.Core.Bool.{Bool, cond, false, true}
+use Prim.Native.Nat.{suc, zero, ℕ}
+use mathlib.Core.Bool.{Bool, So, cond, false, true}
 use mathlib.Core.List.{List}
 use mathlib.Core.Logic.{_↔_}
 use mathlib.Core.Path.{_≡_, refl}
-use lib.Dec.{T}
+use lib.Dec.{T, eqb}
+use lib.ListN.{length}
 use native.Mathlib.Omega.{arith}
 use Rattle.meaning.proofs.Compliance.{IsRefusal}
+use Rattle.meaning.proofs.Links.{Name, choose, passed, tests}
 use Rattle.meaning.proofs.ModelCheck.{refutes-iff}
+use Rattle.meaning.proofs.ModelWords.{NamedFact}
 use Rattle.meaning.proofs.Refusals.{unless-all}
-use Rattle.meaning.proofs.Rules.{isTrue, notTrue}
+use Rattle.meaning.proofs.Rules.{all-at, isTrue, notTrue}
 use Rattle.meaning.specs.Answers.{Answer, answeredNo, answeredYes, refused}
 use Rattle.meaning.specs.Countermodel.{Fact, stands}
-use Rattle.meaning.specs.Interpretation.{In, Satisfies}
-use Rattle.meaning.specs.ModelCheck.{factsOf, individualCount, modelRefusal, refutes}
+use Rattle.meaning.specs.Interpretation.{In, Proper, Satisfies}
+use Rattle.meaning.specs.Lists.{All, cons, nil}
+use Rattle.meaning.specs.ModelCheck.{factAt, factFits, factKind, factNext, factsFrom, factsOf, factsRefusal, firstFact, individualCount, modelRefusal, refutes}
 use Rattle.meaning.specs.Operations.{inputRefusal, modelCheck, workRefusal}
 use Rattle.meaning.specs.Policy.{Policy, policyOf}
 use Rattle.meaning.specs.Records.{orElse}
-use Rattle.meaning.specs.Vocabulary.{Vocabulary, vocabularyOf}
+use Rattle.meaning.specs.Vocabulary.{Vocabulary, classCount, featureCount, roleCount, vocabularyOf}
 
 -- what the words say: their interpretation satisfies the vocabulary, and its first individual is in the first policy and outside the second
 abbrev pub Countered : List ℕ → List ℕ → List ℕ → List ℕ → Type 0
@@ -63,3 +67,36 @@ module _ (v p q m : List ℕ) where
       go a (refusal n) t = absurd (t (n, refl))
       go a (countered c) t = (λ e. c, λ d. refl)
       go a (standing f) t = (λ e. absurd (let z : _≡_ {A = ℕ} 0 1 = cc in omega arith), λ d. absurd (f d))
+
+-- accepted words stand for an interpretation: its individuals are 1 to the header's number, and the facts are of them
+module _ (v m : List ℕ) where
+  abbrev FactOf : Fact → Type 0
+  FactOf x = NamedFact (classCount v) (roleCount v) (featureCount v) (individualCount m) x
+
+  fact-named : (k : ℕ) → factFits v m k ≡ true → FactOf (factAt m k)
+  fact-named k h =
+      let u = simp tests at h in
+      let i = u .0 in
+      choose So FactOf (eqb (factKind m k) 1) (λ _ g. let a = simp tests at g in (a .0, i)) (λ _.
+      choose So FactOf (eqb (factKind m k) 2) (λ _ g. let a = simp tests at g in (a .0, i, a .1)) (λ _ g. let a = simp tests at g in (a .1, i)))
+      (u .1)
+
+  facts-named : (f k : ℕ) → factsRefusal f v m k ≡ 0 → All FactOf (factsFrom f m k)
+  facts-named zero k = λ h. nil
+  facts-named (suc f) k =
+      choose (λ (n : ℕ). n ≡ 0) (All FactOf) (eqb k 0) (λ _ _. nil) (λ _ h.
+      let u = simp (passed 32, tests) at h in cons (fact-named k (simp tests (u .0 .0))) (facts-named f (factNext m k) (u .1)))
+
+  pub accepted-facts : modelRefusal v m ≡ 0 → Name 512 (individualCount m) × All (NamedFact (classCount v) (roleCount v) (featureCount v) (individualCount m)) (factsOf m)
+  unfolding modelRefusal factsOf
+  accepted-facts h = let u = simp (passed 30, passed 31, tests) at h in (u .1 .0 .1 .0, facts-named (length m) (firstFact m) (u .1 .1))
+
+  pub accepted-model : modelRefusal v m ≡ 0 → Proper (stands (individualCount m) (factsOf m))
+  accepted-model h =
+      let a = accepted-facts h in record {
+        inhabited = (1, (omega arith, a .0 .0));
+        classes = λ c i k. all-at (a .1) k .1;
+        sources = λ r i j k. all-at (a .1) k .1;
+        targets = λ r i j k. all-at (a .1) k .2;
+        holders = λ f i w k. all-at (a .1) k .1;
+      }

@@ -65,16 +65,16 @@ module _ (I J : Interpretation) (g : Agree I J) where
   }
 
 -- the tests of a list of facts
-abbrev pub tests : ℕ → List Fact → Tested
-tests n F = record {
+abbrev pub testsOf : ℕ → List Fact → Tested
+testsOf n F = record {
   individual = λ i. leb 1 i && leb i n;
   inClass = λ a i. any (isMember a i) F;
   byRole = λ r i j. any (reaches r i (eqb j)) F;
   hasValue = λ f i v. any (hasWithin f i v v) F;
 }
 
-tests-agree : (n : ℕ) (F : List Fact) → Agree (stands n F) (interpreted (tests n F))
-tests-agree n F = record {
+facts-agree : (n : ℕ) (F : List Fact) → Agree (stands n F) (interpreted (testsOf n F))
+facts-agree n F = record {
   individuals = λ i. (λ h. and-T (leb 1 i) (leb i n) (le→leb 1 i (h .0)) (le→leb i n (h .1)), λ t. let u = T-and (leb 1 i) (leb i n) t in (leb→le 1 i (u .0), leb→le i n (u .1)));
   classes = λ a i. (λ h. any-in (isMember a i) (any-mono (λ x e. is-member a i x e) h), λ t. any-mono (λ x u. member-is a i x u) (any-out (isMember a i) F t));
   roles = λ r i j. (
@@ -90,9 +90,9 @@ tests-agree n F = record {
 pub tested-finite : (K : Vocabulary) (P Q : Policy) → ContainedTested K P Q → ContainedFinite K P Q
 tested-finite K P Q c n F p s d i h =
     let I = stands n F in
-    let J = interpreted (tests n F) in
-    let g = tests-agree n F in
-    agree-in J I (agree-back I J g) Q d (c (tests n F) (agree-proper I J g p) (agree-satisfies I J g K s) d (g .individuals d .0 i) (agree-in I J g P d h))
+    let J = interpreted (testsOf n F) in
+    let g = facts-agree n F in
+    agree-in J I (agree-back I J g) Q d (c (testsOf n F) (agree-proper I J g p) (agree-satisfies I J g K s) d (g .individuals d .0 i) (agree-in I J g P d h))
 
 -- all of them, those given by tests, finite ones, and the combinations
 pub record OneContainment (K : Vocabulary) (P Q : Policy) : Type 1 where
