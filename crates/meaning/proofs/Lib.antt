@@ -5,13 +5,17 @@ pub mod Closure
 pub mod Rewriting
 pub mod Neat
 pub mod Points
+pub mod Count
+pub mod Odometer
 pub mod Pieces
 pub mod Picks
+pub mod TableOne
 pub mod Pairs
 pub mod Places
 pub mod Canonical
 pub mod Subsumption
 pub mod First
 pub mod Containment
+pub mod Impossible
 pub mod Unreached
 pub mod Table
