@@ -1,23 +1,22 @@
 -- Lemma 1: the canonical model of a combination satisfies the vocabulary, and individual 1 is in the normal form that was split.
 use Prim.Native.Nat.{_+_, _<_, _≤_, suc, zero, ℕ}
-use mathlib.Core.Bool.{not}
 use mathlib.Core.List.{List, [], _∷_, map}
 use mathlib.Core.Logic.{_⊎_, inl, inr}
 use mathlib.Core.Path.{_∙_, _≡_, subst, sym}
-use lib.Dec.{T, T-not}
+use lib.Dec.{T}
 use native.Mathlib.Omega.{arith}
 use Rattle.meaning.proofs.Closure.{below-axiom, below-bounded, below-refl, below-trans}
 use Rattle.meaning.proofs.Neat.{Distinct, Fresh, Neat}
 use Rattle.meaning.proofs.Pairs.{pairs-out}
-use Rattle.meaning.proofs.Picks.{Parts, Picked, PickedForm, PickedNode, Ready, no-parts, none-picked, parts, picked}
+use Rattle.meaning.proofs.Picks.{Parts, Picked, PickedForm, PickedNode, Ready, no-clash, no-parts, none-picked, parts, picked}
 use Rattle.meaning.proofs.Places.{Child, Place, True, places, root}
 use Rattle.meaning.proofs.Points.{value-inside}
-use Rattle.meaning.proofs.Rules.{T-and, all-any, all-append, all-at, all-filter, all-fst, all-map, all-mono, all-of, all-out, all-snd, and-T, any-cases, any-in, any-none, any-out, at-any, head, in-filter, map-all, order, tail}
+use Rattle.meaning.proofs.Rules.{all-any, all-append, all-at, all-filter, all-fst, all-map, all-mono, all-of, all-snd, any-cases, any-in, any-none, any-out, at-any, head, in-filter, map-all, order, tail}
 use Rattle.meaning.proofs.Stated.{Bounded, IsClass, feature-stated, ranges-in, single-stated}
 use Rattle.meaning.specs.Countermodel.{Fact, canonicalModel, classesAbove, edge, edges, individuals, member, pairs, recordsBelow, recordsOf, size, stands, value}
 use Rattle.meaning.specs.Interpretation.{Obeys, Proper, Satisfies}
-use Rattle.meaning.specs.Lists.{All, Any, _∈_, all, any, cons, counting, here, nil, there}
-use Rattle.meaning.specs.NormalForm.{Form, Has, HoldsForm, HoldsNode, HoldsSuccessors, Interval, Node, Successors, clash, cleanNode, compatible, filled, isBelow, none, ranges, separates, single, singleFeature, successor}
+use Rattle.meaning.specs.Lists.{All, Any, _∈_, any, cons, counting, here, nil, there}
+use Rattle.meaning.specs.NormalForm.{Form, Has, HoldsForm, HoldsNode, HoldsSuccessors, Interval, Node, Successors, isBelow, none, ranges, single, singleFeature, successor}
 use Rattle.meaning.specs.Policy.{Policy}
 use Rattle.meaning.specs.Splitting.{valueOf}
 use Rattle.meaning.specs.Vocabulary.{Axiom, Vocabulary, below, disjoint, functionalFeature, functionalRole, range}
@@ -107,7 +106,7 @@ module _ (N : ℕ) (K : Vocabulary) (w : Bounded N K) (F : List Fact) where
       up : (a b : ℕ) → Any (λ c. T (isBelow K c a)) (n .classes) → T (isBelow K a b) → member b i ∈ F
       up a b t u = let x = all-any (node-classes n under i s h) t in x .1 b (below-trans K (x .0) a b (x .2) u)
 
-  below-closed : (under : Successors) (i k : ℕ) → Neat N K under → There (recordsBelow N K under k) → All Closed (edges under i k) × All Closed (recordsBelow N K under k)
+  below-closed : (under : Successors) (i k : ℕ) → Neat (IsClass N) K under → There (recordsBelow N K under k) → All Closed (edges under i k) × All Closed (recordsBelow N K under k)
   below-closed none i k t h = (nil, nil)
   below-closed (successor r n under next) i k t h =
       let a = all-fst (recordsOf N K n under k) _ h in
@@ -133,8 +132,8 @@ module _ (N : ℕ) (K : Vocabulary) (w : Bounded N K) (F : List Fact) where
     intervals = parts-hold m i (p .intervals) (node-values u under i h);
   }
 
-  successors-hold : {Q : Policy} (m : ℕ) {under inner : Successors} (i k : ℕ) → Picked Q under inner → Neat N K inner → There (edges inner i k) → There (recordsBelow N K inner k) →
-      HoldsSuccessors (stands m F) under i
+  successors-hold : {Q : Policy} (m : ℕ) {under inner : Successors} (i k : ℕ) → Picked Q under inner → Neat (IsClass N) K inner →
+      There (edges inner i k) → There (recordsBelow N K inner k) → HoldsSuccessors (stands m F) under i
   successors-hold m i k none-picked t e h = tt
   successors-hold m i k (picked {n = n} {m = u} {inner = inner} a b c) t e h =
       let x = all-fst (recordsOf N K u inner k) _ h in
@@ -150,7 +149,7 @@ module _ (N : ℕ) (K : Vocabulary) where
   not-child r j y (successor q n under next) s f (inl c) = f .0 (c .0)
   not-child r j y (successor q n under next) s f (inr c) = not-child r j y next (suc s + size under) (f .1) c
 
-  one-child : (r j k : ℕ) (y z : Place N K) (under : Successors) (s : ℕ) → Neat N K under → T (single K r) → Child N K r j y under s → Child N K r k z under s → j ≡ k
+  one-child : (r j k : ℕ) (y z : Place N K) (under : Successors) (s : ℕ) → Neat (IsClass N) K under → T (single K r) → Child N K r j y under s → Child N K r k z under s → j ≡ k
   one-child r j k y z none s t u a b = absurd a
   one-child r j k y z (successor q n under next) s t u (inl a) (inl b) = a .1 ∙ sym (b .1)
   one-child r j k y z (successor q n under next) s t u (inl a) (inr b) =
@@ -177,13 +176,6 @@ module _ (N : ℕ) (K : Vocabulary) where
       go ih (inl p) (inr q) = absurd (gone w (p .0) q)
       go ih (inr p) (inl q) = absurd (gone v (q .0) p)
       go ih (inr p) (inr q) = ih p q
-
-  no-clash : (n : Node) → T (cleanNode K n) → (a b : ℕ) → disjoint a b ∈ K → Any (λ c. T (isBelow K c a)) (n .classes) → Any (λ c. T (isBelow K c b)) (n .classes) → ⊥
-  no-clash n t a b m p q =
-      let u = all-out (λ c. all (λ d. not (clash K c d)) (n .classes)) (n .classes) (T-and (filled (n .intervals)) (compatible K (n .classes)) t .1) in
-      let x = all-any u p in
-      let y = all-any (all-out (λ d. not (clash K (x .0) d)) (n .classes) (x .1)) q in
-      T-not (clash K (x .0) (y .0)) (y .1) (any-in (separates K (x .0) (y .0)) (at-any m (and-T (isBelow K (x .0) a) (isBelow K (y .0) b) (x .2) (y .2))))
 
 module _ (N : ℕ) (K : Vocabulary) (w : Bounded N K) (u : Form) (r : Ready N K u) where
   F : List Fact
@@ -216,7 +208,7 @@ module _ (N : ℕ) (K : Vocabulary) (w : Bounded N K) (u : Form) (r : Ready N K 
 
       obeys : (x : Axiom) → x ∈ K → Obeys (stands (individuals u) F) x
       obeys (below a b) m = λ i p. all-at closed p b (below-axiom m)
-      obeys (disjoint a b) m = λ i p q. no-clash N K (at .0 i .node) (at .0 i .ready .clean) a b m (all-at (at .2) p) (all-at (at .2) q)
+      obeys (disjoint a b) m = λ i p q. no-clash K (at .0 i .node) (at .0 i .ready .clean) a b m (all-at (at .2) p) (all-at (at .2) q)
       obeys (functionalRole q) m = λ i j k x y.
           one-child N K q j k (at .0 j) (at .0 k) (at .0 i .successors) (at .0 i .start) (at .0 i .ready .neat .successors) (single-stated m) (all-at (at .2) x) (all-at (at .2) y)
       obeys (functionalFeature f) m = λ i v z x y.

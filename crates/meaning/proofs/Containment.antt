@@ -14,7 +14,7 @@ use Rattle.meaning.proofs.Picks.{PickedForm, Ready, combinations-picked
 use Rattle.meaning.proofs.Pieces.{combinations-held}
 use Rattle.meaning.proofs.Rewriting.{holds-possible, normal-in, normal-out}
 use Rattle.meaning.proofs.Rules.{T-and, all-any, all-at, all-of, any-at, any-in, any-mono, any-out, at-any, isTrue, notTrue}
-use Rattle.meaning.proofs.Stated.{Bounded}
+use Rattle.meaning.proofs.Stated.{Bounded, IsClass}
 use Rattle.meaning.proofs.Subsumption.{subsumed-complete, subsumed-sound}
 use Rattle.meaning.specs.Containment.{Contained, ContainedFinite, Decision, Refutes, contained, decide, decideFrom, escapes, firstFailure, orEscape, passes}
 use Rattle.meaning.specs.Countermodel.{canonicalModel, individuals, stands}
@@ -47,7 +47,7 @@ module _ (N : ℕ) (K : Vocabulary) (w : Bounded N K) where
   normal-ready p f t =
       let a = T-and (not (blocked p)) _ t in
       let b = T-and (cleanNode K (normalForm K p .node)) _ (a .1) in
-      record { neat = normal-neat N K w p f; clean = b .0; clean-successors = b .1 }
+      record { neat = normal-neat (IsClass N) K (w .ranged) p f; clean = b .0; clean-successors = b .1 }
 
   -- Lemma 1 for a combination of a possible term
   pub record Witness (Q : Policy) (p : Chain) (u : Form) : Type 0 where

@@ -5,11 +5,11 @@ use mathlib.Core.List.{List, [], _∷_}
 use mathlib.Core.Path.{_≡_, refl, subst, sym}
 use lib.Dec.{T, eqb}
 use Rattle.meaning.proofs.Rules.{all-mono, all-of, and-T, eqb-of, head, notTrue, tail}
-use Rattle.meaning.proofs.Stated.{Bounded, IsClass, ranges-out}
+use Rattle.meaning.proofs.Stated.{IsClass, ranges-out}
 use Rattle.meaning.specs.Lists.{All, _∈_, cons, nil, there}
 use Rattle.meaning.specs.NormalForm.{Form, Interval, Node, Successors, add, bare, graft, meet, none, normalForm, placeInterval, placeSuccessor, ranges, single, singleFeature, successor, withClass, withInterval, withSuccessor}
 use Rattle.meaning.specs.Policy.{Chain, class, end, impossible, interval, some}
-use Rattle.meaning.specs.Vocabulary.{Vocabulary}
+use Rattle.meaning.specs.Vocabulary.{Vocabulary, range}
 
 -- no successor by r
 abbrev pub Fresh : ℕ → Successors → Type 0
@@ -21,26 +21,31 @@ abbrev pub Distinct : Vocabulary → List Interval → Type 0
 Distinct K [] = Unit {0}
 Distinct K (s ∷ l) = (T (singleFeature K (s .feature)) → All (λ x. s .feature ≡ x .feature → ⊥) l) × Distinct K l
 
-pub record NeatNode (N : ℕ) (K : Vocabulary) (n : Node) : Type 0 where
-  pub bounded : All (IsClass N) (n .classes)
+-- B bounds the classes
+pub record NeatNode (B : ℕ → Type 0) (K : Vocabulary) (n : Node) : Type 0 where
+  pub bounded : All B (n .classes)
   pub distinct : Distinct K (n .intervals)
 
-abbrev pub Neat : ℕ → Vocabulary → Successors → Type 0
-Neat N K none = Unit {0}
-Neat N K (successor r n under next) =
-    (T (single K r) → Fresh r next) × All (λ c. c ∈ n .classes) (ranges K r) × NeatNode N K n × Neat N K under × Neat N K next
+abbrev pub Neat : (ℕ → Type 0) → Vocabulary → Successors → Type 0
+Neat B K none = Unit {0}
+Neat B K (successor r n under next) =
+    (T (single K r) → Fresh r next) × All (λ c. c ∈ n .classes) (ranges K r) × NeatNode B K n × Neat B K under × Neat B K next
 
-pub record NeatForm (N : ℕ) (K : Vocabulary) (t : Form) : Type 0 where
-  pub node : NeatNode N K (t .node)
-  pub successors : Neat N K (t .successors)
+pub record NeatForm (B : ℕ → Type 0) (K : Vocabulary) (t : Form) : Type 0 where
+  pub node : NeatNode B K (t .node)
+  pub successors : Neat B K (t .successors)
 
--- the classes of a chain are among 1 to N
+-- the classes of a chain have B
+abbrev pub ClassesIn : (ℕ → Type 0) → Chain → Type 0
+ClassesIn B end = Unit {0}
+ClassesIn B (class c next) = B c × ClassesIn B next
+ClassesIn B (impossible next) = ClassesIn B next
+ClassesIn B (some r child next) = ClassesIn B child × ClassesIn B next
+ClassesIn B (interval f lo hi next) = ClassesIn B next
+
+-- they are among 1 to N
 abbrev pub BoundedChain : ℕ → Chain → Type 0
-BoundedChain N end = Unit {0}
-BoundedChain N (class c next) = IsClass N c × BoundedChain N next
-BoundedChain N (impossible next) = BoundedChain N next
-BoundedChain N (some r child next) = BoundedChain N child × BoundedChain N next
-BoundedChain N (interval f lo hi next) = BoundedChain N next
+BoundedChain N p = ClassesIn (IsClass N) p
 
 -- rule 5
 away-place : (f : ℕ) (one : Bool) (s : Interval) → (f ≡ s .feature → ⊥) → (l : List Interval) →
@@ -76,18 +81,18 @@ fresh-place q one r fresh grow a (successor s n under next) k = go (one && eqb r
     go true g = k
     go false g = (k .0, g)
 
-module _ (N : ℕ) (K : Vocabulary) (r : ℕ) (grow : Form → Form) (neat : (t : Form) → NeatForm N K t → NeatForm N K (grow t))
-    (keep : (t : Form) (c : ℕ) → c ∈ t .node .classes → c ∈ grow t .node .classes) (w : Bounded N K) where
+module _ (B : ℕ → Type 0) (K : Vocabulary) (r : ℕ) (grow : Form → Form) (neat : (t : Form) → NeatForm B K t → NeatForm B K (grow t))
+    (keep : (t : Form) (c : ℕ) → c ∈ t .node .classes → c ∈ grow t .node .classes) (ranged : (r c : ℕ) → range r c ∈ K → B c) where
   abbrev one : Bool
   one = single K r
 
   abbrev grown : Successors → Successors
   grown under = placeSuccessor one r (bare (ranges K r)) grow under
 
-  neat-place : (under : Successors) → Neat N K under → Neat N K (grown under)
+  neat-place : (under : Successors) → Neat B K under → Neat B K (grown under)
   neat-place none k =
       let g = neat (bare (ranges K r)) (record {
-        node = record { bounded = all-of (ranges K r) (λ c m. w .ranged r c (ranges-out K r c m)); distinct = tt };
+        node = record { bounded = all-of (ranges K r) (λ c m. ranged r c (ranges-out K r c m)); distinct = tt };
         successors = tt;
       }) in
       (λ t. tt, all-of (ranges K r) (λ c m. keep (bare (ranges K r)) c m), g .node, g .successors, tt)
@@ -99,7 +104,7 @@ module _ (N : ℕ) (K : Vocabulary) (r : ℕ) (grow : Form → Form) (neat : (t 
       apart : (one && eqb r q) ≡ false → T (single K q) → q ≡ r → ⊥
       apart e u s = notTrue e (and-T one (eqb r q) (subst (λ (x : ℕ). T (single K x)) s u) (eqb-of r q (sym s)))
 
-      go : (b : Bool) → (one && eqb r q) ≡ b → Neat N K (grown next) → Neat N K (cond b (graft q (grow t) next) (successor q n under (grown next)))
+      go : (b : Bool) → (one && eqb r q) ≡ b → Neat B K (grown next) → Neat B K (cond b (graft q (grow t) next) (successor q n under (grown next)))
       go true e g =
           let m = neat t (record { node = k .2; successors = k .3 }) in
           (k .0, all-mono (λ c a. keep t c a) (k .1), m .node, m .successors, k .4)
@@ -112,8 +117,8 @@ add-keeps K (impossible next) t c m = add-keeps K next t c m
 add-keeps K (some r child next) t c m = add-keeps K next (withSuccessor K r (add K child) t) c m
 add-keeps K (interval f lo hi next) t c m = add-keeps K next (withInterval K (record { feature = f; lo = lo; hi = hi }) t) c m
 
-module _ (N : ℕ) (K : Vocabulary) (w : Bounded N K) where
-  add-neat : (p : Chain) → BoundedChain N p → (t : Form) → NeatForm N K t → NeatForm N K (add K p t)
+module _ (B : ℕ → Type 0) (K : Vocabulary) (ranged : (r c : ℕ) → range r c ∈ K → B c) where
+  add-neat : (p : Chain) → ClassesIn B p → (t : Form) → NeatForm B K t → NeatForm B K (add K p t)
   add-neat end b t k = k
   add-neat (class a next) b t k =
       add-neat next (b .1) (withClass a t)
@@ -121,12 +126,23 @@ module _ (N : ℕ) (K : Vocabulary) (w : Bounded N K) where
   add-neat (impossible next) b t k = add-neat next b t k
   add-neat (some r child next) b t k =
       add-neat next (b .1) (withSuccessor K r (add K child) t)
-      (record { node = k .node; successors = neat-place N K r (add K child) (add-neat child (b .0)) (add-keeps K child) w (t .successors) (k .successors) })
+      (record { node = k .node; successors = neat-place B K r (add K child) (add-neat child (b .0)) (add-keeps K child) ranged (t .successors) (k .successors) })
   add-neat (interval f lo hi next) b t k =
       let s : Interval = record { feature = f; lo = lo; hi = hi } in
       add-neat next b (withInterval K s t)
       (record { node = record { bounded = k .node .bounded; distinct = distinct-place K s (t .node .intervals) (k .node .distinct) }; successors = k .successors })
 
-  pub normal-neat : (p : Chain) → BoundedChain N p → NeatForm N K (normalForm K p)
+  pub normal-neat : (p : Chain) → ClassesIn B p → NeatForm B K (normalForm K p)
   unfolding normalForm
   normal-neat p b = add-neat p b (bare []) (record { node = record { bounded = nil; distinct = tt }; successors = tt })
+
+-- with no bound on the classes
+unbounded : (p : Chain) → ClassesIn (λ c. Unit {0}) p
+unbounded end = tt
+unbounded (class a next) = (tt, unbounded next)
+unbounded (impossible next) = unbounded next
+unbounded (some r child next) = (unbounded child, unbounded next)
+unbounded (interval f lo hi next) = unbounded next
+
+pub always-neat : (K : Vocabulary) (p : Chain) → NeatForm (λ c. Unit {0}) K (normalForm K p)
+always-neat K p = normal-neat (λ c. Unit {0}) K (λ r c m. tt) p (unbounded p)

@@ -1,17 +1,18 @@
 -- A combination has its normal form's shape, with a part of each constraint.
 use Prim.Native.Nat.{_≤_, ℕ}
+use mathlib.Core.Bool.{not}
 use mathlib.Core.List.{List, [], _∷_}
 use mathlib.Core.Path.{_∙_, _≡_, refl, subst, sym}
-use lib.Dec.{T, leb, leb→le, le→leb}
+use lib.Dec.{T, T-not, leb, leb→le, le→leb}
 use Rattle.meaning.proofs.Neat.{Distinct, Fresh, Neat, NeatForm, NeatNode}
 use Rattle.meaning.proofs.Points.{Part, pieces-part}
-use Rattle.meaning.proofs.Rules.{T-and, all-flatMap, all-in, all-map, all-mono, all-out, and-T, head, tail}
+use Rattle.meaning.proofs.Rules.{T-and, all-any, all-flatMap, all-in, all-map, all-mono, all-out, and-T, any-in, at-any, head, tail}
 use Rattle.meaning.proofs.Stated.{IsClass}
-use Rattle.meaning.specs.Lists.{All, _∈_, cons, nil}
-use Rattle.meaning.specs.NormalForm.{Form, Interval, Node, Successors, cleanNode, cleanSuccessors, compatible, filled, none, ranges, singleFeature, successor}
+use Rattle.meaning.specs.Lists.{All, Any, _∈_, all, cons, nil}
+use Rattle.meaning.specs.NormalForm.{Form, Interval, Node, Successors, clash, cleanNode, cleanSuccessors, compatible, filled, isBelow, none, ranges, separates, singleFeature, successor}
 use Rattle.meaning.specs.Policy.{Policy}
 use Rattle.meaning.specs.Splitting.{choices, combinations, splitNode, splitSuccessors}
-use Rattle.meaning.specs.Vocabulary.{Vocabulary}
+use Rattle.meaning.specs.Vocabulary.{Vocabulary, disjoint}
 
 pub data Parts (Q : Policy) : List Interval → List Interval → Type 0 where
   no-parts : Parts Q [] []
@@ -37,6 +38,14 @@ choices-parts Q (s ∷ l) h =
 
 pub filled-intervals : (K : Vocabulary) (n : Node) → T (cleanNode K n) → All (λ s. s .lo ≤ s .hi) (n .intervals)
 filled-intervals K n t = all-mono (λ s u. leb→le _ _ u) (all-out (λ s. leb (s .lo) (s .hi)) (n .intervals) (T-and (filled (n .intervals)) (compatible K (n .classes)) t .0))
+
+-- a clean individual is in no two disjoint classes
+pub no-clash : (K : Vocabulary) (n : Node) → T (cleanNode K n) → (a b : ℕ) → disjoint a b ∈ K → Any (λ c. T (isBelow K c a)) (n .classes) → Any (λ c. T (isBelow K c b)) (n .classes) → ⊥
+no-clash K n t a b m p q =
+    let u = all-out (λ c. all (λ d. not (clash K c d)) (n .classes)) (n .classes) (T-and (filled (n .intervals)) (compatible K (n .classes)) t .1) in
+    let x = all-any u p in
+    let y = all-any (all-out (λ d. not (clash K (x .0) d)) (n .classes) (x .1)) q in
+    T-not (clash K (x .0) (y .0)) (y .1) (any-in (separates K (x .0) (y .0)) (at-any m (and-T (isBelow K (x .0) a) (isBelow K (y .0) b) (x .2) (y .2))))
 
 node-picked : (K : Vocabulary) (Q : Policy) (n : Node) → T (cleanNode K n) → All (PickedNode Q n) (splitNode Q n)
 node-picked K Q n t = all-map (λ r. record { classes = n .classes; intervals = r }) (all-mono (λ r k. record { classes = refl; intervals = k }) (choices-parts Q (n .intervals) (filled-intervals K n t)))
@@ -74,10 +83,10 @@ module _ {Q : Policy} where
   fresh-picked r (picked a b c) h = (h .0, fresh-picked r c (h .1))
 
   module _ (N : ℕ) (K : Vocabulary) where
-    neat-node : (n m : Node) → PickedNode Q n m → NeatNode N K n → NeatNode N K m
+    neat-node : (n m : Node) → PickedNode Q n m → NeatNode (IsClass N) K n → NeatNode (IsClass N) K m
     neat-node n m p h = record { bounded = subst (All (IsClass N)) (p .classes) (h .bounded); distinct = distinct-picked K (p .intervals) (h .distinct) }
 
-    neat-picked : {under inner : Successors} → Picked Q under inner → Neat N K under → Neat N K inner
+    neat-picked : {under inner : Successors} → Picked Q under inner → Neat (IsClass N) K under → Neat (IsClass N) K inner
     neat-picked none-picked h = tt
     neat-picked (picked {r = r} {n = n} {m = m} a b c) h = (
       λ t. fresh-picked r c (h .0 t),
@@ -105,7 +114,7 @@ module _ {Q : Policy} where
 
 -- a form to be modelled: neat, with no clash at any individual
 pub record Ready (N : ℕ) (K : Vocabulary) (t : Form) : Type 0 where
-  pub neat : NeatForm N K t
+  pub neat : NeatForm (IsClass N) K t
   pub clean : T (cleanNode K (t .node))
   pub clean-successors : T (cleanSuccessors K (t .successors))
 

@@ -205,7 +205,7 @@ module _ (Q : Policy) (s : Interval) where
       (all-filter (λ e. leb (s .lo) e && leb e (s .hi)) (flatMap (ends (s .feature)) Q)))
       (insert-all (s .hi) (s .lo ∷ []) (a, omega arith) (cons (omega arith, a) nil))
 
-  lo-point : s .lo ∈ points Q s
+  pub lo-point : s .lo ∈ points Q s
   unfolding relevant
   lo-point = inserts-there relevant (insert (s .hi) (s .lo ∷ [])) (insert-there (s .hi) (s .lo ∷ []) (here refl))
 

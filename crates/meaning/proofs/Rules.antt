@@ -2,7 +2,7 @@
 use Prim.Native.Nat.{_<_, _≤_, ℕ}
 use mathlib.Core.Bool.{Bool, _&&_, _||_, cond, false, not, true}
 use mathlib.Core.List.{List, [], _++_, _∷_, map}
-use mathlib.Core.Logic.{_⊎_, inl, inr}
+use mathlib.Core.Logic.{_⊎_, inl, inr, ⊎-elim}
 use mathlib.Core.Path.{_≡_, refl, subst, sym}
 use lib.Dec.{T, eqb, eqb-refl, leb, leb→le, nleb→lt}
 use Rattle.meaning.specs.Lists.{All, Any, _∈_, all, any, cons, filter, flatMap, here, nil, there}
@@ -35,6 +35,14 @@ pub and-not : (a b : Bool) → T (not a) → T (not b) → T (not (a || b))
 and-not true b s t = s
 and-not false b s t = t
 
+pub not-and : (a b : Bool) → T (not (a && b)) → T (not a) ⊎ T (not b)
+not-and true b t = inr t
+not-and false b t = inl tt
+
+pub not-not : (a : Bool) → T (not (not a)) → T a
+not-not true t = tt
+not-not false t = t
+
 pub eqb-of : (a b : ℕ) → a ≡ b → T (eqb a b)
 eqb-of a b e = subst (λ (k : ℕ). T (eqb a k)) e (eqb-refl a)
 
@@ -43,6 +51,10 @@ isTrue e = subst T (sym e) tt
 
 pub notTrue : {b : Bool} → b ≡ false → T b → ⊥
 notTrue e t = subst T e t
+
+pub isFalse : (b : Bool) → (T b → ⊥) → b ≡ false
+isFalse true f = absurd (f tt)
+isFalse false f = refl
 
 pub order : (a b : ℕ) → (a < b) ⊎ (b ≤ a)
 order a b = go (leb b a) (λ t. leb→le b a t) (λ t. nleb→lt b a t)
@@ -85,6 +97,10 @@ module _ {A : Type 0} where
   pub all-in : (p : A → Bool) {l : List A} → All (λ x. T (p x)) l → T (all p l)
   all-in p nil = tt
   all-in p (cons {x = x} {l = l} h t) = and-T (p x) (all p l) h (all-in p t)
+
+  pub not-all : (p : A → Bool) (l : List A) → T (not (all p l)) → Any (λ x. T (not (p x))) l
+  not-all p [] t = absurd t
+  not-all p (x ∷ l) t = ⊎-elim here (λ h. there (not-all p l h)) (not-and (p x) (all p l) t)
 
   module _ {P R : A → Type 0} where
     pub any-mono : ((x : A) → P x → R x) → {l : List A} → Any P l → Any R l

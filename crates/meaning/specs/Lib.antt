@@ -5,7 +5,9 @@ pub mod Vocabulary
 pub mod Policy
 pub mod Interpretation
 pub mod NormalForm
+pub mod TableOne
 pub mod Splitting
+pub mod Counting
 pub mod Subsumption
 pub mod Countermodel
 pub mod Containment
