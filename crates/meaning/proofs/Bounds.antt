@@ -2,12 +2,12 @@
 use Prim.Native.Nat.{ℕ}
 use mathlib.Core.List.{List}
 use mathlib.Core.Path.{_≡_}
-use Rattle.meaning.proofs.Wellformed.{accepted-axioms, accepted-terms}
 use Rattle.meaning.proofs.Neat.{BoundedChain}
 use Rattle.meaning.proofs.Points.{above}
 use Rattle.meaning.proofs.Rules.{all-at, all-mono}
 use Rattle.meaning.proofs.Stated.{Bounded}
 use Rattle.meaning.proofs.Terms.{NamedChain}
+use Rattle.meaning.proofs.Wellformed.{accepted-axioms, accepted-terms}
 use Rattle.meaning.specs.Lists.{All}
 use Rattle.meaning.specs.Policy.{Chain, class, end, impossible, interval, policyOf, policyRefusal, some}
 use Rattle.meaning.specs.Vocabulary.{classCount, featureCount, roleCount, vocabularyOf, vocabularyRefusal}

@@ -6,18 +6,20 @@ use mathlib.Core.Path.{_∙_, _≡_, subst, sym}
 use lib.Dec.{T}
 use native.Mathlib.Omega.{arith}
 use Rattle.meaning.proofs.Closure.{below-axiom, below-bounded, below-refl, below-trans}
+use Rattle.meaning.proofs.Links.{Name}
 use Rattle.meaning.proofs.Neat.{Distinct, Fresh, Neat}
 use Rattle.meaning.proofs.Pairs.{pairs-out}
 use Rattle.meaning.proofs.Picks.{Parts, Picked, PickedForm, PickedNode, Ready, no-clash, no-parts, none-picked, parts, picked}
 use Rattle.meaning.proofs.Places.{Child, Place, True, places, root}
 use Rattle.meaning.proofs.Points.{value-inside}
 use Rattle.meaning.proofs.Rules.{all-any, all-append, all-at, all-filter, all-fst, all-map, all-mono, all-of, all-snd, any-cases, any-in, any-none, any-out, at-any, head, in-filter, map-all, order, tail}
-use Rattle.meaning.proofs.Stated.{Bounded, IsClass, feature-stated, ranges-in, single-stated}
+use Rattle.meaning.proofs.Stated.{Bounded, feature-stated, ranges-in, single-stated}
 use Rattle.meaning.specs.Countermodel.{Fact, canonicalModel, classesAbove, edge, edges, individuals, member, pairs, recordsBelow, recordsOf, size, stands, value}
 use Rattle.meaning.specs.Interpretation.{Obeys, Proper, Satisfies}
 use Rattle.meaning.specs.Lists.{All, Any, _∈_, any, cons, counting, here, nil, there}
 use Rattle.meaning.specs.NormalForm.{Form, Has, HoldsForm, HoldsNode, HoldsSuccessors, Interval, Node, Successors, isBelow, none, ranges, single, singleFeature, successor}
 use Rattle.meaning.specs.Policy.{Policy}
+use Rattle.meaning.specs.Promises.{inhabited}
 use Rattle.meaning.specs.Splitting.{valueOf}
 use Rattle.meaning.specs.Vocabulary.{Axiom, Vocabulary, below, disjoint, functionalFeature, functionalRole, range}
 
@@ -73,7 +75,7 @@ module _ (N : ℕ) (K : Vocabulary) (w : Bounded N K) (F : List Fact) where
   abbrev There : List Fact → Type 0
   There l = All (λ x. x ∈ F) l
 
-  pub node-classes : (n : Node) (under : Successors) (i : ℕ) → All (IsClass N) (n .classes) → There (recordsOf N K n under i) →
+  pub node-classes : (n : Node) (under : Successors) (i : ℕ) → All (Name N) (n .classes) → There (recordsOf N K n under i) →
       All (λ c. (b : ℕ) → T (isBelow K c b) → member b i ∈ F) (n .classes)
   node-classes n under i s h =
       all-of (n .classes) (λ c m b t.
@@ -97,7 +99,7 @@ module _ (N : ℕ) (K : Vocabulary) (w : Bounded N K) (F : List Fact) where
   Closed (edge r i j) = All (λ c. member c j ∈ F) (ranges K r)
   Closed (value f i v) = Unit {0}
 
-  node-closed : (n : Node) (under : Successors) (i : ℕ) → All (IsClass N) (n .classes) → There (recordsOf N K n under i) → All Closed (edges under i (suc i)) →
+  node-closed : (n : Node) (under : Successors) (i : ℕ) → All (Name N) (n .classes) → There (recordsOf N K n under i) → All Closed (edges under i (suc i)) →
       All Closed (recordsOf N K n under i)
   node-closed n under i s h e =
       all-append (all-map (λ a. member a i) (all-mono (λ a t b u. up a b (any-out (λ c. isBelow K c a) (n .classes) t) u) (all-filter (λ a. any (λ c. isBelow K c a) (n .classes)) (counting 1 N))))
@@ -106,7 +108,7 @@ module _ (N : ℕ) (K : Vocabulary) (w : Bounded N K) (F : List Fact) where
       up : (a b : ℕ) → Any (λ c. T (isBelow K c a)) (n .classes) → T (isBelow K a b) → member b i ∈ F
       up a b t u = let x = all-any (node-classes n under i s h) t in x .1 b (below-trans K (x .0) a b (x .2) u)
 
-  below-closed : (under : Successors) (i k : ℕ) → Neat (IsClass N) K under → There (recordsBelow N K under k) → All Closed (edges under i k) × All Closed (recordsBelow N K under k)
+  below-closed : (under : Successors) (i k : ℕ) → Neat (Name N) K under → There (recordsBelow N K under k) → All Closed (edges under i k) × All Closed (recordsBelow N K under k)
   below-closed none i k t h = (nil, nil)
   below-closed (successor r n under next) i k t h =
       let a = all-fst (recordsOf N K n under k) _ h in
@@ -126,13 +128,13 @@ module _ (N : ℕ) (K : Vocabulary) (w : Bounded N K) (F : List Fact) where
       let y = a .inside .high in
       cons {x = s} (valueOf p, subst (λ (z : ℕ). value z i (valueOf p) ∈ F) (a .inside .same) (head h), (omega arith, omega arith)) (parts-hold m i b (tail h))
 
-  node-holds : {Q : Policy} (m : ℕ) (n u : Node) (under : Successors) (i : ℕ) → All (IsClass N) (u .classes) → PickedNode Q n u → There (recordsOf N K u under i) → HoldsNode (stands m F) n i
+  node-holds : {Q : Policy} (m : ℕ) (n u : Node) (under : Successors) (i : ℕ) → All (Name N) (u .classes) → PickedNode Q n u → There (recordsOf N K u under i) → HoldsNode (stands m F) n i
   node-holds m n u under i s p h = record {
     classes = subst (λ (l : List ℕ). All (λ c. member c i ∈ F) l) (sym (p .classes)) (all-mono (λ c f. f c (below-refl K c)) (node-classes u under i s h));
     intervals = parts-hold m i (p .intervals) (node-values u under i h);
   }
 
-  successors-hold : {Q : Policy} (m : ℕ) {under inner : Successors} (i k : ℕ) → Picked Q under inner → Neat (IsClass N) K inner →
+  successors-hold : {Q : Policy} (m : ℕ) {under inner : Successors} (i k : ℕ) → Picked Q under inner → Neat (Name N) K inner →
       There (edges inner i k) → There (recordsBelow N K inner k) → HoldsSuccessors (stands m F) under i
   successors-hold m i k none-picked t e h = tt
   successors-hold m i k (picked {n = n} {m = u} {inner = inner} a b c) t e h =
@@ -149,7 +151,7 @@ module _ (N : ℕ) (K : Vocabulary) where
   not-child r j y (successor q n under next) s f (inl c) = f .0 (c .0)
   not-child r j y (successor q n under next) s f (inr c) = not-child r j y next (suc s + size under) (f .1) c
 
-  one-child : (r j k : ℕ) (y z : Place N K) (under : Successors) (s : ℕ) → Neat (IsClass N) K under → T (single K r) → Child N K r j y under s → Child N K r k z under s → j ≡ k
+  one-child : (r j k : ℕ) (y z : Place N K) (under : Successors) (s : ℕ) → Neat (Name N) K under → T (single K r) → Child N K r j y under s → Child N K r k z under s → j ≡ k
   one-child r j k y z none s t u a b = absurd a
   one-child r j k y z (successor q n under next) s t u (inl a) (inl b) = a .1 ∙ sym (b .1)
   one-child r j k y z (successor q n under next) s t u (inl a) (inr b) =

@@ -7,7 +7,6 @@ use mathlib.Core.Path.{_≡_, refl}
 use lib.Dec.{T, eqb}
 use lib.ListN.{length}
 use native.Mathlib.Omega.{arith}
-use Rattle.meaning.proofs.Compliance.{IsRefusal}
 use Rattle.meaning.proofs.Links.{Name, choose, passed, tests}
 use Rattle.meaning.proofs.ModelCheck.{refutes-iff}
 use Rattle.meaning.proofs.ModelWords.{NamedFact}
@@ -15,30 +14,20 @@ use Rattle.meaning.proofs.Refusals.{unless-all}
 use Rattle.meaning.proofs.Rules.{all-at, isTrue, notTrue}
 use Rattle.meaning.specs.Answers.{Answer, answeredNo, answeredYes, refused}
 use Rattle.meaning.specs.Countermodel.{Fact, stands}
-use Rattle.meaning.specs.Interpretation.{In, Proper, Satisfies}
+use Rattle.meaning.specs.Interpretation.{Proper}
 use Rattle.meaning.specs.Lists.{All, cons, nil}
 use Rattle.meaning.specs.ModelCheck.{factAt, factFits, factKind, factNext, factsFrom, factsOf, factsRefusal, firstFact, individualCount, modelRefusal, refutes}
 use Rattle.meaning.specs.Operations.{inputRefusal, modelCheck, workRefusal}
 use Rattle.meaning.specs.Policy.{Policy, policyOf}
+use Rattle.meaning.specs.Promises.{Countered, IsRefusal, Judgement, countered, inhabited, standing, unsaidJudgement}
 use Rattle.meaning.specs.Records.{orElse}
 use Rattle.meaning.specs.Vocabulary.{Vocabulary, classCount, featureCount, roleCount, vocabularyOf}
-
--- what the words say: their interpretation satisfies the vocabulary, and its first individual is in the first policy and outside the second
-abbrev pub Countered : List ℕ → List ℕ → List ℕ → List ℕ → Type 0
-Countered v p q m =
-    let I = stands (individualCount m) (factsOf m) in
-    Satisfies I (vocabularyOf v) × In I (policyOf p) 1 × (In I (policyOf q) 1 → ⊥)
-
-pub data Judgement (v p q m : List ℕ) : Answer → Type 0 where
-  refusal : (n : ℕ) → Judgement v p q m (refused n)
-  countered : Countered v p q m → Judgement v p q m answeredYes
-  standing : (Countered v p q m → ⊥) → Judgement v p q m answeredNo
 
 module _ (v p q m : List ℕ) where
   pub check-judged : (w : ℕ) → Judgement v p q m (modelCheck v p q m w)
   unfolding modelCheck
   check-judged w =
-      unless-all (Judgement v p q m) refused (orElse (inputRefusal v p q) (orElse (modelRefusal v m) (workRefusal w))) _ refusal (λ e. go (refutes F K P Q) refl)
+      unless-all (Judgement v p q m) refused (orElse (inputRefusal v p q) (orElse (modelRefusal v m) (workRefusal w))) _ unsaidJudgement (λ e. go (refutes F K P Q) refl)
     where
       F : List Fact
       F = factsOf m
@@ -64,7 +53,7 @@ module _ (v p q m : List ℕ) where
   check-right w t = go (modelCheck v p q m w) (check-judged w) t
     where
       go : (a : Answer) → Judgement v p q m a → (IsRefusal a → ⊥) → (a ≡ answeredYes) ↔ Countered v p q m
-      go a (refusal n) t = absurd (t (n, refl))
+      go a (unsaidJudgement n) t = absurd (t (n, refl))
       go a (countered c) t = (λ e. c, λ d. refl)
       go a (standing f) t = (λ e. absurd (let z : _≡_ {A = ℕ} 0 1 = cc in omega arith), λ d. absurd (f d))
 

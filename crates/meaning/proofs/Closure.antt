@@ -5,8 +5,9 @@ use mathlib.Core.List.{[], _∷_}
 use mathlib.Core.Logic.{_↔_, _⊎_, inl, inr}
 use mathlib.Core.Path.{_≡_, refl, subst}
 use lib.Dec.{T, eqb-refl, eqb→eq}
+use Rattle.meaning.proofs.Links.{Name}
 use Rattle.meaning.proofs.Rules.{T-and, T-or, and-T, eqb-of, head, or-left, or-right, tail}
-use Rattle.meaning.proofs.Stated.{Bounded, IsClass}
+use Rattle.meaning.proofs.Stated.{Bounded}
 use Rattle.meaning.specs.Interpretation.{Interpretation, Satisfies}
 use Rattle.meaning.specs.Lists.{_∈_, here, there}
 use Rattle.meaning.specs.NormalForm.{isBelow}
@@ -107,9 +108,9 @@ pub below-iff : (K : Vocabulary) (a b : ℕ) → T (isBelow K a b) ↔ Steps K a
 below-iff K a b = (steps K a b, reached K a b)
 
 -- what lies above a class of 1 to N is one too
-pub below-bounded : {N : ℕ} {K : Vocabulary} → Bounded N K → (a b : ℕ) → IsClass N a → T (isBelow K a b) → IsClass N b
+pub below-bounded : {N : ℕ} {K : Vocabulary} → Bounded N K → (a b : ℕ) → Name N a → T (isBelow K a b) → Name N b
 below-bounded {N} {K} w a b h t = go (steps K a b t)
   where
-    go : {c : ℕ} → Steps K a c → IsClass N c
-    go (start e) = subst (λ (z : ℕ). IsClass N z) e h
+    go : {c : ℕ} → Steps K a c → Name N c
+    go (start e) = subst (λ (z : ℕ). Name N z) e h
     go (then {b = c} {c = d} s m) = w .above c d m

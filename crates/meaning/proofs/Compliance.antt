@@ -7,41 +7,31 @@ use lib.Dec.{leb, leb→le}
 use lib.ListN.{length}
 use native.Mathlib.Omega.{arith}
 use Rattle.meaning.proofs.Bounds.{bounded, bounded-terms}
-use Rattle.meaning.proofs.Containment.{Complies, Decided, FirstFailure, complies, decided, fails, refuted, sound}
+use Rattle.meaning.proofs.Containment.{Decided, allComply, decided, refuted, someFails, sound}
+use Rattle.meaning.proofs.First.{first}
+use Rattle.meaning.proofs.Interpretations.{contained-finite, tested-finite}
 use Rattle.meaning.proofs.ModelWords.{model-facts, model-individuals}
 use Rattle.meaning.proofs.Neat.{BoundedChain}
 use Rattle.meaning.proofs.Refusals.{accepted-input, cond-all, or-zero, unless-all}
 use Rattle.meaning.proofs.Rules.{any-right, isTrue}
 use Rattle.meaning.proofs.Stated.{Bounded}
-use Rattle.meaning.specs.Answers.{Answer, compliant, outside, refused}
-use Rattle.meaning.specs.Containment.{Contained, Decision, Refutes, decide, escapes, tooMany}
-use Rattle.meaning.specs.Countermodel.{Fact, canonicalModel, countermodel, individuals, stands}
+use Rattle.meaning.specs.Answers.{Answer, compliant, outside}
+use Rattle.meaning.specs.Containment.{Contained, ContainedFinite, ContainedTested, Decision, Refutes, decide, escapes, tooMany}
+use Rattle.meaning.specs.Countermodel.{Fact, canonicalModel, countermodel, individuals}
 use Rattle.meaning.specs.Lists.{All, _∈_, here}
-use Rattle.meaning.specs.ModelCheck.{factsOf, individualCount}
+use Rattle.meaning.specs.ModelCheck.{factsOf, individualCount, refutes}
 use Rattle.meaning.specs.NormalForm.{Form}
-use Rattle.meaning.specs.Operations.{Outcome, compliance, complianceOf, inputRefusal, refuses, reported, says, workRefusal}
+use Rattle.meaning.specs.Operations.{Outcome, compliance, complianceOf, inputRefusal, refuses, reported, says, workRefusal, written}
 use Rattle.meaning.specs.Policy.{Policy, policyOf}
+use Rattle.meaning.specs.Promises.{Complies, Escape, FirstFailure, IsRefusal, Told, agreed, escaped, unsaidVerdict}
 use Rattle.meaning.specs.Records.{orElse}
 use Rattle.meaning.specs.Vocabulary.{Vocabulary, classCount, vocabularyOf}
 
--- the answer is a refusal
-abbrev pub IsRefusal : Answer → Type 0
-IsRefusal a = (n : ℕ) × (a ≡ refused n)
-
--- a countermodel's words: a finite interpretation that refutes the containment, of the first combination to fail
-pub record Escape (N : ℕ) (K : Vocabulary) (P Q : Policy) (s q : ℕ) (words : List ℕ) : Type 0 where
-  pub combination : Form
-  pub first : FirstFailure K P Q s q combination
-  pub written : words ≡ countermodel N K combination
-  pub individuals-are : individualCount words ≡ individuals combination
-  pub facts-are : factsOf words ≡ canonicalModel N K combination
-  pub refutes : Refutes K P Q (individualCount words) (factsOf words)
-
--- where the first policy is contained in the second there is none
-pub no-escape : {N : ℕ} {K : Vocabulary} {P Q : Policy} {s q : ℕ} {words : List ℕ} → Contained K P Q → Escape N K P Q s q words → ⊥
+-- where the first policy is contained in the second, in finite interpretations, there is none
+pub no-escape : {N : ℕ} {K : Vocabulary} {P Q : Policy} {s q : ℕ} {words : List ℕ} → ContainedFinite K P Q → Escape N K P Q s q words → ⊥
 no-escape {words = words} c e =
     let r = e .refutes in
-    r .without (c (stands (individualCount words) (factsOf words)) (r .proper) (r .satisfies) 1
+    r .without (c (individualCount words) (factsOf words) (r .proper) (r .satisfies) 1
     (subst (λ (n : ℕ). (1 ≤ 1) × (1 ≤ n)) (sym (e .individuals-are)) (omega arith, omega arith)) (r .within))
 
 module _ (N : ℕ) (K : Vocabulary) (w : Bounded N K) where
@@ -72,17 +62,10 @@ module _ (N : ℕ) (K : Vocabulary) (w : Bounded N K) where
       fits s q words e false h = refuse 23
 
       go : (d : Decision) → Decided K 1 P Q d → R (reported N K o tell d rest)
-      go d (complies h) = yes-all h
-      go d (fails {i = i} {q = q} {u = u} h) =
+      go d (allComply h) = yes-all h
+      go d (someFails {i = i} {q = q} {u = u} h) =
           subst (λ (n : ℕ). R (reported N K o tell (escapes n (suc q) u) rest)) (omega arith)
           (fits i q (countermodel N K u) (escape P Q f h) (leb (length (countermodel N K u)) o) refl)
-
--- an answer of Compliance is right: "compliant" where the first policy is contained in the second; s and q, the first to fail, with the words written where it is not
-pub data Told (N : ℕ) (K : Vocabulary) (P Q : Policy) (o : ℕ) : Outcome → Type 1 where
-  refusal : (n : ℕ) → Told N K P Q o (refuses n)
-  agreed : Contained K P Q → Told N K P Q o (says compliant)
-  escaped : (s q : ℕ) (words : List ℕ) → Escape N K P Q s q words → length words ≤ o →
-      Told N K P Q o (record { answer = outside (suc s) (suc q) (length words); words = words })
 
 module _ (v p q : List ℕ) where
   abbrev N : ℕ
@@ -94,25 +77,32 @@ module _ (v p q : List ℕ) where
   pub compliance-told : (w o : ℕ) → Told (classCount v) (vocabularyOf v) (policyOf p) (policyOf q) o (compliance v p q w o)
   unfolding compliance complianceOf
   compliance-told w o =
-      unless-all (Told N K (policyOf p) (policyOf q) o) refuses (orElse (inputRefusal v p q) (workRefusal w)) _ refusal (λ e.
+      unless-all (Told N K (policyOf p) (policyOf q) o) refuses (orElse (inputRefusal v p q) (workRefusal w)) _ unsaidVerdict (λ e.
       let a = accepted-input v p q (or-zero (inputRefusal v p q) (workRefusal w) e .0) in
-      cond-all (Told N K (policyOf p) (policyOf q) o) (tooMany K (policyOf p) (policyOf q)) (refusal 22)
+      cond-all (Told N K (policyOf p) (policyOf q) o) (tooMany K (policyOf p) (policyOf q)) (unsaidVerdict 22)
       (reported-all N K (bounded v (a .vocabulary)) (policyOf p) (policyOf q) (bounded-terms v p (a .firstPolicy)) o outside (says compliant) (Told N K (policyOf p) (policyOf q) o)
-      refusal (λ h. agreed (sound K (policyOf p) (policyOf q) h)) escaped))
+      unsaidVerdict (λ h. agreed (sound K (policyOf p) (policyOf q) h)) escaped))
 
   -- demand 2: where a verdict is given, "compliant" if and only if the first policy is contained in the second
   pub compliant-right : (w o : ℕ) → compliance v p q w o .answer ≡ compliant → Contained (vocabularyOf v) (policyOf p) (policyOf q)
   compliant-right w o e = go (compliance v p q w o) (compliance-told w o) e
     where
       go : (r : Outcome) → Told N K (policyOf p) (policyOf q) o r → r .answer ≡ compliant → Contained K (policyOf p) (policyOf q)
-      go r (refusal n) e = absurd (let z : _≡_ {A = ℕ} 0 1 = cc in omega arith)
+      go r (unsaidVerdict n) e = absurd (let z : _≡_ {A = ℕ} 0 1 = cc in omega arith)
       go r (agreed c) e = c
       go r (escaped s k words h l) e = absurd (let z : _≡_ {A = ℕ} 0 1 = cc in omega arith)
 
-  pub contained-right : (w o : ℕ) → Contained (vocabularyOf v) (policyOf p) (policyOf q) → (IsRefusal (compliance v p q w o .answer) → ⊥) → compliance v p q w o .answer ≡ compliant
-  contained-right w o c t = go (compliance v p q w o) (compliance-told w o) t
+  -- and containment in finite interpretations is enough, and so in those given by tests, or in all
+  pub finite-right : (w o : ℕ) → ContainedFinite (vocabularyOf v) (policyOf p) (policyOf q) → (IsRefusal (compliance v p q w o .answer) → ⊥) → compliance v p q w o .answer ≡ compliant
+  finite-right w o c t = go (compliance v p q w o) (compliance-told w o) t
     where
       go : (r : Outcome) → Told N K (policyOf p) (policyOf q) o r → (IsRefusal (r .answer) → ⊥) → r .answer ≡ compliant
-      go r (refusal n) t = absurd (t (n, refl))
+      go r (unsaidVerdict n) t = absurd (t (n, refl))
       go r (agreed c) t = refl
       go r (escaped s k words h l) t = absurd (no-escape c h)
+
+  pub tested-right : (w o : ℕ) → ContainedTested (vocabularyOf v) (policyOf p) (policyOf q) → (IsRefusal (compliance v p q w o .answer) → ⊥) → compliance v p q w o .answer ≡ compliant
+  tested-right w o c = finite-right w o (tested-finite K (policyOf p) (policyOf q) c)
+
+  pub contained-right : (w o : ℕ) → Contained (vocabularyOf v) (policyOf p) (policyOf q) → (IsRefusal (compliance v p q w o .answer) → ⊥) → compliance v p q w o .answer ≡ compliant
+  contained-right w o c = finite-right w o (contained-finite c)

@@ -2,19 +2,19 @@
 -- first simple policy and its first combination that fail, and the canonical model of that combination refutes the containment.
 use Prim.Native.Nat.{_+_, suc, ℕ}
 use mathlib.Core.Bool.{Bool, cond, false, not, true}
-use mathlib.Core.List.{[], _++_, _∷_}
+use mathlib.Core.List.{[], _∷_}
 use mathlib.Core.Path.{_≡_, ap, refl, subst}
 use lib.Dec.{T, T-not}
-use lib.ListN.{length}
 use native.Mathlib.Omega.{arith}
 use Rattle.meaning.proofs.Canonical.{formed, model-proper, satisfied}
-use Rattle.meaning.proofs.First.{First, Searched, first, never, searched}
+use Rattle.meaning.proofs.First.{Searched, first, never, searched}
+use Rattle.meaning.proofs.Links.{Name, split}
 use Rattle.meaning.proofs.Neat.{BoundedChain, normal-neat}
 use Rattle.meaning.proofs.Picks.{PickedForm, Ready, combinations-picked, ready-picked}
 use Rattle.meaning.proofs.Pieces.{combinations-held}
 use Rattle.meaning.proofs.Rewriting.{holds-possible, normal-in, normal-out}
 use Rattle.meaning.proofs.Rules.{T-and, all-any, all-at, all-of, any-at, any-in, any-mono, any-out, at-any, isTrue, notTrue}
-use Rattle.meaning.proofs.Stated.{Bounded, IsClass}
+use Rattle.meaning.proofs.Stated.{Bounded}
 use Rattle.meaning.proofs.Subsumption.{subsumed-complete, subsumed-sound}
 use Rattle.meaning.specs.Containment.{Contained, ContainedFinite, Decision, Refutes, contained, decide, decideFrom, escapes, firstFailure, orEscape, passes}
 use Rattle.meaning.specs.Countermodel.{canonicalModel, individuals, stands}
@@ -22,13 +22,10 @@ use Rattle.meaning.specs.Interpretation.{Holds, In, Interpretation, Prop
 use Rattle.meaning.specs.Lists.{All, Found, _∈_, cons, firstFailing, found, nil, nowhere}
 use Rattle.meaning.specs.NormalForm.{Form, HoldsForm, blocked, cleanNode, normalForm, possible}
 use Rattle.meaning.specs.Policy.{Chain, Policy}
+use Rattle.meaning.specs.Promises.{Complies, First, FirstFailure}
 use Rattle.meaning.specs.Splitting.{combinations}
 use Rattle.meaning.specs.Subsumption.{subsumed}
 use Rattle.meaning.specs.Vocabulary.{Vocabulary}
-
--- a term complies: each of its combinations passes, where it is possible
-abbrev pub Complies : Vocabulary → Policy → Chain → Type 0
-Complies K Q p = T (possible K p) → All (λ u. T (passes K Q u)) (combinations Q (normalForm K p))
 
 passes-sound : (I : Interpretation) (K : Vocabulary) → Satisfies I K → (Q : Policy) (u : Form) (d : ℕ) → T (passes K Q u) → HoldsForm I u d → In I Q d
 unfolding passes
@@ -47,7 +44,7 @@ module _ (N : ℕ) (K : Vocabulary) (w : Bounded N K) where
   normal-ready p f t =
       let a = T-and (not (blocked p)) _ t in
       let b = T-and (cleanNode K (normalForm K p .node)) _ (a .1) in
-      record { neat = normal-neat (IsClass N) K (w .ranged) p f; clean = b .0; clean-successors = b .1 }
+      record { neat = normal-neat (Name N) K (w .ranged) p f; clean = b .0; clean-successors = b .1 }
 
   -- Lemma 1 for a combination of a possible term
   pub record Witness (Q : Policy) (p : Chain) (u : Form) : Type 0 where
@@ -96,20 +93,9 @@ module _ (N : ℕ) (K : Vocabulary) (w : Bounded N K) where
         without = λ h. T-not (passes K Q u) b (model-passes Q p u v h);
       }
 
--- simple policy p of P at the place s, and its combination u at the place q, are the first to fail
-pub record FirstFailure (K : Vocabulary) (P Q : Policy) (s q : ℕ) (u : Form) : Type 0 where
-  pub before : Policy
-  pub term : Chain
-  pub after : Policy
-  pub split : P ≡ before ++ (term ∷ after)
-  pub place : s ≡ length before
-  pub complied : All (Complies K Q) before
-  pub isPossible : T (possible K term)
-  pub combination : First (passes K Q) (combinations Q (normalForm K term)) q u
-
 pub data Decided (K : Vocabulary) (s : ℕ) (P Q : Policy) : Decision → Type 0 where
-  complies : All (Complies K Q) P → Decided K s P Q contained
-  fails : {i q : ℕ} {u : Form} → FirstFailure K P Q i q u → Decided K s P Q (escapes (s + i) (suc q) u)
+  allComply : All (Complies K Q) P → Decided K s P Q contained
+  someFails : {i q : ℕ} {u : Form} → FirstFailure K P Q i q u → Decided K s P Q (escapes (s + i) (suc q) u)
 
 data Judged (K : Vocabulary) (Q : Policy) (p : Chain) : Found Form → Type 0 where
   passing : Complies K Q p → Judged K Q p nowhere
@@ -128,13 +114,13 @@ judged K Q p = go (possible K p) refl
     go false e = passing (λ t. absurd (notTrue e t))
 
 decided-from : (K : Vocabulary) (Q : Policy) (s : ℕ) (P : Policy) → Decided K s P Q (decideFrom K Q s P)
-decided-from K Q s [] = complies nil
+decided-from K Q s [] = allComply nil
 decided-from K Q s (p ∷ P) = go (firstFailure K Q p) (judged K Q p) (decided-from K Q (suc s) P)
   where
     pass : Complies K Q p → (r : Decision) → Decided K (suc s) P Q r → Decided K s (p ∷ P) Q r
-    pass c r (complies h) = complies (cons c h)
-    pass c r (fails {i = i} {q = q} {u = u} h) =
-        subst (λ (n : ℕ). Decided K s (p ∷ P) Q (escapes n (suc q) u)) (omega arith) (fails {i = suc i} (record {
+    pass c r (allComply h) = allComply (cons c h)
+    pass c r (someFails {i = i} {q = q} {u = u} h) =
+        subst (λ (n : ℕ). Decided K s (p ∷ P) Q (escapes n (suc q) u)) (omega arith) (someFails {i = suc i} (record {
           before = p ∷ h .before;
           term = h .term;
           after = h .after;
@@ -149,7 +135,7 @@ decided-from K Q s (p ∷ P) = go (firstFailure K Q p) (judged K Q p) (decided-f
     go r (passing c) h = pass c (decideFrom K Q (suc s) P) h
     go r (failing {q = q} {u = u} t c) h =
         subst (λ (n : ℕ). Decided K s (p ∷ P) Q (escapes n (suc q) u)) (omega arith)
-        (fails {i = 0} (record { before = []; term = p; after = P; split = refl; place = refl; complied = nil; isPossible = t; combination = c }))
+        (someFails {i = 0} (record { before = []; term = p; after = P; split = refl; place = refl; complied = nil; isPossible = t; combination = c }))
 
 -- the reported s and q are the first to fail, counted from 1
 pub decided : (K : Vocabulary) (P Q : Policy) → Decided K 1 P Q (decide K P Q)

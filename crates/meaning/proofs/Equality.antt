@@ -1,19 +1,20 @@
 -- Demand 3 for the definition of Equality, from words to answers.
-use Prim.Native.Nat.{_≤_, suc, ℕ}
+use Prim.Native.Nat.{ℕ}
 use mathlib.Core.Bool.{_||_}
 use mathlib.Core.List.{List}
 use mathlib.Core.Logic.{_↔_}
 use mathlib.Core.Path.{_≡_, refl}
-use lib.ListN.{length}
 use native.Mathlib.Omega.{arith}
 use Rattle.meaning.proofs.Bounds.{bounded, bounded-terms}
-use Rattle.meaning.proofs.Compliance.{Escape, IsRefusal, compliant-right, contained-right, no-escape, reported-all}
+use Rattle.meaning.proofs.Compliance.{compliant-right, contained-right, no-escape, reported-all}
 use Rattle.meaning.proofs.Containment.{sound}
+use Rattle.meaning.proofs.Interpretations.{contained-finite}
 use Rattle.meaning.proofs.Refusals.{accepted-input, cond-all, or-zero, unless-all}
 use Rattle.meaning.specs.Answers.{compliant, differs, equal}
 use Rattle.meaning.specs.Containment.{Contained, Indistinct, tooMany}
 use Rattle.meaning.specs.Operations.{Outcome, compliance, equality, equalityOf, inputRefusal, refuses, says, workRefusal}
 use Rattle.meaning.specs.Policy.{Policy, policyOf}
+use Rattle.meaning.specs.Promises.{Compared, IsRefusal, same, side1, side2, unsaidComparison}
 use Rattle.meaning.specs.Records.{orElse}
 use Rattle.meaning.specs.Vocabulary.{Vocabulary, classCount, vocabularyOf}
 
@@ -25,15 +26,6 @@ one-way h I proper s d i = h I proper s d i .0
 
 pub other-way : {K : Vocabulary} {P Q : Policy} → Indistinct K P Q → Contained K Q P
 other-way h I proper s d i = h I proper s d i .1
-
--- an answer of Equality is right: "equal" where no interpretation tells the policies apart; a side, with the first to fail there and the words written, where one does
-pub data Compared (N : ℕ) (K : Vocabulary) (P Q : Policy) (o : ℕ) : Outcome → Type 1 where
-  refusal : (n : ℕ) → Compared N K P Q o (refuses n)
-  same : Indistinct K P Q → Compared N K P Q o (says equal)
-  side1 : (s q : ℕ) (words : List ℕ) → Escape N K P Q s q words → length words ≤ o →
-      Compared N K P Q o (record { answer = differs 1 (suc s) (suc q) (length words); words = words })
-  side2 : (s q : ℕ) (words : List ℕ) → Contained K P Q → Escape N K Q P s q words → length words ≤ o →
-      Compared N K P Q o (record { answer = differs 2 (suc s) (suc q) (length words); words = words })
 
 module _ (v p q : List ℕ) where
   abbrev N : ℕ
@@ -51,12 +43,12 @@ module _ (v p q : List ℕ) where
   pub equality-compared : (w o : ℕ) → Compared (classCount v) (vocabularyOf v) (policyOf p) (policyOf q) o (equality v p q w o)
   unfolding equality equalityOf
   equality-compared w o =
-      unless-all (Compared N K P Q o) refuses (orElse (inputRefusal v p q) (workRefusal w)) _ refusal (λ e.
+      unless-all (Compared N K P Q o) refuses (orElse (inputRefusal v p q) (workRefusal w)) _ unsaidComparison (λ e.
       let a = accepted-input v p q (or-zero (inputRefusal v p q) (workRefusal w) e .0) in
       let b = bounded v (a .vocabulary) in
-      cond-all (Compared N K P Q o) (tooMany K P Q || tooMany K Q P) (refusal 22)
-      (reported-all N K b P Q (bounded-terms v p (a .firstPolicy)) o (differs 1) _ (Compared N K P Q o) refusal (λ c.
-      reported-all N K b Q P (bounded-terms v q (a .secondPolicy)) o (differs 2) (says equal) (Compared N K P Q o) refusal
+      cond-all (Compared N K P Q o) (tooMany K P Q || tooMany K Q P) (unsaidComparison 22)
+      (reported-all N K b P Q (bounded-terms v p (a .firstPolicy)) o (differs 1) _ (Compared N K P Q o) unsaidComparison (λ c.
+      reported-all N K b Q P (bounded-terms v q (a .secondPolicy)) o (differs 2) (says equal) (Compared N K P Q o) unsaidComparison
       (λ d. same (both-ways (sound K P Q c) (sound K Q P d))) (λ s k words. side2 s k words (sound K P Q c))) side1))
 
   -- "equal" exactly when no interpretation, finite or countable, tells the two policies apart
@@ -64,7 +56,7 @@ module _ (v p q : List ℕ) where
   equal-right w o e = go (equality v p q w o) (equality-compared w o) e
     where
       go : (r : Outcome) → Compared N K P Q o r → r .answer ≡ equal → Indistinct K P Q
-      go r (refusal n) e = absurd (let z : _≡_ {A = ℕ} 0 1 = cc in omega arith)
+      go r (unsaidComparison n) e = absurd (let z : _≡_ {A = ℕ} 0 1 = cc in omega arith)
       go r (same h) e = h
       go r (side1 s k words h l) e = absurd (let z : _≡_ {A = ℕ} 0 1 = cc in omega arith)
       go r (side2 s k words c h l) e = absurd (let z : _≡_ {A = ℕ} 0 1 = cc in omega arith)
@@ -73,10 +65,10 @@ module _ (v p q : List ℕ) where
   indistinct-right w o i t = go (equality v p q w o) (equality-compared w o) t
     where
       go : (r : Outcome) → Compared N K P Q o r → (IsRefusal (r .answer) → ⊥) → r .answer ≡ equal
-      go r (refusal n) t = absurd (t (n, refl))
+      go r (unsaidComparison n) t = absurd (t (n, refl))
       go r (same h) t = refl
-      go r (side1 s k words h l) t = absurd (no-escape (one-way i) h)
-      go r (side2 s k words c h l) t = absurd (no-escape (other-way i) h)
+      go r (side1 s k words h l) t = absurd (no-escape (contained-finite (one-way i)) h)
+      go r (side2 s k words c h l) t = absurd (no-escape (contained-finite (other-way i)) h)
 
 -- "policies found equal get the same compliance verdicts with every third policy, on either side, wherever neither call is refused"
 module _ (v p q : List ℕ) (w o : ℕ) (e : equality v p q w o .answer ≡ equal) (r : List ℕ) (w₁ o₁ w₂ o₂ : ℕ) where

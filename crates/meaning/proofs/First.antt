@@ -1,22 +1,14 @@
 -- The first element of a list that fails a test: every earlier one passes.
 use Prim.Native.Nat.{_+_, suc, ℕ}
 use mathlib.Core.Bool.{Bool, cond, false, not, true}
-use mathlib.Core.List.{List, [], _++_, _∷_}
+use mathlib.Core.List.{List, [], _∷_}
 use mathlib.Core.Path.{_≡_, ap, refl, subst, sym}
 use lib.Dec.{T}
-use lib.ListN.{length}
 use native.Mathlib.Omega.{arith}
+use Rattle.meaning.proofs.Links.{passed, split}
 use Rattle.meaning.proofs.Rules.{isTrue}
 use Rattle.meaning.specs.Lists.{All, Found, cons, firstFailing, found, nil, nowhere}
-
--- x is the first element of l that fails, at the place k
-pub record First {A : Type 0} (p : A → Bool) (l : List A) (k : ℕ) (x : A) : Type 0 where
-  pub before : List A
-  pub after : List A
-  pub split : l ≡ before ++ (x ∷ after)
-  pub place : k ≡ length before
-  pub passed : All (λ y. T (p y)) before
-  pub fails : T (not (p x))
+use Rattle.meaning.specs.Promises.{First}
 
 pub data Searched {A : Type 0} (p : A → Bool) (s : ℕ) (l : List A) : Found A → Type 0 where
   never : All (λ x. T (p x)) l → Searched p s l nowhere

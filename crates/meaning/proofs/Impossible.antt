@@ -13,21 +13,16 @@ use Rattle.meaning.proofs.Neat.{BoundedChain}
 use Rattle.meaning.proofs.Rewriting.{holds-possible}
 use Rattle.meaning.proofs.Rules.{isFalse, notTrue}
 use Rattle.meaning.proofs.Stated.{Bounded}
-use Rattle.meaning.specs.Countermodel.{Fact, stands}
+use Rattle.meaning.specs.Countermodel.{stands}
+use Rattle.meaning.specs.Counting.{number}
 use Rattle.meaning.specs.Interpretation.{Holds, Interpretation, Proper, Satisfies}
 use Rattle.meaning.specs.Lists.{_∈_, here}
+use Rattle.meaning.specs.ModelCheck.{holds}
 use Rattle.meaning.specs.NormalForm.{normalForm, possible}
 use Rattle.meaning.specs.Policy.{Chain}
+use Rattle.meaning.specs.Promises.{Satisfiable}
 use Rattle.meaning.specs.Splitting.{combinations}
 use Rattle.meaning.specs.Vocabulary.{Vocabulary}
-
--- a finite interpretation that satisfies K, with individual 1 in the term
-pub record Satisfiable (K : Vocabulary) (p : Chain) : Type 0 where
-  pub individuals : ℕ
-  pub facts : List Fact
-  pub proper : Proper (stands individuals facts)
-  pub satisfies : Satisfies (stands individuals facts) K
-  pub holds : Holds (stands individuals facts) p 1
 
 -- a list with a length has a first element
 first-of : {A : Type 0} (l : List A) → 1 ≤ length l → (x : A) × (x ∈ l)
@@ -41,13 +36,13 @@ module _ (N : ℕ) (K : Vocabulary) (w : Bounded N K) (p : Chain) (b : BoundedCh
     λ t.
         let u = first-of (combinations [] (normalForm K p)) (combinations-some [] (normalForm K p)) in
         let v = witness N K w [] p b t (u .0) (u .1) in
-        record { individuals = _; facts = _; proper = v .proper; satisfies = v .satisfies; holds = v .holds },
-    λ m. holds-possible (stands (m .individuals) (m .facts)) K (m .satisfies) p 1 (m .holds),
+        record { number = _; facts = _; proper = v .proper; satisfies = v .satisfies; holds = v .holds },
+    λ m. holds-possible (stands (m .number) (m .facts)) K (m .satisfies) p 1 (m .holds),
   )
 
   -- impossible means that no interpretation has one
   pub impossible-iff : (possible K p ≡ false) ↔ ((I : Interpretation) → Proper I → Satisfies I K → (d : ℕ) → Holds I p d → ⊥)
   impossible-iff = (
     λ e I proper s d h. notTrue e (holds-possible I K s p d h),
-    λ f. isFalse (possible K p) (λ t. let m = possible-iff .0 t in f (stands (m .individuals) (m .facts)) (m .proper) (m .satisfies) 1 (m .holds)),
+    λ f. isFalse (possible K p) (λ t. let m = possible-iff .0 t in f (stands (m .number) (m .facts)) (m .proper) (m .satisfies) 1 (m .holds)),
   )

@@ -6,7 +6,7 @@ use mathlib.Core.Logic.{_↔_}
 use mathlib.Core.Path.{_≡_, subst, sym}
 use lib.Dec.{eqb, eqb-refl, eqb→eq, leb, leb→le, le→leb}
 use native.Mathlib.Omega.{arith}
-use Rattle.meaning.proofs.Containment.{Complies, complete, sound}
+use Rattle.meaning.proofs.Containment.{complete, sound}
 use Rattle.meaning.proofs.ModelCheck.{edge-is, is-edge, is-member, is-value, member-is, value-is}
 use Rattle.meaning.proofs.Neat.{BoundedChain}
 use Rattle.meaning.proofs.Rules.{T-and, all-mono, and-T, any-in, any-mono, any-out}
@@ -17,6 +17,7 @@ use Rattle.meaning.specs.Interpretation.{Holds, In, Interpretation, Obey
 use Rattle.meaning.specs.Lists.{All, any}
 use Rattle.meaning.specs.ModelCheck.{hasWithin, isMember, reaches}
 use Rattle.meaning.specs.Policy.{Chain, Policy, class, end, impossible, interval, some}
+use Rattle.meaning.specs.Promises.{Complies, inhabited}
 use Rattle.meaning.specs.Vocabulary.{Axiom, Vocabulary, below, disjoint, functionalFeature, functionalRole, range}
 
 -- one interpretation says what another says
@@ -93,6 +94,9 @@ tested-finite K P Q c n F p s d i h =
     let J = interpreted (testsOf n F) in
     let g = facts-agree n F in
     agree-in J I (agree-back I J g) Q d (c (testsOf n F) (agree-proper I J g p) (agree-satisfies I J g K s) d (g .individuals d .0 i) (agree-in I J g P d h))
+
+pub contained-finite : {K : Vocabulary} {P Q : Policy} → Contained K P Q → ContainedFinite K P Q
+contained-finite c n F = c (stands n F)
 
 -- all of them, those given by tests, finite ones, and the combinations
 pub record OneContainment (K : Vocabulary) (P Q : Policy) : Type 1 where

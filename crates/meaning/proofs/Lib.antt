@@ -27,6 +27,7 @@ pub mod Terms
 pub mod Wellformed
 pub mod Bounds
 pub mod Refusals
+pub mod Possible
 pub mod Compliance
 pub mod Equality
 pub mod Checking

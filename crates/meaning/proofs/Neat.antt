@@ -4,8 +4,9 @@ use mathlib.Core.Bool.{Bool, _&&_, cond, false, true}
 use mathlib.Core.List.{List, [], _∷_}
 use mathlib.Core.Path.{_≡_, refl, subst, sym}
 use lib.Dec.{T, eqb}
+use Rattle.meaning.proofs.Links.{Name}
 use Rattle.meaning.proofs.Rules.{all-mono, all-of, and-T, eqb-of, head, notTrue, tail}
-use Rattle.meaning.proofs.Stated.{IsClass, ranges-out}
+use Rattle.meaning.proofs.Stated.{ranges-out}
 use Rattle.meaning.specs.Lists.{All, _∈_, cons, nil, there}
 use Rattle.meaning.specs.NormalForm.{Form, Interval, Node, Successors, add, bare, graft, meet, none, normalForm, placeInterval, placeSuccessor, ranges, single, singleFeature, successor, withClass, withInterval, withSuccessor}
 use Rattle.meaning.specs.Policy.{Chain, class, end, impossible, interval, some}
@@ -45,7 +46,7 @@ ClassesIn B (interval f lo hi next) = ClassesIn B next
 
 -- they are among 1 to N
 abbrev pub BoundedChain : ℕ → Chain → Type 0
-BoundedChain N p = ClassesIn (IsClass N) p
+BoundedChain N p = ClassesIn (Name N) p
 
 -- rule 5
 away-place : (f : ℕ) (one : Bool) (s : Interval) → (f ≡ s .feature → ⊥) → (l : List Interval) →

@@ -4,10 +4,11 @@ use mathlib.Core.Bool.{not}
 use mathlib.Core.List.{List, [], _∷_}
 use mathlib.Core.Path.{_∙_, _≡_, refl, subst, sym}
 use lib.Dec.{T, T-not, leb, leb→le, le→leb}
+use Rattle.meaning.proofs.Bounds.{bounded}
+use Rattle.meaning.proofs.Links.{Name}
 use Rattle.meaning.proofs.Neat.{Distinct, Fresh, Neat, NeatForm, NeatNode}
 use Rattle.meaning.proofs.Points.{Part, pieces-part}
 use Rattle.meaning.proofs.Rules.{T-and, all-any, all-flatMap, all-in, all-map, all-mono, all-out, and-T, any-in, at-any, head, tail}
-use Rattle.meaning.proofs.Stated.{IsClass}
 use Rattle.meaning.specs.Lists.{All, Any, _∈_, all, cons, nil}
 use Rattle.meaning.specs.NormalForm.{Form, Interval, Node, Successors, clash, cleanNode, cleanSuccessors, compatible, filled, isBelow, none, ranges, separates, singleFeature, successor}
 use Rattle.meaning.specs.Policy.{Policy}
@@ -83,10 +84,10 @@ module _ {Q : Policy} where
   fresh-picked r (picked a b c) h = (h .0, fresh-picked r c (h .1))
 
   module _ (N : ℕ) (K : Vocabulary) where
-    neat-node : (n m : Node) → PickedNode Q n m → NeatNode (IsClass N) K n → NeatNode (IsClass N) K m
-    neat-node n m p h = record { bounded = subst (All (IsClass N)) (p .classes) (h .bounded); distinct = distinct-picked K (p .intervals) (h .distinct) }
+    neat-node : (n m : Node) → PickedNode Q n m → NeatNode (Name N) K n → NeatNode (Name N) K m
+    neat-node n m p h = record { bounded = subst (All (Name N)) (p .classes) (h .bounded); distinct = distinct-picked K (p .intervals) (h .distinct) }
 
-    neat-picked : {under inner : Successors} → Picked Q under inner → Neat (IsClass N) K under → Neat (IsClass N) K inner
+    neat-picked : {under inner : Successors} → Picked Q under inner → Neat (Name N) K under → Neat (Name N) K inner
     neat-picked none-picked h = tt
     neat-picked (picked {r = r} {n = n} {m = m} a b c) h = (
       λ t. fresh-picked r c (h .0 t),
@@ -114,7 +115,7 @@ module _ {Q : Policy} where
 
 -- a form to be modelled: neat, with no clash at any individual
 pub record Ready (N : ℕ) (K : Vocabulary) (t : Form) : Type 0 where
-  pub neat : NeatForm (IsClass N) K t
+  pub neat : NeatForm (Name N) K t
   pub clean : T (cleanNode K (t .node))
   pub clean-successors : T (cleanSuccessors K (t .successors))
 

@@ -6,11 +6,11 @@ use mathlib.Core.Logic.{_⊎_, inl, inr}
 use mathlib.Core.Path.{_∙_, _≡_, ap, refl, subst, sym}
 use lib.Dec.{T, eqb, eqb-refl, eqb→eq}
 use native.Mathlib.Omega.{arith}
+use Rattle.meaning.proofs.Links.{Name}
 use Rattle.meaning.proofs.Neat.{Neat}
 use Rattle.meaning.proofs.Pairs.{pairs-in}
 use Rattle.meaning.proofs.Picks.{Ready}
 use Rattle.meaning.proofs.Rules.{T-and, all-append, all-filter, all-map, all-mono, all-of, any-mono, any-out}
-use Rattle.meaning.proofs.Stated.{IsClass}
 use Rattle.meaning.specs.Countermodel.{Fact, canonicalModel, classesAbove, edge, edges, member, pairs, recordsBelow, size, value}
 use Rattle.meaning.specs.Lists.{All, Any, any, cons, counting, nil}
 use Rattle.meaning.specs.NormalForm.{Form, Node, Successors, cleanNode, cleanSuccessors, isBelow, none, successor}
@@ -75,7 +75,7 @@ module _ (N : ℕ) (K : Vocabulary) where
     keeps : (j : ℕ) → j < k → to j ≡ h j
     true-for : (g : ℕ → Place N K) → ((j : ℕ) → j < k + size under → g j ≡ to j) → All (True g) (edges under i k) × All (True g) (recordsBelow N K under k)
 
-  extend : (under : Successors) (i k : ℕ) (h : ℕ → Place N K) → i < k → Neat (IsClass N) K under → T (cleanSuccessors K under) →
+  extend : (under : Successors) (i k : ℕ) (h : ℕ → Place N K) → i < k → Neat (Name N) K under → T (cleanSuccessors K under) →
       ((r j : ℕ) (y : Place N K) → Child r j y under k → Child r j y (h i .successors) (h i .start)) → Extends under i k h
   extend none i k h a b c f = record { to = h; keeps = λ j d. refl; true-for = λ g d. (nil, nil) }
   extend (successor r n under next) i k h a b c f =

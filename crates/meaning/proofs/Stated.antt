@@ -1,10 +1,11 @@
 -- What a vocabulary states: which roles and features have one value, and the ranges of a role.
-use Prim.Native.Nat.{_≤_, ℕ}
+use Prim.Native.Nat.{ℕ}
 use mathlib.Core.Bool.{Bool, cond, false, true}
 use mathlib.Core.List.{[], _∷_}
 use mathlib.Core.Logic.{_⊎_, inl, inr}
 use mathlib.Core.Path.{_≡_, ap₂, refl, subst, sym}
 use lib.Dec.{T, eqb, eqb-refl, eqb→eq}
+use Rattle.meaning.proofs.Links.{Name}
 use Rattle.meaning.proofs.Rules.{all-any, any-cases, any-in, any-none, any-out, at-any}
 use Rattle.meaning.specs.Interpretation.{Interpretation, Obeys, Satisfies}
 use Rattle.meaning.specs.Lists.{_∈_, here, there}
@@ -78,9 +79,6 @@ ranges-in {r = r} {c = c} (there {x = x} {l = K} m) = more x (ranges-in m)
         go false = k
 
 -- the classes that a vocabulary gives are among 1 to N
-abbrev pub IsClass : ℕ → ℕ → Type 0
-IsClass N c = (1 ≤ c) × (c ≤ N)
-
 pub record Bounded (N : ℕ) (K : Vocabulary) : Type 0 where
-  pub above : (a b : ℕ) → below a b ∈ K → IsClass N b
-  pub ranged : (r c : ℕ) → range r c ∈ K → IsClass N c
+  pub above : (a b : ℕ) → below a b ∈ K → Name N b
+  pub ranged : (r c : ℕ) → range r c ∈ K → Name N c

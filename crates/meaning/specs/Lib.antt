@@ -14,6 +14,7 @@ pub mod Containment
 pub mod ModelCheck
 pub mod Answers
 pub mod Operations
+pub mod Promises
 pub mod Reached
 pub mod Program
 pub mod Examples
