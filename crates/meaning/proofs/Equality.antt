@@ -8,10 +8,10 @@ use native.Mathlib.Omega.{arith}
 use Rattle.meaning.proofs.Bounds.{bounded, bounded-terms}
 use Rattle.meaning.proofs.Compliance.{compliant-right, contained-right, no-escape, reported-all}
 use Rattle.meaning.proofs.Containment.{sound}
-use Rattle.meaning.proofs.Interpretations.{contained-finite}
+use Rattle.meaning.proofs.Interpretations.{contained-finite, tested-finite}
 use Rattle.meaning.proofs.Refusals.{accepted-input, cond-all, or-zero, unless-all}
 use Rattle.meaning.specs.Answers.{compliant, differs, equal}
-use Rattle.meaning.specs.Containment.{Contained, Indistinct, tooMany}
+use Rattle.meaning.specs.Containment.{Contained, ContainedFinite, Indistinct, IndistinctTested, tooMany}
 use Rattle.meaning.specs.Operations.{Outcome, compliance, equality, equalityOf, inputRefusal, refuses, says, workRefusal}
 use Rattle.meaning.specs.Policy.{Policy, policyOf}
 use Rattle.meaning.specs.Promises.{Compared, IsRefusal, same, side1, side2, unsaidComparison}
@@ -61,14 +61,23 @@ module _ (v p q : List ℕ) where
       go r (side1 s k words h l) e = absurd (let z : _≡_ {A = ℕ} 0 1 = cc in omega arith)
       go r (side2 s k words c h l) e = absurd (let z : _≡_ {A = ℕ} 0 1 = cc in omega arith)
 
-  pub indistinct-right : (w o : ℕ) → Indistinct (vocabularyOf v) (policyOf p) (policyOf q) → (IsRefusal (equality v p q w o .answer) → ⊥) → equality v p q w o .answer ≡ equal
-  indistinct-right w o i t = go (equality v p q w o) (equality-compared w o) t
+  -- that no finite interpretation tells them apart is enough, and so that none given by tests does, or none at all
+  pub finite-equal : (w o : ℕ) → ContainedFinite (vocabularyOf v) (policyOf p) (policyOf q) → ContainedFinite (vocabularyOf v) (policyOf q) (policyOf p) →
+      (IsRefusal (equality v p q w o .answer) → ⊥) → equality v p q w o .answer ≡ equal
+  finite-equal w o c d t = go (equality v p q w o) (equality-compared w o) t
     where
       go : (r : Outcome) → Compared N K P Q o r → (IsRefusal (r .answer) → ⊥) → r .answer ≡ equal
       go r (unsaidComparison n) t = absurd (t (n, refl))
       go r (same h) t = refl
-      go r (side1 s k words h l) t = absurd (no-escape (contained-finite (one-way i)) h)
-      go r (side2 s k words c h l) t = absurd (no-escape (contained-finite (other-way i)) h)
+      go r (side1 s k words h l) t = absurd (no-escape c h)
+      go r (side2 s k words e h l) t = absurd (no-escape d h)
+
+  pub tested-equal : (w o : ℕ) → IndistinctTested (vocabularyOf v) (policyOf p) (policyOf q) → (IsRefusal (equality v p q w o .answer) → ⊥) → equality v p q w o .answer ≡ equal
+  tested-equal w o i =
+      finite-equal w o (tested-finite K P Q (λ M proper s d e. i M proper s d e .0)) (tested-finite K Q P (λ M proper s d e. i M proper s d e .1))
+
+  pub indistinct-right : (w o : ℕ) → Indistinct (vocabularyOf v) (policyOf p) (policyOf q) → (IsRefusal (equality v p q w o .answer) → ⊥) → equality v p q w o .answer ≡ equal
+  indistinct-right w o i = finite-equal w o (contained-finite (one-way i)) (contained-finite (other-way i))
 
 -- "policies found equal get the same compliance verdicts with every third policy, on either side, wherever neither call is refused"
 module _ (v p q : List ℕ) (w o : ℕ) (e : equality v p q w o .answer ≡ equal) (r : List ℕ) (w₁ o₁ w₂ o₂ : ℕ) where
