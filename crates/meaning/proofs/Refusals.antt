@@ -38,3 +38,8 @@ unless-all P refuse (suc n) later f g = f (suc n)
 pub cond-all {ℓ} : {A : Type 0} (P : A → Type ℓ) (b : Bool) {x y : A} → P x → P y → P (cond b x y)
 cond-all P true h k = h
 cond-all P false h k = k
+
+-- a number that is not 0 is the refusal
+pub unless-some : {A : Type 0} (refuse : ℕ → A) (n : ℕ) (later : A) → (n ≡ 0 → ⊥) → refuse n ≡ unless refuse n later
+unless-some refuse zero later h = absurd (h refl)
+unless-some refuse (suc n) later h = refl

@@ -1,0 +1,48 @@
+// What the tables of records share: a word, a name, a link, a length, an answer.
+use meaning::Reading;
+ghost use mathlib.Core.Path.{_≡_};
+ghost use Prim.Native.Nat.{_≤_, _<_};
+ghost use lib.ListN.{getD, length};
+ghost use Rattle.meaning.specs.Records.{lastOf, linked, named, sized};
+ghost use Rattle.meaning.specs.Answers.{readingAnswer, refused, accepted};
+ghost use Rattle.meaning.specs.Operations.{unless};
+
+// A word of a table. Past the end stands 0, so that reading asks nothing of the caller.
+pub fn word(l: &[u32], i: usize) -> u32
+    ensures { λ r. ⌜ r ≡ getD (now (l .entry)) i 0 ⌝ }
+{
+    if i < l.len() { l[i] } else { 0 }
+}
+
+// Names count from 1 in each series.
+pub fn within(count: u32, x: u32) -> bool
+    ensures { λ r. ⌜ r ≡ named count x ⌝ }
+{
+    1 <= x && x <= count
+}
+
+// A link only goes onward, so no chain comes back.
+pub fn links(last: usize, k: u32, next: u32) -> bool
+    ensures { λ r. ⌜ r ≡ linked last k next ⌝ }
+{
+    next == 0 || k < next && next as usize <= last
+}
+
+// A header and records, of one width, and not too many.
+pub fn is_sized(width: usize, most: usize, n: usize) -> bool
+    requires { ⌜ 0 < width ⌝ }
+    ensures { λ r. ⌜ r ≡ sized width most n ⌝ }
+{
+    n % width == 0 && (width <= n && n <= most)
+}
+
+// The answer of a reader whose first refusal has this number, 0 for none.
+pub fn reading(refusal: u32) -> Reading
+    ensures { λ r. ⌜ readingAnswer r ≡ unless refused refusal accepted ⌝ }
+{
+    if refusal == 0 {
+        Reading::Accepted
+    } else {
+        Reading::Refused(refusal)
+    }
+}

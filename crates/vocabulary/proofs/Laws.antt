@@ -1,0 +1,152 @@
+-- Laws of the definitions, over plain lists and numbers: what a function's proof cites at its returns.
+use Prim.Native.Nat.{_<_, _≤_, suc, zero, ℕ}
+use mathlib.Core.Bool.{Bool, _&&_, and-false, and-true, cond, false, not, true}
+use mathlib.Core.List.{List}
+use mathlib.Core.Path.{_∙_, _≡_, ap, refl, sym}
+use lib.Dec.{eqb, leb}
+use lib.ListN.{length}
+use native.Mathlib.Omega.{arith}
+use borrow.Author.Tests.{le-leb, lt-leb, ne-eqb, not-false, not-true}
+use Rattle.meaning.proofs.Links.{Enough, Onward, bounds, enough-end, falling, falling-le, falls, onward-le, passed, tests}
+use Rattle.meaning.specs.Answers.{Answer, accepted, refused}
+use Rattle.meaning.specs.Operations.{readVocabulary, unless}
+use Rattle.meaning.specs.Records.{lastOf, linked, named, sized}
+use Rattle.meaning.specs.Vocabulary.{axiomFits, axiomKind, axiomLeft, axiomNext, axiomRight, axiomsRefusal, classCount, featureCount, firstAxiom, headedVocabulary, mostClasses, roleCount, soundAxiom, vocabularyRefusal}
+
+-- ---- the header: its four tests in order, each with those before it
+
+module _ (v : List ℕ) {N : ℕ} {t : Bool} (eN : N ≡ classCount v) (et : t ≡ named mostClasses N) where
+  pub header-classes : t ≡ false → t ≡ headedVocabulary v
+  header-classes h = rw (sym eN, sym et, h)
+
+  module _ {R : ℕ} (h : t ≡ true) (eR : R ≡ roleCount v) where
+    pub header-roles : 64 < R → leb R 64 ≡ headedVocabulary v
+    header-roles g = rw (sym eN, sym et, h, sym eR, lt-leb R 64 g)
+
+    module _ {F : ℕ} (g : R ≤ 64) (eF : F ≡ featureCount v) where
+      pub header-features : 64 < F → leb F 64 ≡ headedVocabulary v
+      header-features f = rw (sym eN, sym et, h, sym eR, le-leb R 64 g, sym eF, lt-leb F 64 f)
+
+      pub header-first : {x l : ℕ} → F ≤ 64 → x ≡ firstAxiom v → l ≡ lastOf 4 v → leb x l ≡ headedVocabulary v
+      header-first f ex el = rw (sym eN, sym et, h, sym eR, le-leb R 64 g, sym eF, le-leb F 64 f, ex, el)
+
+-- ---- a record
+
+-- the refusal of record k; 0 is none
+abbrev Refuses : List ℕ → ℕ → ℕ → Type 0
+Refuses v k r = r ≡ cond (soundAxiom v k) 0 3
+
+-- t is the test of record k's link
+module _ (v : List ℕ) (k : ℕ) {l x : ℕ} {t : Bool} (p : l ≡ lastOf 4 v) (q : x ≡ axiomNext v k) (e : t ≡ linked l k x) where
+  link : t ≡ linked (lastOf 4 v) k (axiomNext v k)
+  link = rw (sym p, sym q) e
+
+  pub bad-link : not t ≡ true → Refuses v k 3
+  bad-link h = rw (sym link ∙ not-true t h, and-false (axiomFits v k))
+
+  -- and kind, a and b are its other words
+  module _ {kind a b : ℕ} (h : not t ≡ false) (ek : kind ≡ axiomKind v k) (ea : a ≡ axiomLeft v k) (eb : b ≡ axiomRight v k) where
+    fitted : {r : ℕ} (f : Bool) → r ≡ cond f 0 3 → f ≡ axiomFits v k → Refuses v k r
+    fitted f c g = c ∙ rw (sym link ∙ not-false t h, and-true (axiomFits v k), sym g)
+
+    pub unknown : (kind ≡ 1 → ⊥) → (kind ≡ 2 → ⊥) → (kind ≡ 3 → ⊥) → (kind ≡ 4 → ⊥) → (kind ≡ 5 → ⊥) → Refuses v k 3
+    unknown n₁ n₂ n₃ n₄ n₅ = fitted false refl (rw (sym ek, ne-eqb kind 1 n₁, ne-eqb kind 2 n₂, ne-eqb kind 3 n₃, ne-eqb kind 4 n₄, ne-eqb kind 5 n₅))
+
+    -- the two tests of a kind
+    module _ {f : Bool} {r : ℕ} where
+      module _ {g : Bool} (c : r ≡ cond (f && g) 0 3) where
+        pub below-fits : kind ≡ 1 → f ≡ named (classCount v) a → g ≡ named (classCount v) b → Refuses v k r
+        below-fits z m n = fitted (f && g) c (rw (sym ek ∙ z, sym ea, sym eb, m, n))
+
+        pub disjoint-fits : kind ≡ 2 → f ≡ named (classCount v) a → g ≡ named (classCount v) b → Refuses v k r
+        disjoint-fits z m n = fitted (f && g) c (rw (sym ek ∙ z, sym ea, sym eb, m, n))
+
+        pub range-fits : kind ≡ 5 → f ≡ named (roleCount v) a → g ≡ named (classCount v) b → Refuses v k r
+        range-fits z m n = fitted (f && g) c (rw (sym ek ∙ z, sym ea, sym eb, m, n))
+
+      module _ (c : r ≡ cond (f && eqb b 0) 0 3) where
+        pub role-fits : kind ≡ 3 → f ≡ named (roleCount v) a → Refuses v k r
+        role-fits z m = fitted (f && eqb b 0) c (rw (sym ek ∙ z, sym ea, sym eb, m))
+
+        pub feature-fits : kind ≡ 4 → f ≡ named (featureCount v) a → Refuses v k r
+        feature-fits z m = fitted (f && eqb b 0) c (rw (sym ek ∙ z, sym ea, sym eb, m))
+
+-- ---- the chain
+
+-- the walk from the first record on has come to k: the refusal is that of the chain from k on, for which the fuel is enough
+pub record Walking (v : List ℕ) (k : ℕ) : Type 0 where
+  pub fuel : ℕ
+  pub enough : Enough (lastOf 4 v) fuel k
+  pub same : axiomsRefusal (length v) v (firstAxiom v) ≡ axiomsRefusal fuel v k
+
+pub walking-starts : {v : List ℕ} {k : ℕ} → k ≡ firstAxiom v → firstAxiom v ≤ lastOf 4 v → Walking v k
+walking-starts {v} {k} e h = record { fuel = length v; enough = (omega arith, omega (arith, falling-le (lastOf 4 v) k)); same = rw e }
+
+pub walking-ends : {v : List ℕ} {k : ℕ} → Walking v k → k ≡ 0 → 0 ≡ axiomsRefusal (length v) v (firstAxiom v)
+walking-ends {v} {k} w z = sym (w .same ∙ end (w .fuel))
+  where
+    end : (f : ℕ) → axiomsRefusal f v k ≡ 0
+    end zero = refl
+    end (suc f) = rw z
+
+module _ {v : List ℕ} {k r : ℕ} (w : Walking v k) (n : k ≡ 0 → ⊥) (e : Refuses v k r) where
+  pub walking-stops : (r ≡ 0 → ⊥) → r ≡ axiomsRefusal (length v) v (firstAxiom v)
+  walking-stops z = go (w .fuel) (w .enough) (w .same)
+    where
+      stop : (b : Bool) (x : ℕ) → r ≡ cond b 0 3 → r ≡ cond b x 3
+      stop true x e = absurd (z e)
+      stop false x e = e
+
+      go : (f : ℕ) → Enough (lastOf 4 v) f k → axiomsRefusal (length v) v (firstAxiom v) ≡ axiomsRefusal f v k → r ≡ axiomsRefusal (length v) v (firstAxiom v)
+      go zero h s = absurd (n (enough-end _ k h))
+      go (suc f) h s = rw (s, ne-eqb k 0 n) (stop (soundAxiom v k) (axiomsRefusal f v (axiomNext v k)) e)
+
+  module _ {x : ℕ} (z : r ≡ 0) (p : x ≡ axiomNext v k) where
+    sound : soundAxiom v k ≡ true
+    sound = passed 2 (soundAxiom v k) 0 .0 (sym e ∙ z) .0
+
+    onward : Onward (lastOf 4 v) k x
+    onward = let u = simp tests at sound in rw p (u .1)
+
+    pub walking-falls : falling (lastOf 4 v) x < falling (lastOf 4 v) k
+    walking-falls = falls (lastOf 4 v) k x (omega arith, w .enough .0) onward
+
+    pub walking-on : Walking v x
+    walking-on = go (w .fuel) (w .enough) (w .same)
+      where
+        go : (f : ℕ) → Enough (lastOf 4 v) f k → axiomsRefusal (length v) v (firstAxiom v) ≡ axiomsRefusal f v k → Walking v x
+        go zero h s = absurd (n (enough-end _ k h))
+        go (suc f) h s = record { fuel = f; enough = (onward-le _ k x onward, omega (arith, walking-falls)); same = s ∙ rw (ne-eqb k 0 n, sound, p) }
+
+-- ---- the whole
+
+module _ (v : List ℕ) {t : Bool} (e : t ≡ headedVocabulary v) (h : not t ≡ false) where
+  right-header : headedVocabulary v ≡ true
+  right-header = sym e ∙ not-false t h
+
+  pub first : firstAxiom v ≤ lastOf 4 v
+  first = let u = simp bounds at right-header in u .1 .1 .1
+
+module _ (v : List ℕ) {t : Bool} (e : t ≡ sized 4 4100 (length v)) where
+  pub wrong-size : not t ≡ true → 1 ≡ vocabularyRefusal v
+  unfolding vocabularyRefusal
+  wrong-size h = rw (sym e ∙ not-true t h)
+
+  module _ (h : not t ≡ false) where
+    right-size : sized 4 4100 (length v) ≡ true
+    right-size = sym e ∙ not-false t h
+
+    pub least : 4 ≤ length v
+    least = let u = simp bounds at right-size in u .1 .0
+
+    pub wrong-header : {s : Bool} → s ≡ headedVocabulary v → not s ≡ true → 2 ≡ vocabularyRefusal v
+    unfolding vocabularyRefusal
+    wrong-header {s} f g = rw (right-size, sym f ∙ not-true s g)
+
+    pub chained : {s : Bool} {r : ℕ} → s ≡ headedVocabulary v → not s ≡ false → r ≡ axiomsRefusal (length v) v (firstAxiom v) → r ≡ vocabularyRefusal v
+    unfolding vocabularyRefusal
+    chained f g p = rw (right-size, right-header v f g) p
+
+pub told : (v : List ℕ) {r : ℕ} {a : Answer} → r ≡ vocabularyRefusal v → a ≡ unless refused r accepted → a ≡ readVocabulary v
+unfolding readVocabulary
+told v e h = h ∙ ap (λ (n : ℕ). unless refused n accepted) e

@@ -1,0 +1,165 @@
+// Read vocabulary: records of four words behind a header, chained by links that rise.
+use meaning::ClassNo;
+use meaning::FeatureNo;
+use meaning::Reading;
+use meaning::RoleNo;
+use records::links;
+use records::within;
+use records::word;
+ghost use mathlib.Core.Path.{_≡_};
+ghost use mathlib.Core.Bool.{_&&_, cond};
+ghost use Prim.Native.Nat.{_≤_};
+ghost use lib.ListN.{getD, length};
+ghost use Rattle.meaning.specs.Records.{lastOf, linked, named, sized};
+ghost use Rattle.meaning.specs.Vocabulary.{axiomKind, axiomLeft, axiomNext, axiomRight, axiomsRefusal, classCount, featureCount, firstAxiom, headedVocabulary, roleCount, soundAxiom, vocabularyRefusal};
+ghost use Rattle.meaning.specs.Answers.{readingAnswer};
+ghost use Rattle.meaning.specs.Operations.{readVocabulary};
+
+// The most classes a vocabulary may count.
+const MOST_CLASSES: u32 = 256;
+
+pub fn class_count(v: &[u32]) -> u32
+    ensures { λ r. ⌜ r ≡ classCount (now (v .entry)) ⌝ }
+{
+    word(v, 0)
+}
+
+pub fn role_count(v: &[u32]) -> u32
+    ensures { λ r. ⌜ r ≡ roleCount (now (v .entry)) ⌝ }
+{
+    word(v, 1)
+}
+
+pub fn feature_count(v: &[u32]) -> u32
+    ensures { λ r. ⌜ r ≡ featureCount (now (v .entry)) ⌝ }
+{
+    word(v, 2)
+}
+
+pub fn first_axiom(v: &[u32]) -> u32
+    ensures { λ r. ⌜ r ≡ firstAxiom (now (v .entry)) ⌝ }
+{
+    word(v, 3)
+}
+
+pub fn axiom_kind(v: &[u32], k: u32) -> u32
+    ensures { λ r. ⌜ r ≡ axiomKind (now (v .entry)) k ⌝ }
+{
+    word(v, 4 * (k as usize))
+}
+
+pub fn axiom_left(v: &[u32], k: u32) -> u32
+    ensures { λ r. ⌜ r ≡ axiomLeft (now (v .entry)) k ⌝ }
+{
+    word(v, 4 * (k as usize) + 1)
+}
+
+pub fn axiom_right(v: &[u32], k: u32) -> u32
+    ensures { λ r. ⌜ r ≡ axiomRight (now (v .entry)) k ⌝ }
+{
+    word(v, 4 * (k as usize) + 2)
+}
+
+pub fn axiom_next(v: &[u32], k: u32) -> u32
+    ensures { λ r. ⌜ r ≡ axiomNext (now (v .entry)) k ⌝ }
+{
+    word(v, 4 * (k as usize) + 3)
+}
+
+pub fn is_class(v: &[u32], c: ClassNo) -> bool
+    ensures { λ r. ⌜ r ≡ named (classCount (now (v .entry))) (c .0) ⌝ }
+{
+    within(class_count(v), c.0)
+}
+
+pub fn is_role(v: &[u32], p: RoleNo) -> bool
+    ensures { λ r. ⌜ r ≡ named (roleCount (now (v .entry))) (p .0) ⌝ }
+{
+    within(role_count(v), p.0)
+}
+
+pub fn is_feature(v: &[u32], f: FeatureNo) -> bool
+    ensures { λ r. ⌜ r ≡ named (featureCount (now (v .entry))) (f .0) ⌝ }
+{
+    within(feature_count(v), f.0)
+}
+
+// The header is record 0.
+fn last_axiom(v: &[u32]) -> usize
+    requires { ⌜ 4 ≤ length (now v) ⌝ }
+    ensures { λ r. ⌜ r ≡ lastOf 4 (now (v .entry)) ⌝ }
+{
+    v.len() / 4 - 1
+}
+
+fn is_headed(v: &[u32]) -> bool
+    requires { ⌜ 4 ≤ length (now v) ⌝ }
+    ensures { λ r. ⌜ r ≡ headedVocabulary (now (v .entry)) ⌝ }
+{
+    within(MOST_CLASSES, class_count(v))
+        && (role_count(v) <= 64
+            && (feature_count(v) <= 64 && first_axiom(v) as usize <= last_axiom(v)))
+}
+
+// A record names two things, and both must be right.
+fn refused_unless(left: bool, right: bool) -> u32
+    ensures { λ r. ⌜ r ≡ cond (left && right) 0 3 ⌝ }
+{
+    if left && right { 0 } else { 3 }
+}
+
+// Record k's kind, names, zeros and link.
+fn axiom_refusal(v: &[u32], k: u32) -> u32
+    requires { ⌜ 4 ≤ length (now v) ⌝ }
+    ensures { λ r. ⌜ r ≡ cond (soundAxiom (now (v .entry)) k) 0 3 ⌝ }
+{
+    if !links(last_axiom(v), k, axiom_next(v, k)) {
+        return 3;
+    }
+    let kind = axiom_kind(v, k);
+    let a = axiom_left(v, k);
+    let b = axiom_right(v, k);
+    match kind {
+        1 => refused_unless(is_class(v, ClassNo(a)), is_class(v, ClassNo(b))),
+        2 => refused_unless(is_class(v, ClassNo(a)), is_class(v, ClassNo(b))),
+        3 => refused_unless(is_role(v, RoleNo(a)), b == 0),
+        4 => refused_unless(is_feature(v, FeatureNo(a)), b == 0),
+        5 => refused_unless(is_role(v, RoleNo(a)), is_class(v, ClassNo(b))),
+        _ => 3,
+    }
+}
+
+// The first refusal along the chain, which ends: a link that does not rise is refused before it is followed.
+fn axioms_refusal(v: &[u32]) -> u32
+    requires { ⌜ (4 ≤ length (now v)) × (firstAxiom (now v) ≤ lastOf 4 (now v)) ⌝ }
+    ensures { λ r. ⌜ r ≡ axiomsRefusal (length (now (v .entry))) (now (v .entry)) (firstAxiom (now (v .entry))) ⌝ }
+{
+    let mut k = first_axiom(v);
+    while k != 0 {
+        let refusal = axiom_refusal(v, k);
+        if refusal != 0 {
+            return refusal;
+        }
+        k = axiom_next(v, k);
+    }
+    0
+}
+
+// The number of the first refusal, 0 for none: the operations that read a vocabulary first pass it on.
+pub fn vocabulary_refusal(v: &[u32]) -> u32
+    ensures { λ r. ⌜ r ≡ vocabularyRefusal (now (v .entry)) ⌝ }
+{
+    if !records::is_sized(4, 4100, v.len()) {
+        return 1;
+    }
+    if !is_headed(v) {
+        return 2;
+    }
+    axioms_refusal(v)
+}
+
+pub fn read_vocabulary(v: &[u32]) -> Reading
+    ensures { λ r. ⌜ readingAnswer r ≡ readVocabulary (now (v .entry)) ⌝ }
+{
+    records::reading(vocabulary_refusal(v))
+}
