@@ -1,21 +1,64 @@
--- Refusals in order: none of several is none of each.
-use Prim.Native.Nat.{suc, zero, ℕ}
+-- Refusals: none of several in order is none of each; a second policy's numbers, and the greatest of a policy's.
+use Prim.Native.Nat.{_+_, _≤_, suc, zero, ℕ}
 use mathlib.Core.Bool.{Bool, cond, false, true}
-use mathlib.Core.List.{List}
+use mathlib.Core.List.{List, [], _∷_}
 use mathlib.Core.Path.{_≡_, refl}
+use lib.Dec.{eqb}
+use lib.ListN.{length}
 use native.Mathlib.Omega.{arith}
+use Rattle.meaning.specs.Lists.{any}
 use Rattle.meaning.specs.Operations.{inputRefusal, unless}
-use Rattle.meaning.specs.Policy.{policyRefusal, second}
-use Rattle.meaning.specs.Records.{orElse}
+use Rattle.meaning.specs.Policy.{Walk, childOf, fault, faultOf, firstTerm, headedPolicy, nextOf, onward, policyRefusal, reached, second, soundRecord, walk}
+use Rattle.meaning.specs.Records.{orElse, sized}
 use Rattle.meaning.specs.Vocabulary.{vocabularyRefusal}
 
 pub or-zero : (a b : ℕ) → orElse a b ≡ 0 → (a ≡ 0) × (b ≡ 0)
 or-zero zero b e = (refl, e)
 or-zero (suc a) b e = absurd (omega arith)
 
+pub or-first : (a b : ℕ) → (a ≡ 0 → ⊥) → a ≡ orElse a b
+or-first zero b h = absurd (h refl)
+or-first (suc a) b h = refl
+
+pub or-assoc : (a b c : ℕ) → orElse a (orElse b c) ≡ orElse (orElse a b) c
+or-assoc zero b c = refl
+or-assoc (suc a) b c = refl
+
 pub second-zero : (n : ℕ) → second n ≡ 0 → n ≡ 0
 second-zero zero e = refl
 second-zero (suc n) e = absurd (omega arith)
+
+pub second-some : (n : ℕ) → (n ≡ 0 → ⊥) → n + 10 ≡ second n
+second-some zero h = absurd (h refl)
+second-some (suc n) h = omega arith
+
+pub cond-all {ℓ} : {A : Type 0} (P : A → Type ℓ) (b : Bool) {x y : A} → P x → P y → P (cond b x y)
+cond-all P true h k = h
+cond-all P false h k = k
+
+-- a walk's fault, and so a policy's refusal, is at most 8
+abbrev Few : Walk → Type 0
+Few w = faultOf w ≤ 8
+
+few-onward : (w : Walk) (go : List ℕ → Walk) → Few w → ((seen : List ℕ) → Few (go seen)) → Few (onward w go)
+few-onward (reached seen) go h on = on seen
+few-onward (fault n) go h on = h
+
+walk-few : (f : ℕ) (v p : List ℕ) (d k : ℕ) (seen : List ℕ) → Few (walk f v p d k seen)
+unfolding walk
+walk-few zero v p d k seen = omega arith
+walk-few (suc f) v p d k seen =
+    let inner = walk f v p (suc d) (childOf p k) (k ∷ seen) in
+    let on = few-onward inner (walk f v p d (nextOf p k)) (walk-few f v p (suc d) (childOf p k) (k ∷ seen)) (walk-few f v p d (nextOf p k)) in
+    cond-all Few (eqb k 0) (omega arith)
+    (cond-all Few (any (eqb k) seen) (omega arith)
+    (cond-all Few (soundRecord v p d k) (cond-all Few (eqb d 17) (omega arith) on) (omega arith)))
+
+pub policy-few : (v p : List ℕ) → policyRefusal v p ≤ 8
+unfolding policyRefusal
+policy-few v p =
+    cond-all (λ n. n ≤ 8) (sized 6 3078 (length p))
+    (cond-all (λ n. n ≤ 8) (headedPolicy p) (walk-few (length p) v p 0 (firstTerm p) []) (omega arith)) (omega arith)
 
 -- the vocabulary and both policies are accepted
 pub record AcceptedInput (v p q : List ℕ) : Type 0 where
@@ -34,10 +77,6 @@ accepted-input v p q e =
 pub unless-all {ℓ} : {A : Type 0} (P : A → Type ℓ) (refuse : ℕ → A) (n : ℕ) (later : A) → ((k : ℕ) → P (refuse k)) → (n ≡ 0 → P later) → P (unless refuse n later)
 unless-all P refuse zero later f g = g refl
 unless-all P refuse (suc n) later f g = f (suc n)
-
-pub cond-all {ℓ} : {A : Type 0} (P : A → Type ℓ) (b : Bool) {x y : A} → P x → P y → P (cond b x y)
-cond-all P true h k = h
-cond-all P false h k = k
 
 -- a number that is not 0 is the refusal
 pub unless-some : {A : Type 0} (refuse : ℕ → A) (n : ℕ) (later : A) → (n ≡ 0 → ⊥) → refuse n ≡ unless refuse n later

@@ -1,0 +1,298 @@
+-- Laws of the definitions, over plain lists and numbers: what a function's proof cites at its returns.
+use Prim.Native.Nat.{_+_, _<_, _≤_, suc, zero, ℕ}
+use mathlib.Core.Bool.{Bool, _&&_, _||_, and-assoc, cond, false, not, true}
+use mathlib.Core.List.{List, [], _∷_}
+use mathlib.Core.Path.{_∙_, _≡_, ap, refl, sym}
+use lib.Dec.{eqb, leb}
+use lib.ListN.{getD, length, replicate}
+use native.Mathlib.Numerals.{add-one}
+use native.Mathlib.Omega.{arith}
+use borrow.Author.Tests.{eq-eqb, eqb-false, eqb-true, ne-eqb, not-false, not-true}
+use Rattle.meaning.proofs.Links.{Enough, enough-end, falling, falling-le, falls, onward-le, tests}
+use Rattle.meaning.proofs.Terms.{Here, child-enough, next-enough}
+use Rattle.meaning.proofs.Refusals.{or-assoc, or-first, policy-few}
+use Rattle.meaning.specs.Answers.{Answer, accepted, refused}
+use Rattle.meaning.specs.Lists.{any}
+use Rattle.meaning.specs.Operations.{inputRefusal, readPolicy, readSecondPolicy, unless}
+use Rattle.meaning.specs.Policy.{Walk, childOf, fault, faultOf, firstTerm, headedPolicy, hiOf, kindOf, loOf, nameOf, nextOf, onward, policyRefusal, recordFits, second, soundRecord, walk}
+use Rattle.meaning.specs.Records.{lastOf, linked, named, orElse, sized}
+use Rattle.meaning.specs.Vocabulary.{classCount, featureCount, roleCount, vocabularyRefusal}
+use Rattle.policy.specs.declared.Trail.{Trail}
+use Rattle.policy.specs.Numbers.{numbered}
+use Rattle.policy.specs.Trails.{Arrived, Follows, Marks, faultAt, going, mostRecords, stopped, trailWords}
+use Rattle.words.proofs.Laws.{in-including, in-zeros, length-including, named-within}
+use Rattle.words.specs.Sets.{capacity, inSet, including}
+
+-- ---- a record
+
+-- t is the test of where its kind stands
+module _ (v p : List ℕ) (depth k : ℕ) {kind : ℕ} {t : Bool} (ek : kind ≡ kindOf p k) (et : t ≡ cond (eqb depth 0) (eqb kind 5) (not (eqb kind 5))) where
+  pub misplaced : not t ≡ true → false ≡ recordFits v p depth k
+  misplaced h = go (eqb depth 0) refl (sym et ∙ not-true t h)
+    where
+      go : (b : Bool) → eqb depth 0 ≡ b → cond b (eqb kind 5) (not (eqb kind 5)) ≡ false → false ≡ recordFits v p depth k
+      go true e f = rw (e, sym ek, f)
+      go false e f = rw (e, sym ek, eqb-true kind 5 (not-false (eqb kind 5) f))
+
+  module _ (h : not t ≡ false) where
+    placed : (b : Bool) → eqb kind 5 ≡ b → eqb depth 0 ≡ b
+    placed b e = go b (eqb depth 0) (rw e at (sym et ∙ not-false t h))
+      where
+        go : (b d : Bool) → cond d b (not b) ≡ true → d ≡ b
+        go true true f = refl
+        go true false f = f
+        go false true f = sym f
+        go false false f = refl
+
+    pub unknown : (kind ≡ 1 → ⊥) → (kind ≡ 2 → ⊥) → (kind ≡ 3 → ⊥) → (kind ≡ 4 → ⊥) → (kind ≡ 5 → ⊥) → false ≡ recordFits v p depth k
+    unknown n₁ n₂ n₃ n₄ n₅ =
+        rw (placed false (ne-eqb kind 5 n₅), sym ek, ne-eqb kind 1 n₁, ne-eqb kind 2 n₂, ne-eqb kind 3 n₃, ne-eqb kind 4 n₄)
+
+    -- and a, lo, hi and child are its other words
+    module _ {a lo hi child : ℕ} (ea : a ≡ nameOf p k) (el : lo ≡ loOf p k) (eh : hi ≡ hiOf p k) (ec : child ≡ childOf p k) where
+      pub impossible-fits : kind ≡ 2 → eqb a 0 && ((eqb lo 0 && eqb hi 0) && eqb child 0) ≡ recordFits v p depth k
+      impossible-fits z = rw (placed false (rw z), sym ek ∙ z, sym ea, sym el, sym eh, sym ec, and-assoc (eqb lo 0))
+
+      pub term-fits : kind ≡ 5 → eqb a 0 && (eqb lo 0 && eqb hi 0) ≡ recordFits v p depth k
+      term-fits z = rw (placed true (rw z), sym ek ∙ z, sym ea, sym el, sym eh)
+
+      -- the test of its name
+      module _ {f : Bool} where
+        pub class-fits : kind ≡ 1 → f ≡ named (classCount v) a → f && ((eqb lo 0 && eqb hi 0) && eqb child 0) ≡ recordFits v p depth k
+        class-fits z m = rw (placed false (rw z), sym ek ∙ z, sym ea, sym el, sym eh, sym ec, m, and-assoc (eqb lo 0))
+
+        pub role-fits : kind ≡ 3 → f ≡ named (roleCount v) a → f && (eqb lo 0 && eqb hi 0) ≡ recordFits v p depth k
+        role-fits z m = rw (placed false (rw z), sym ek ∙ z, sym ea, sym el, sym eh, m)
+
+        pub feature-fits : kind ≡ 4 → f ≡ named (featureCount v) a → f && eqb child 0 ≡ recordFits v p depth k
+        feature-fits z m = rw (placed false (rw z), sym ek ∙ z, sym ea, sym ec, m)
+
+-- with the tests of its links
+pub links-sound : (v p : List ℕ) (depth k : ℕ) {last x y : ℕ} {f g h : Bool} → last ≡ lastOf 6 p → f ≡ recordFits v p depth k →
+    x ≡ childOf p k → g ≡ linked last k x → y ≡ nextOf p k → h ≡ linked last k y → f && (g && h) ≡ soundRecord v p depth k
+links-sound v p depth k el ef ex eg ey eh = rw (ef, eg, eh, ex, ey, el)
+
+-- ---- the fault at a record
+
+-- s is the test of the record
+module _ (v p : List ℕ) (depth k : ℕ) (b : Bool) {s : Bool} (es : s ≡ soundRecord v p depth k) where
+  pub fault-twice : b ≡ true → 7 ≡ faultAt b (soundRecord v p depth k) (eqb depth 17)
+  unfolding faultAt
+  fault-twice e = rw e
+
+  module _ (e : b ≡ false) where
+    pub fault-bad : not s ≡ true → 6 ≡ faultAt b (soundRecord v p depth k) (eqb depth 17)
+    unfolding faultAt
+    fault-bad h = rw (e, sym es ∙ not-true s h)
+
+    pub fault-deep : not s ≡ false → depth ≤ 17 → 16 < depth → 8 ≡ faultAt b (soundRecord v p depth k) (eqb depth 17)
+    unfolding faultAt
+    fault-deep h l g = rw (e, sym es ∙ not-false s h, eq-eqb depth 17 (omega arith))
+
+    pub fault-none : not s ≡ false → depth ≤ 16 → 0 ≡ faultAt b (soundRecord v p depth k) (eqb depth 17)
+    unfolding faultAt
+    fault-none h g = rw (e, sym es ∙ not-false s h, ne-eqb depth 17 (λ q. omega arith))
+
+-- ---- the walk
+
+-- record k is marked
+marks-more : {ws seen : List ℕ} (k : ℕ) → Marks ws seen → Marks (including ws k) (k ∷ seen)
+marks-more {ws} {seen} k m = record {
+  whole = length-including ws k ∙ m .whole;
+  same = λ j l h. in-including ws k j ∙ go (eqb j k) (named-within (capacity ws) j l (omega (arith, m .whole))) (m .same j l h);
+}
+  where
+    go : {n x y : Bool} (b : Bool) → n ≡ true → x ≡ y → cond b n x ≡ b || y
+    go true e f = e
+    go false e f = f
+
+-- no fault is at record k: it was not reached before, it is sound, and it is not too deep
+clear : (b s d : Bool) → faultAt b s d ≡ 0 → (b ≡ false) × (s ≡ true) × (d ≡ false)
+unfolding faultAt
+clear true s d h = absurd (omega arith)
+clear false true true h = absurd (omega arith)
+clear false true false h = (refl, refl, refl)
+clear false false d h = absurd (omega arith)
+
+-- n is the fault at record k
+module _ (v p : List ℕ) (depth k : ℕ) (b : Bool) {n : ℕ} (m : k ≡ 0 → ⊥) (i : k ≤ lastOf 6 p)
+    (en : n ≡ faultAt b (soundRecord v p depth k) (eqb depth 17)) (z : n ≡ 0) where
+  cleared : (b ≡ false) × (soundRecord v p depth k ≡ true) × (eqb depth 17 ≡ false)
+  cleared = clear b (soundRecord v p depth k) (eqb depth 17) (sym en ∙ z)
+
+  here : Here p k
+  here = let u = simp tests at (cleared .1) in record { inside = (omega arith, i); child = u .1 .0; next = u .1 .1 }
+
+  pub deeper : depth ≤ 17 → depth + 1 ≤ 17
+  deeper d = let q = eqb-false depth 17 (cleared .2) in omega arith
+
+  -- a link goes on, and the records that may follow get fewer
+  module _ {x : ℕ} where
+    pub child-inside : x ≡ childOf p k → x ≤ lastOf 6 p
+    child-inside e = rw e (onward-le (lastOf 6 p) k (childOf p k) (here .child))
+
+    pub next-inside : x ≡ nextOf p k → x ≤ lastOf 6 p
+    next-inside e = rw e (onward-le (lastOf 6 p) k (nextOf p k) (here .next))
+
+    module _ {l : ℕ} (q : falling (lastOf 6 p) k ≡ l) where
+      pub child-falls : x ≡ childOf p k → falling (lastOf 6 p) x < l
+      child-falls e = rw (sym q, e) (falls (lastOf 6 p) k (childOf p k) (here .inside) (here .child))
+
+      pub next-falls : x ≡ nextOf p k → falling (lastOf 6 p) x < l
+      next-falls e = rw (sym q, e) (falls (lastOf 6 p) k (nextOf p k) (here .inside) (here .next))
+
+-- of either link
+pub ruleset inside = (child-inside, next-inside)
+
+pub ruleset fewer = (child-falls, next-falls)
+
+-- what a walk ends with, and what the walk after it does
+ended : {w : Trail} {q : Walk} (on : List ℕ → Walk) → (w .fault ≡ 0 → ⊥) → Arrived w q → Arrived w (onward q on)
+ended on z (going e m) = absurd (z e)
+ended on z (stopped e) = stopped e
+
+then : {w r : Trail} {q : Walk} (on : List ℕ → Walk) → w .fault ≡ 0 → Arrived w q → ((seen : List ℕ) → Marks (w .seen) seen → Arrived r (on seen)) → Arrived r (onward q on)
+then on z (going {seen = seen} e m) later = later seen m
+then on z (stopped e) later = absurd (omega arith)
+
+-- the walk from record k on with trail t, at each way out
+module _ (v p : List ℕ) (depth k : ℕ) (t : Trail) where
+  pub walk-ends : k ≡ 0 → t .fault ≡ 0 → Follows v p depth k t t
+  unfolding walk
+  walk-ends e z = record { arrives = go }
+    where
+      go : (f : ℕ) (seen : List ℕ) → Enough (lastOf 6 p) f k → Marks (t .seen) seen → Arrived t (walk f v p depth k seen)
+      go zero seen h m = going z m
+      go (suc f) seen h m = rw e (going z m)
+
+  -- b is the test of whether record k was reached before, and n the fault at it
+  module _ (b : Bool) {n : ℕ} (m : k ≡ 0 → ⊥) (l : lastOf 6 p ≤ mostRecords) (i : k ≤ lastOf 6 p) (eb : b ≡ inSet (t .seen) k)
+      (en : n ≡ faultAt b (soundRecord v p depth k) (eqb depth 17)) where
+    -- some fuel is left
+    step : {r : Trail} → ((f : ℕ) (seen : List ℕ) → Enough (lastOf 6 p) (suc f) k → Marks (t .seen) seen → Arrived r (walk (suc f) v p depth k seen)) →
+        Follows v p depth k t r
+    step {r} on = record { arrives = go }
+      where
+        go : (f : ℕ) (seen : List ℕ) → Enough (lastOf 6 p) f k → Marks (t .seen) seen → Arrived r (walk f v p depth k seen)
+        go zero seen h a = absurd (m (enough-end _ k h))
+        go (suc f) seen h a = on f seen h a
+
+    reached-is : {seen : List ℕ} → Marks (t .seen) seen → any (eqb k) seen ≡ b
+    reached-is a = sym (a .same k (omega arith) (omega arith)) ∙ sym eb
+
+    pub walk-faults : {r : Trail} → (n ≡ 0 → ⊥) → r .fault ≡ n → Follows v p depth k t r
+    unfolding walk faultAt
+    walk-faults {r} z e =
+        step (λ f seen h a. let on = onward (walk f v p (suc depth) (childOf p k) (k ∷ seen)) (walk f v p depth (nextOf p k)) in
+        rw (ne-eqb k 0 m, reached-is a) (go b (soundRecord v p depth k) (eqb depth 17) on (e ∙ en) (λ q. z (sym e ∙ q))))
+      where
+        go : (b s d : Bool) (on : Walk) → r .fault ≡ faultAt b s d → (r .fault ≡ 0 → ⊥) → Arrived r (cond b (fault 7) (cond s (cond d (fault 8) on) (fault 6)))
+        go true s d on e z = stopped e
+        go false true true on e z = stopped e
+        go false true false on e z = absurd (z e)
+        go false false d on e z = stopped e
+
+    -- there is none, and the walk of the child chain has ended with trail w
+    module _ {x : ℕ} {u w : Trail} (z : n ≡ 0) (ex : x ≡ childOf p k) (eu : u .seen ≡ including (t .seen) k) (inner : Follows v p (depth + 1) x u w) where
+      visit : {r : Trail} → ((f : ℕ) (seen : List ℕ) → Enough (lastOf 6 p) (suc f) k → Arrived w (walk f v p (suc depth) (childOf p k) (k ∷ seen)) →
+          Arrived r (onward (walk f v p (suc depth) (childOf p k) (k ∷ seen)) (walk f v p depth (nextOf p k)))) → Follows v p depth k t r
+      unfolding walk
+      visit on = step (λ f seen h a.
+          let c = cleared v p depth k b m i en z in
+          rw (ne-eqb k 0 m, reached-is a ∙ c .0, c .1, c .2) (on f seen h
+          (rw (add-one depth, ex) at (inner .arrives f (k ∷ seen) (rw ex (child-enough (here v p depth k b m i en z) h)) (rw eu (marks-more k a))))))
+
+      pub walk-stops : (w .fault ≡ 0 → ⊥) → Follows v p depth k t w
+      walk-stops y = visit (λ f seen h a. ended (walk f v p depth (nextOf p k)) y a)
+
+      pub walk-on : {y : ℕ} {r : Trail} → w .fault ≡ 0 → y ≡ nextOf p k → Follows v p depth y w r → Follows v p depth k t r
+      walk-on c ey later =
+          visit (λ f seen h a. then (walk f v p depth (nextOf p k)) c a
+          (λ seen a. rw ey at (later .arrives f seen (rw ey (next-enough (here v p depth k b m i en z) h)) a)))
+
+-- ---- the whole
+
+-- the header's words
+pub headed : (p : List ℕ) {x last a b c d e : ℕ} → x ≡ firstTerm p → last ≡ lastOf 6 p →
+    a ≡ getD p 1 0 → b ≡ getD p 2 0 → c ≡ getD p 3 0 → d ≡ getD p 4 0 → e ≡ getD p 5 0 →
+    leb x last && (eqb a 0 && (eqb b 0 && (eqb c 0 && (eqb d 0 && eqb e 0)))) ≡ headedPolicy p
+headed p ex el ea eb ec ed ee = rw (ex, el, ea, eb, ec, ed, ee)
+
+-- t is the test of the length
+module _ (p : List ℕ) {t : Bool} (e : t ≡ sized 6 3078 (length p)) (h : not t ≡ false) where
+  right-size : sized 6 3078 (length p) ≡ true
+  right-size = sym e ∙ not-false t h
+
+  pub least : 6 ≤ length p
+  least = let u = simp tests at right-size in u .1 .0
+
+  pub few : lastOf 6 p ≤ mostRecords
+  few = let u = simp tests at right-size in omega arith
+
+-- s is the test of the header
+module _ (p : List ℕ) {s : Bool} (e : s ≡ headedPolicy p) (h : not s ≡ false) where
+  right-header : headedPolicy p ≡ true
+  right-header = sym e ∙ not-false s h
+
+  pub first : {k : ℕ} → k ≡ firstTerm p → k ≤ lastOf 6 p
+  first f = let u = simp tests at right-header in rw f (u .0)
+
+fault-is : {w : Trail} {q : Walk} → Arrived w q → w .fault ≡ faultOf q
+fault-is (going z m) = z
+fault-is (stopped z) = z
+
+module _ (v p : List ℕ) {t : Bool} (e : t ≡ sized 6 3078 (length p)) where
+  pub wrong-size : not t ≡ true → 4 ≡ policyRefusal v p
+  unfolding policyRefusal
+  wrong-size h = rw (sym e ∙ not-true t h)
+
+  module _ {s : Bool} (h : not t ≡ false) (es : s ≡ headedPolicy p) where
+    pub wrong-header : not s ≡ true → 5 ≡ policyRefusal v p
+    unfolding policyRefusal
+    wrong-header g = rw (right-size p e h, sym es ∙ not-true s g)
+
+    -- the walk from the empty trail u has ended with trail w
+    pub walked : {k : ℕ} {u w : Trail} → not s ≡ false → k ≡ firstTerm p → u .seen ≡ replicate trailWords 0 → Follows v p 0 k u w → w .fault ≡ policyRefusal v p
+    unfolding policyRefusal
+    walked {k} g ek eu whole =
+        rw (right-size p e h, right-header p es g, sym ek)
+        (fault-is (whole .arrives (length p) [] (first p es g ek, omega (arith, falling-le (lastOf 6 p) k))
+        (rw eu (record { whole = refl; same = λ j _ _. in-zeros trailWords j }))))
+
+-- ---- the refusals in order
+
+pub small : (v p : List ℕ) {b : ℕ} → b ≡ policyRefusal v p → b ≤ 8
+small v p e = rw e (policy-few v p)
+
+-- a is the vocabulary's refusal
+module _ (v p : List ℕ) (latter : Bool) {a : ℕ} (ea : a ≡ vocabularyRefusal v) where
+  pub vocabulary-first : (a ≡ 0 → ⊥) → a ≡ orElse (vocabularyRefusal v) (numbered latter (policyRefusal v p))
+  vocabulary-first n = rw (sym ea) (or-first a _ n)
+
+  -- and b the policy's
+  module _ {b : ℕ} (z : a ≡ 0) (eb : b ≡ policyRefusal v p) where
+    pub policy-former : latter ≡ false → b ≡ orElse (vocabularyRefusal v) (numbered latter (policyRefusal v p))
+    policy-former f = rw (sym ea ∙ z, f) eb
+
+    pub policy-latter : {r : ℕ} → latter ≡ true → r ≡ second b → r ≡ orElse (vocabularyRefusal v) (numbered latter (policyRefusal v p))
+    policy-latter f er = rw (sym ea ∙ z, f) (er ∙ ap second eb)
+
+-- a is the refusal of the vocabulary and the first policy
+module _ (v p q : List ℕ) {a : ℕ} (ea : a ≡ orElse (vocabularyRefusal v) (policyRefusal v p)) where
+  pub input-former : (a ≡ 0 → ⊥) → a ≡ inputRefusal v p q
+  unfolding inputRefusal
+  input-former n = rw (or-assoc (vocabularyRefusal v) (policyRefusal v p), sym ea) (or-first a _ n)
+
+  pub input-latter : {b r : ℕ} → a ≡ 0 → b ≡ policyRefusal v q → r ≡ second b → r ≡ inputRefusal v p q
+  unfolding inputRefusal
+  input-latter z eb er = rw (or-assoc (vocabularyRefusal v) (policyRefusal v p), sym ea ∙ z) (er ∙ ap second eb)
+
+-- n is the first refusal, and x its answer
+module _ (v p : List ℕ) {n : ℕ} {x : Answer} (h : x ≡ unless refused n accepted) where
+  pub answers : n ≡ orElse (vocabularyRefusal v) (policyRefusal v p) → x ≡ readPolicy v p
+  unfolding readPolicy
+  answers e = h ∙ ap (λ (n : ℕ). unless refused n accepted) e
+
+  pub answers-second : n ≡ orElse (vocabularyRefusal v) (second (policyRefusal v p)) → x ≡ readSecondPolicy v p
+  unfolding readSecondPolicy
+  answers-second e = h ∙ ap (λ (n : ℕ). unless refused n accepted) e

@@ -1,0 +1,16 @@
+use borrow.Author.Needs.{needs}
+use Rattle.policy.proofs.Laws.{links-sound}
+use Rattle.policy.proofs.is_sound.Statement.{statement}
+use Rattle.policy.proofs.is_sound.Tie as tie
+
+pub is-sound-spec : {M : Type 1} → statement M
+is-sound-spec =
+    tie.close
+    (tie.spec
+    (λ c κs. search needs)
+    (λ c κs. search needs)
+    (λ c κs. search needs)
+    (λ c κs. search needs)
+    (λ c κs. search needs)
+    (λ c κs. search needs)
+    (λ c. search links-sound))

@@ -1,0 +1,3 @@
+-- What the walk carries, and the refusals of two policies.
+pub mod Numbers
+pub mod Trails

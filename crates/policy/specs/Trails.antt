@@ -1,0 +1,39 @@
+-- What the walk carries: the records reached so far as bits, or a fault, and when it agrees with the definition's walk.
+use Prim.Native.Nat.{_/_, _≤_, suc, ℕ}
+use mathlib.Core.Bool.{Bool, cond}
+use mathlib.Core.List.{List}
+use mathlib.Core.Path.{_≡_}
+use lib.Dec.{eqb}
+use lib.ListN.{length}
+use Rattle.meaning.proofs.Links.{Enough}
+use Rattle.meaning.specs.Lists.{any}
+use Rattle.meaning.specs.Policy.{Walk, fault, reached, walk}
+use Rattle.meaning.specs.Records.{lastOf}
+use Rattle.policy.specs.declared.Trail.{Trail}
+use Rattle.words.specs.Sets.{inSet}
+
+-- "At most 512 records follow."
+abbrev pub mostRecords : ℕ
+mostRecords = 512
+
+-- how many words have a bit for each record
+abbrev pub trailWords : ℕ
+trailWords = mostRecords / 32
+
+-- "at one record in the order 7, 6, 8": the fault of a record that was reached before or not, is sound or not, is at depth 17 or not; 0 is none
+unfoldable pub faultAt : Bool → Bool → Bool → ℕ
+faultAt before sound deep = cond before 7 (cond sound (cond deep 8 0) 6)
+
+-- the words' bits are the records of the list
+pub record Marks (words seen : List ℕ) : Type 0 where
+  pub whole : length words ≡ trailWords
+  pub same : (j : ℕ) → 1 ≤ j → j ≤ mostRecords → inSet words j ≡ any (eqb j) seen
+
+-- the trail is what a walk ends with: the records reached and no fault, or the fault
+pub data Arrived (t : Trail) : Walk → Type 0 where
+  going : {seen : List ℕ} → t .fault ≡ 0 → Marks (t .seen) seen → Arrived t (reached seen)
+  stopped : {n : ℕ} → t .fault ≡ suc n → Arrived t (fault (suc n))
+
+-- with trail t, the walk from record k on at a depth ends with trail r: for every fuel that is enough, and every list that t's bits are
+pub record Follows (v p : List ℕ) (depth k : ℕ) (t r : Trail) : Type 0 where
+  pub arrives : (f : ℕ) (seen : List ℕ) → Enough (lastOf 6 p) f k → Marks (t .seen) seen → Arrived r (walk f v p depth k seen)

@@ -1,0 +1,268 @@
+// Read policy: records of six words behind a header, walked a record, its child chain, its next.
+use meaning::ClassNo;
+use meaning::FeatureNo;
+use meaning::Reading;
+use meaning::RoleNo;
+use records::links;
+use records::word;
+use vocabulary::is_class;
+use vocabulary::is_feature;
+use vocabulary::is_role;
+use vocabulary::vocabulary_refusal;
+ghost use mathlib.Core.Path.{_≡_};
+ghost use mathlib.Core.Bool.{cond, not};
+ghost use Prim.Native.Nat.{_≤_};
+ghost use lib.Dec.{eqb};
+ghost use lib.ListN.{length, replicate};
+ghost use Rattle.meaning.specs.Answers.{readingAnswer};
+ghost use Rattle.meaning.specs.Operations.{inputRefusal, readPolicy, readSecondPolicy};
+ghost use Rattle.meaning.specs.Policy.{childOf, firstTerm, headedPolicy, hiOf, kindOf, loOf, nameOf, nextOf, policyRefusal, recordFits, second, soundRecord};
+ghost use Rattle.meaning.specs.Records.{lastOf, orElse};
+ghost use Rattle.meaning.specs.Vocabulary.{vocabularyRefusal};
+ghost use Rattle.policy.specs.Numbers.{numbered};
+ghost use Rattle.policy.specs.Trails.{Follows, faultAt, mostRecords, trailWords};
+ghost use Rattle.words.specs.Sets.{inSet, including};
+
+// The most records behind the header.
+const MOST_RECORDS: usize = 512;
+
+const MOST_WORDS: usize = 6 * (MOST_RECORDS + 1);
+
+// The deepest that a conjunct may stand.
+const DEEPEST: u32 = 16;
+
+pub fn kind_of(p: &[u32], k: u32) -> u32
+    ensures { λ r. ⌜ r ≡ kindOf (now (p .entry)) k ⌝ }
+{
+    word(p, 6 * (k as usize))
+}
+
+pub fn name_of(p: &[u32], k: u32) -> u32
+    ensures { λ r. ⌜ r ≡ nameOf (now (p .entry)) k ⌝ }
+{
+    word(p, 6 * (k as usize) + 1)
+}
+
+pub fn lo_of(p: &[u32], k: u32) -> u32
+    ensures { λ r. ⌜ r ≡ loOf (now (p .entry)) k ⌝ }
+{
+    word(p, 6 * (k as usize) + 2)
+}
+
+pub fn hi_of(p: &[u32], k: u32) -> u32
+    ensures { λ r. ⌜ r ≡ hiOf (now (p .entry)) k ⌝ }
+{
+    word(p, 6 * (k as usize) + 3)
+}
+
+pub fn child_of(p: &[u32], k: u32) -> u32
+    ensures { λ r. ⌜ r ≡ childOf (now (p .entry)) k ⌝ }
+{
+    word(p, 6 * (k as usize) + 4)
+}
+
+pub fn next_of(p: &[u32], k: u32) -> u32
+    ensures { λ r. ⌜ r ≡ nextOf (now (p .entry)) k ⌝ }
+{
+    word(p, 6 * (k as usize) + 5)
+}
+
+pub fn first_term(p: &[u32]) -> u32
+    ensures { λ r. ⌜ r ≡ firstTerm (now (p .entry)) ⌝ }
+{
+    word(p, 0)
+}
+
+// The header is record 0.
+fn last_record(p: &[u32]) -> usize
+    requires { ⌜ 6 ≤ length (now p) ⌝ }
+    ensures { λ r. ⌜ r ≡ lastOf 6 (now (p .entry)) ⌝ }
+{
+    p.len() / 6 - 1
+}
+
+// Kind 5 stands only in the header's chain, the others only below.
+fn is_placed(depth: u32, kind: u32) -> bool
+    ensures { λ r. ⌜ r ≡ cond (eqb depth 0) (eqb kind 5) (not (eqb kind 5)) ⌝ }
+{
+    if depth == 0 { kind == 5 } else { kind != 5 }
+}
+
+// Record k's kind, name and zeros. Tests that have no order are joined by `&`, which does not branch.
+fn is_fit(v: &[u32], p: &[u32], depth: u32, k: u32) -> bool
+    ensures { λ r. ⌜ r ≡ recordFits (now (v .entry)) (now (p .entry)) depth k ⌝ }
+{
+    let kind = kind_of(p, k);
+    if !is_placed(depth, kind) {
+        return false;
+    }
+    let a = name_of(p, k);
+    let plain = (lo_of(p, k) == 0) & (hi_of(p, k) == 0);
+    let leaf = child_of(p, k) == 0;
+    match kind {
+        1 => is_class(v, ClassNo(a)) & (plain & leaf),
+        2 => (a == 0) & (plain & leaf),
+        3 => is_role(v, RoleNo(a)) & plain,
+        4 => is_feature(v, FeatureNo(a)) & leaf,
+        5 => (a == 0) & plain,
+        _ => false,
+    }
+}
+
+// The whole record: its links as well.
+fn is_sound(v: &[u32], p: &[u32], depth: u32, k: u32) -> bool
+    requires { ⌜ 6 ≤ length (now p) ⌝ }
+    ensures { λ r. ⌜ r ≡ soundRecord (now (v .entry)) (now (p .entry)) depth k ⌝ }
+{
+    let last = last_record(p);
+    is_fit(v, p, depth, k) & (links(last, k, child_of(p, k)) & links(last, k, next_of(p, k)))
+}
+
+// The records reached so far, a bit each, and the first fault, 0 for none.
+struct Trail {
+    seen: [u32; Trail::WORDS],
+    fault: u32,
+}
+
+impl Trail {
+    const WORDS: usize = MOST_RECORDS / 32;
+
+    // No record reached.
+    fn new() -> Self
+        ensures { λ r. ⌜ (r .seen ≡ replicate trailWords 0) × (r .fault ≡ 0) ⌝ }
+    {
+        Trail {
+            seen: [0; Trail::WORDS],
+            fault: 0,
+        }
+    }
+
+    // Whether record k was reached before.
+    fn has(self, k: u32) -> bool
+        ensures { λ r. ⌜ r ≡ inSet (self .seen) k ⌝ }
+    {
+        words::has(&self.seen, k)
+    }
+
+    // The trail with record k reached.
+    fn with(self, k: u32) -> Self
+        ensures { λ r. ⌜ (r .seen ≡ including (self .seen) k) × (r .fault ≡ self .fault) ⌝ }
+    {
+        let mut seen = self.seen;
+        words::insert(&mut seen, k);
+        Trail {
+            seen,
+            fault: self.fault,
+        }
+    }
+
+    // The trail with a fault.
+    fn at_fault(self, n: u32) -> Self
+        ensures { λ r. ⌜ r .fault ≡ n ⌝ }
+    {
+        let seen = self.seen;
+        Trail { seen, fault: n }
+    }
+}
+
+// The fault at record k, 0 for none, in the order 7, 6, 8.
+fn fault_at(v: &[u32], p: &[u32], depth: u32, k: u32, reached: bool) -> u32
+    requires { ⌜ (6 ≤ length (now p)) × (depth ≤ 17) ⌝ }
+    ensures { λ r. ⌜ r ≡ faultAt reached (soundRecord (now (v .entry)) (now (p .entry)) depth k) (eqb depth 17) ⌝ }
+{
+    let sound = is_sound(v, p, depth, k);
+    if reached {
+        return 7;
+    }
+    if !sound {
+        return 6;
+    }
+    if DEEPEST < depth { 8 } else { 0 }
+}
+
+// The walk from record k on. It ends, since the links of a sound record rise.
+fn walk_from(v: &[u32], p: &[u32], depth: u32, k: u32, trail: Trail) -> Trail
+    requires { ⌜ (6 ≤ length (now p)) × (lastOf 6 (now p) ≤ mostRecords) × (k ≤ lastOf 6 (now p)) × (depth ≤ 17) × (trail .fault ≡ 0) ⌝ }
+    ensures { λ r. ⌜ Follows (now (v .entry)) (now (p .entry)) depth k trail r ⌝ }
+{
+    if k == 0 {
+        return trail;
+    }
+    let fault = fault_at(v, p, depth, k, trail.has(k));
+    if fault != 0 {
+        return trail.at_fault(fault);
+    }
+    let child = child_of(p, k);
+    let next = next_of(p, k);
+    let inner = walk_from(v, p, depth + 1, child, trail.with(k));
+    if inner.fault != 0 {
+        return inner;
+    }
+    walk_from(v, p, depth, next, inner)
+}
+
+fn is_headed(p: &[u32]) -> bool
+    requires { ⌜ 6 ≤ length (now p) ⌝ }
+    ensures { λ r. ⌜ r ≡ headedPolicy (now (p .entry)) ⌝ }
+{
+    (first_term(p) as usize <= last_record(p))
+        & ((word(p, 1) == 0)
+            & ((word(p, 2) == 0) & ((word(p, 3) == 0) & ((word(p, 4) == 0) & (word(p, 5) == 0)))))
+}
+
+// The number of the first refusal, 0 for none: the operations that read a policy pass it on.
+pub fn policy_refusal(v: &[u32], p: &[u32]) -> u32
+    ensures { λ r. ⌜ r ≡ policyRefusal (now (v .entry)) (now (p .entry)) ⌝ }
+{
+    if !records::is_sized(6, MOST_WORDS, p.len()) {
+        return 4;
+    }
+    if !is_headed(p) {
+        return 5;
+    }
+    let trail = walk_from(v, p, 0, first_term(p), Trail::new());
+    trail.fault
+}
+
+// A second policy's refusals are 10 greater.
+fn second_number(refusal: u32) -> u32
+    requires { ⌜ refusal ≤ 8 ⌝ }
+    ensures { λ r. ⌜ r ≡ second refusal ⌝ }
+{
+    if refusal == 0 { 0 } else { refusal + 10 }
+}
+
+// The vocabulary's first refusal, then that of a policy, which may be the latter of two.
+fn refusal_of(v: &[u32], p: &[u32], latter: bool) -> u32
+    ensures { λ r. ⌜ r ≡ orElse (vocabularyRefusal (now (v .entry))) (numbered latter (policyRefusal (now (v .entry)) (now (p .entry)))) ⌝ }
+{
+    let refusal = vocabulary_refusal(v);
+    if refusal != 0 {
+        return refusal;
+    }
+    let own = policy_refusal(v, p);
+    if latter { second_number(own) } else { own }
+}
+
+pub fn read_policy(v: &[u32], p: &[u32]) -> Reading
+    ensures { λ r. ⌜ readingAnswer r ≡ readPolicy (now (v .entry)) (now (p .entry)) ⌝ }
+{
+    records::reading(refusal_of(v, p, false))
+}
+
+pub fn read_second_policy(v: &[u32], q: &[u32]) -> Reading
+    ensures { λ r. ⌜ readingAnswer r ≡ readSecondPolicy (now (v .entry)) (now (q .entry)) ⌝ }
+{
+    records::reading(refusal_of(v, q, true))
+}
+
+// The first refusal of an operation's three tables: the vocabulary, the first policy, the second.
+pub fn input_refusal(v: &[u32], p: &[u32], q: &[u32]) -> u32
+    ensures { λ r. ⌜ r ≡ inputRefusal (now (v .entry)) (now (p .entry)) (now (q .entry)) ⌝ }
+{
+    let refusal = refusal_of(v, p, false);
+    if refusal != 0 {
+        return refusal;
+    }
+    second_number(policy_refusal(v, q))
+}
