@@ -56,6 +56,12 @@ pub isFalse : (b : Bool) → (T b → ⊥) → b ≡ false
 isFalse true f = absurd (f tt)
 isFalse false f = refl
 
+pub same-test : (a b : Bool) → (T a → T b) → (T b → T a) → a ≡ b
+same-test true true f g = refl
+same-test true false f g = absurd (f tt)
+same-test false true f g = absurd (g tt)
+same-test false false f g = refl
+
 pub order : (a b : ℕ) → (a < b) ⊎ (b ≤ a)
 order a b = go (leb b a) (λ t. leb→le b a t) (λ t. nleb→lt b a t)
   where

@@ -29,7 +29,7 @@ abbrev pub AxiomOf : List ℕ → Axiom → Type 0
 AxiomOf v x = NamedAxiom (classCount v) (roleCount v) (featureCount v) x
 
 module _ (v : List ℕ) where
-  axiom-named : (k : ℕ) → axiomFits v k ≡ true → AxiomOf v (axiomAt v k)
+  pub axiom-named : (k : ℕ) → axiomFits v k ≡ true → AxiomOf v (axiomAt v k)
   axiom-named k =
       choose So (AxiomOf v) (eqb (axiomKind v k) 1) (λ _ h. simp tests at h) (λ _.
       choose So (AxiomOf v) (eqb (axiomKind v k) 2) (λ _ h. simp tests at h) (λ _.

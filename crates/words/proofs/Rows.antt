@@ -1,9 +1,9 @@
 -- Sets in a longer row of words: a part of a slice, what was put there, and what stands beside it. Assumes nothing.
-use Prim.Native.Nat.{_+_, _-_, _≤_, ℕ}
+use Prim.Native.Nat.{_+_, _-_, _≤_, suc, zero, ℕ}
 use lib.ListN.{drop, length, length-append, length-drop, length-take, take, take-append-drop}
-use lib.Seq.{drop-append-add, drop-append-le, drop-at, drop-drop, length-take-le, take-append-le, take-at}
-use mathlib.Core.List.{List, _++_}
-use mathlib.Core.Path.{_≡_, _∙_, ap, sym}
+use lib.Seq.{drop-append-add, drop-at, drop-drop, length-take-le, take-append-le, take-at, take-take}
+use mathlib.Core.List.{List, [], _++_, _∷_}
+use mathlib.Core.Path.{_≡_, _∙_, ap, refl, sym}
 use native.Mathlib.Omega.{arith}
 use Rattle.words.specs.Rows.{putAt, rowAt}
 use Rattle.words.specs.Sets.{including}
@@ -25,16 +25,21 @@ row-back n ws at x vs h e =
     let set : vs ≡ including (rowAt n ws at) x = e ∙ rw size in
     rw (set, whole, size, drop-drop n at ws)
 
--- a row within the first of two lists, and one past it
-front : (xs ys : List ℕ) (n i : ℕ) → i + n ≤ length xs → rowAt n (xs ++ ys) i ≡ rowAt n xs i
-front xs ys n i l =
-    let fits : n ≤ length (drop i xs) = omega (arith, length-drop i xs) in
-    ap (take n) (drop-append-le i xs ys (omega arith)) ∙ take-append-le n (drop i xs) ys fits
-
+-- what lies past the first of two lists
 back : (xs ys : List ℕ) (i : ℕ) → length xs ≤ i → drop i (xs ++ ys) ≡ drop (i - length xs) ys
 back xs ys i l =
     let past : i ≡ length xs + (i - length xs) = omega arith in
     ap (λ (k : ℕ). drop k (xs ++ ys)) past ∙ drop-append-add xs ys (i - length xs)
+
+-- a row within what two lists begin with
+pub row-front : (n : ℕ) (ws vs : List ℕ) (at e : ℕ) → at + n ≤ e → take e ws ≡ take e vs → rowAt n ws at ≡ rowAt n vs at
+row-front n ws vs at e h same = sym (part at e ws h) ∙ ap (λ (l : List ℕ). rowAt n l at) same ∙ part at e vs h
+  where
+    part : (at e : ℕ) (l : List ℕ) → at + n ≤ e → rowAt n (take e l) at ≡ rowAt n l at
+    part zero e l h = take-take n e l (omega arith)
+    part (suc i) zero l h = absurd (omega arith)
+    part (suc i) (suc e) [] h = refl
+    part (suc i) (suc e) (x ∷ l) h = part i e l (omega arith)
 
 module _ (ws : List ℕ) (at : ℕ) (vs : List ℕ) (h : at + length vs ≤ length ws) where
   pub length-put : length (putAt ws at vs) ≡ length ws
@@ -47,20 +52,28 @@ module _ (ws : List ℕ) (at : ℕ) (vs : List ℕ) (h : at + length vs ≤ leng
       ∙ take-at vs (drop (at + length vs) ws) (length vs) (omega arith)
 
   -- what stands before it and after it is as it was
-  pub put-before : (n i : ℕ) → i + n ≤ at → rowAt n (putAt ws at vs) i ≡ rowAt n ws i
-  put-before n i l =
+  pub put-take : (i : ℕ) → i ≤ at → take i (putAt ws at vs) ≡ take i ws
+  put-take i l =
       let first : length (take at ws) ≡ at = length-take-le at ws (omega arith) in
-      front (take at ws) (vs ++ drop (at + length vs) ws) n i (omega arith)
-      ∙ sym (front (take at ws) (drop at ws) n i (omega arith))
-      ∙ ap (λ (l : List ℕ). rowAt n l i) (take-append-drop at ws)
+      take-append-le i (take at ws) (vs ++ drop (at + length vs) ws) (omega arith) ∙ take-take i at ws l
 
-  pub put-after : (n i : ℕ) → at + length vs ≤ i → rowAt n (putAt ws at vs) i ≡ rowAt n ws i
-  put-after n i l =
+  pub put-drop : (i : ℕ) → at + length vs ≤ i → drop i (putAt ws at vs) ≡ drop i ws
+  put-drop i l =
       let first : length (take at ws) ≡ at = length-take-le at ws (omega arith) in
       let rest = i - length (take at ws) in
       let same : at + length vs + (rest - length vs) ≡ i = omega arith in
-      ap (take n)
-      (back (take at ws) (vs ++ drop (at + length vs) ws) i (omega arith)
+      back (take at ws) (vs ++ drop (at + length vs) ws) i (omega arith)
       ∙ back vs (drop (at + length vs) ws) rest (omega arith)
       ∙ drop-drop (rest - length vs) (at + length vs) ws
-      ∙ ap (λ (k : ℕ). drop k ws) same)
+      ∙ ap (λ (k : ℕ). drop k ws) same
+
+  pub put-before : (n i : ℕ) → i + n ≤ at → rowAt n (putAt ws at vs) i ≡ rowAt n ws i
+  put-before n i l = row-front n (putAt ws at vs) ws i (i + n) (omega arith) (put-take (i + n) l)
+
+  pub put-after : (n i : ℕ) → at + length vs ≤ i → rowAt n (putAt ws at vs) i ≡ rowAt n ws i
+  put-after n i l = ap (take n) (put-drop i l)
+
+-- a row put where it stands
+pub put-self : (n : ℕ) (ws : List ℕ) (at : ℕ) → at + n ≤ length ws → putAt ws at (rowAt n ws at) ≡ ws
+put-self n ws at h =
+    rw (length-row n ws at h, ← drop-drop n at ws, take-append-drop n (drop at ws)) (take-append-drop at ws)

@@ -1,5 +1,5 @@
 -- Sets of numbers, from 1, in a row of 32-bit words, as many words as there are.
-use Prim.Native.Nat.{_%_, _*_, _/_, _^_, suc, zero, ℕ}
+use Prim.Native.Nat.{_%_, _*_, _+_, _/_, _^_, suc, zero, ℕ}
 use mathlib.Core.Bool.{Bool, false}
 use mathlib.Core.List.{List, [], _∷_}
 use lib.Bits.{bitOr}
@@ -29,3 +29,8 @@ unfoldable pub unionOf : List ℕ → List ℕ → List ℕ
 unionOf [] vs = []
 unionOf (w ∷ ws) [] = w ∷ ws
 unionOf (w ∷ ws) (v ∷ vs) = bitOr w v ∷ unionOf ws vs
+
+-- the words' sum: it grows with the set
+unfoldable pub wordSum : List ℕ → ℕ
+wordSum [] = 0
+wordSum (w ∷ ws) = w + wordSum ws

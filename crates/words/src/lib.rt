@@ -2,7 +2,8 @@
 // First sets in a slice of any number of words, then sets of classes.
 use meaning::ClassNo;
 ghost use mathlib.Core.Path.{_≡_};
-ghost use mathlib.Core.Bool.{false, _||_, cond};
+ghost use mathlib.Core.Bool.{true, false, _||_, cond};
+ghost use mathlib.Core.Logic.{_↔_};
 ghost use Prim.Native.Nat.{ℕ, _+_, _<_, _≤_, _^_};
 ghost use lib.Dec.{eqb};
 ghost use lib.ListN.{length, replicate};
@@ -126,6 +127,18 @@ impl ClassSet {
             words[i] = self.words[i] | other.words[i];
         }
         ClassSet { words }
+    }
+
+    // Whether every class of the other set is in this one.
+    pub fn covers(self, other: ClassSet) -> bool
+        ensures { λ r. ⌜ (r ≡ true) ↔ (unionOf (self .words) (other .words) ≡ self .words) ⌝ }
+    {
+        for i in 0..ClassSet::WORDS {
+            if self.words[i] | other.words[i] != self.words[i] {
+                return false;
+            }
+        }
+        true
     }
 
     // How many classes the set has.

@@ -1,0 +1,6 @@
+-- The laws of the rows; other crates cite them.
+pub mod Rows
+pub mod Passes
+pub mod Steps
+pub mod Singles
+pub mod Ranges

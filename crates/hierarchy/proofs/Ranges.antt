@@ -1,0 +1,147 @@
+-- The rows of the roles: each has what is above a range of its role, and the rows of the classes stay. Assumes nothing.
+use Prim.Native.Nat.{_*_, _≤_, ℕ}
+use lib.Dec.{eqb}
+use lib.ListN.{length, take}
+use mathlib.Core.Bool.{Bool, _||_, cond, false, or-assoc, or-false, true}
+use mathlib.Core.List.{List, [], _∷_, foldl}
+use mathlib.Core.Path.{_≡_, _∙_, ap, refl, subst, sym}
+use native.Mathlib.Omega.{arith}
+use borrow.Author.Tests.{eqb-false, eqb-true}
+use Rattle.meaning.proofs.Links.{Name}
+use Rattle.meaning.proofs.Rules.{head, tail}
+use Rattle.meaning.proofs.Wellformed.{AxiomOf, accepted-axioms, accepted-counts}
+use Rattle.meaning.specs.Lists.{All, any}
+use Rattle.meaning.specs.NormalForm.{isBelow, ranges}
+use Rattle.meaning.specs.Vocabulary.{Axiom, Vocabulary, below, classCount, disjoint, functionalFeature, functionalRole, mostClasses, range, roleCount, vocabularyOf, vocabularyRefusal}
+use Rattle.words.proofs.Laws.{in-zeros}
+use Rattle.words.proofs.Rows.{row-front}
+use Rattle.words.specs.Rows.{classWords}
+use Rattle.words.specs.Sets.{inSet}
+use Rattle.hierarchy.specs.Rows.{ClosedRows, Kept, RangeRows, Ranged, emptied, empty, joined, roleRow, rowOf, rowPlace, widened}
+use Rattle.hierarchy.proofs.Rows.{Fits, filled-drop, filled-length, filled-row, filled-take, joined-drop, joined-in, joined-length, joined-other, joined-take}
+
+-- ---- what writes behind the rows keeps them: u begins as w does, with the first e words
+
+module _ (v w u : List ℕ) (e : ℕ) (same : take e u ≡ take e w) where
+  row-kept : (i b : ℕ) → 1 ≤ i → i * classWords ≤ e → inSet (rowOf u i) b ≡ inSet (rowOf w i) b
+  row-kept i b p l = ap (λ (s : List ℕ). inSet s b) (row-front classWords u w (rowPlace i) e (omega arith) same)
+
+  pub closed-kept : classCount v * classWords ≤ e → classCount v * classWords ≤ length u → ClosedRows v w → ClosedRows v u
+  closed-kept l f h = record { fits = f; rows = λ a b n. row-kept a b (n .0) (omega (arith, n .1)) ∙ h .rows a b n }
+
+  pub ranged-kept : roleRow (roleCount v) * classWords ≤ e → roleRow (roleCount v) * classWords ≤ length u → RangeRows v w → RangeRows v u
+  ranged-kept l f h = record { fits = f; rows = λ r b n. row-kept (roleRow r) b (omega arith) (omega (arith, n .1)) ∙ h .rows r b n }
+
+module _ (v w₀ : List ℕ) (r : vocabularyRefusal v ≡ 0) (closed : ClosedRows v w₀) (fits : roleRow (roleCount v) * classWords ≤ length w₀) where
+  -- ---- the rows at first
+
+  pub kept-starts : {w : List ℕ} → w ≡ emptied (roleCount v) w₀ → Kept v w₀ w
+  kept-starts e = rw e (record {
+    size = filled-length mostClasses (λ q. empty) (λ q. refl) w₀ (roleCount v) fits;
+    front = filled-take mostClasses (λ q. empty) (λ q. refl) w₀ (roleCount v) fits;
+    rest = filled-drop mostClasses (λ q. empty) (λ q. refl) w₀ (roleCount v) fits (roleRow (roleCount v) * classWords) (omega arith);
+  })
+
+  starts-empty : (q b : ℕ) → Name (roleCount v) q → inSet (rowOf (emptied (roleCount v) w₀) (roleRow q)) b ≡ false
+  starts-empty q b n =
+      ap (λ (s : List ℕ). inSet s b) (filled-row mostClasses (λ q. empty) (λ q. refl) w₀ (roleCount v) fits q n) ∙ in-zeros classWords b
+
+  -- ---- one record
+
+  module _ {w : List ℕ} (h : Kept v w₀ w) where
+    role-fits : (q : ℕ) → Name (roleCount v) q → Fits w (roleRow q)
+    role-fits q n = (omega arith, omega (arith, h .size, n .1))
+
+    class-fits : (c : ℕ) → Name (classCount v) c → Fits w c
+    class-fits c n = (n .0, omega (arith, h .size, n .1, accepted-counts v r .0 .1))
+
+    kept-closed : ClosedRows v w
+    kept-closed =
+        let most = accepted-counts v r .0 .1 in
+        closed-kept v w₀ w (mostClasses * classWords) (h .front) (omega arith) (omega (arith, h .size, closed .fits)) closed
+
+    kept-joined : (q c : ℕ) → Name (roleCount v) q → Name (classCount v) c → Kept v w₀ (joined w (roleRow q) c)
+    kept-joined q c n m = record {
+      size = joined-length w (roleRow q) c (role-fits q n) (class-fits c m) ∙ h .size;
+      front = joined-take w (roleRow q) c (role-fits q n) (class-fits c m) (mostClasses * classWords) (omega (arith, n .0)) ∙ h .front;
+      rest = joined-drop w (roleRow q) c (role-fits q n) (class-fits c m) (roleRow (roleCount v) * classWords) (omega (arith, n .1)) ∙ h .rest;
+    }
+
+    pub kept-widened : (x : Axiom) → AxiomOf v x → Kept v w₀ (widened w x)
+    kept-widened (below a b) n = h
+    kept-widened (disjoint a b) n = h
+    kept-widened (functionalRole q) n = h
+    kept-widened (functionalFeature f) n = h
+    kept-widened (range q c) n = kept-joined q c (n .0) (n .1)
+
+    -- the row of role q, after a record
+    widened-in : (x : Axiom) → AxiomOf v x → (q b : ℕ) → Name (roleCount v) q →
+        inSet (rowOf (widened w x) (roleRow q)) b ≡ inSet (rowOf w (roleRow q)) b || any (λ c. isBelow (vocabularyOf v) c b) (ranges (x ∷ []) q)
+    widened-in (below a c) n q b m = sym (or-false (inSet (rowOf w (roleRow q)) b))
+    widened-in (disjoint a c) n q b m = sym (or-false (inSet (rowOf w (roleRow q)) b))
+    widened-in (functionalRole p) n q b m = sym (or-false (inSet (rowOf w (roleRow q)) b))
+    widened-in (functionalFeature f) n q b m = sym (or-false (inSet (rowOf w (roleRow q)) b))
+    widened-in (range p c) n q b m = go (eqb q p) refl
+      where
+        above : inSet (rowOf w c) b ≡ isBelow (vocabularyOf v) c b
+        above = kept-closed .rows c b (n .1)
+
+        own : inSet (rowOf (joined w (roleRow p) c) (roleRow p)) b ≡ inSet (rowOf w (roleRow p)) b || (isBelow (vocabularyOf v) c b || false)
+        own =
+            joined-in w (roleRow p) c (role-fits p (n .0)) (class-fits c (n .1)) b
+            ∙ ap (λ (t : Bool). inSet (rowOf w (roleRow p)) b || t) (above ∙ sym (or-false (isBelow (vocabularyOf v) c b)))
+
+        go : (t : Bool) → eqb q p ≡ t →
+            inSet (rowOf (joined w (roleRow p) c) (roleRow q)) b ≡ inSet (rowOf w (roleRow q)) b || any (λ d. isBelow (vocabularyOf v) d b) (cond t (c ∷ []) [])
+        go true e =
+            subst (λ (i : ℕ). inSet (rowOf (joined w (roleRow p) c) (roleRow i)) b ≡ inSet (rowOf w (roleRow i)) b || (isBelow (vocabularyOf v) c b || false)) (sym (eqb-true q p e)) own
+        go false e =
+            let other = eqb-false q p e in
+            ap (λ (s : List ℕ). inSet s b) (joined-other w (roleRow p) c (role-fits p (n .0)) (class-fits c (n .1)) (roleRow q) (omega arith) (λ z. other (omega arith)))
+            ∙ sym (or-false (inSet (rowOf w (roleRow q)) b))
+
+  -- ---- all of them
+
+  ranges-more : (p : ℕ → Bool) (x : Axiom) (R : Vocabulary) (q : ℕ) → any p (ranges (x ∷ []) q) || any p (ranges R q) ≡ any p (ranges (x ∷ R) q)
+  ranges-more p (below a b) R q = refl
+  ranges-more p (disjoint a b) R q = refl
+  ranges-more p (functionalRole s) R q = refl
+  ranges-more p (functionalFeature f) R q = refl
+  ranges-more p (range s c) R q = go (eqb q s)
+    where
+      go : (t : Bool) → any p (cond t (c ∷ []) []) || any p (ranges R q) ≡ any p (cond t (c ∷ ranges R q) (ranges R q))
+      go true = ap (λ (u : Bool). u || any p (ranges R q)) (or-false (p c))
+      go false = refl
+
+  kept-all : {w : List ℕ} → Kept v w₀ w → (R : Vocabulary) → All (AxiomOf v) R → Kept v w₀ (foldl widened w R)
+  kept-all h [] n = h
+  kept-all h (x ∷ R) n = kept-all (kept-widened h x (head n)) R (tail n)
+
+  widened-all : {w : List ℕ} → Kept v w₀ w → (R : Vocabulary) → All (AxiomOf v) R → (q b : ℕ) → Name (roleCount v) q →
+      inSet (rowOf (foldl widened w R) (roleRow q)) b ≡ inSet (rowOf w (roleRow q)) b || any (λ c. isBelow (vocabularyOf v) c b) (ranges R q)
+  widened-all {w} h [] n q b m = sym (or-false (inSet (rowOf w (roleRow q)) b))
+  widened-all {w} h (x ∷ R) n q b m =
+      let p : ℕ → Bool = λ c. isBelow (vocabularyOf v) c b in
+      let old = inSet (rowOf w (roleRow q)) b in
+      widened-all (kept-widened h x (head n)) R (tail n) q b m
+      ∙ ap (λ (t : Bool). t || any p (ranges R q)) (widened-in h x (head n) q b m)
+      ∙ or-assoc old (any p (ranges (x ∷ []) q)) (any p (ranges R q))
+      ∙ ap (λ (t : Bool). old || t) (ranges-more p x R q)
+
+  -- `close_ranges`, where u has the rows emptied and w is the end
+  pub ranged-all : {u w : List ℕ} → u ≡ emptied (roleCount v) w₀ → w ≡ foldl widened u (vocabularyOf v) → Ranged v w₀ w
+  ranged-all {u} {w} e d =
+      let start = kept-starts e in
+      let kept : Kept v w₀ w = subst (Kept v w₀) (sym d) (kept-all start (vocabularyOf v) (accepted-axioms v r)) in
+      record {
+        kept = kept;
+        closed = kept-closed kept;
+        ranged = record {
+          fits = omega (arith, kept .size);
+          rows = λ q b n.
+              let none : inSet (rowOf u (roleRow q)) b ≡ false = ap (λ (l : List ℕ). inSet (rowOf l (roleRow q)) b) e ∙ starts-empty q b n in
+              ap (λ (l : List ℕ). inSet (rowOf l (roleRow q)) b) d
+              ∙ widened-all start (vocabularyOf v) (accepted-axioms v r) q b n
+              ∙ ap (λ (t : Bool). t || any (λ c. isBelow (vocabularyOf v) c b) (ranges (vocabularyOf v) q)) none;
+        };
+      }

@@ -1,0 +1,134 @@
+-- Rows of the work slice: one that is put, those beside it, and one that takes in another. Assumes nothing.
+use Prim.Native.Nat.{_*_, _+_, _<_, _≤_, suc, zero, ℕ}
+use lib.Dec.{eqb}
+use lib.ListN.{drop, length, take}
+use mathlib.Core.Bool.{Bool, _||_, false, true}
+use mathlib.Core.List.{List}
+use mathlib.Core.Logic.{⊎-elim}
+use mathlib.Core.Path.{_≡_, _∙_, ap, refl, subst, sym}
+use native.Mathlib.Omega.{arith}
+use borrow.Author.Tests.{eqb-false, eqb-true}
+use Rattle.meaning.proofs.Links.{Name}
+use Rattle.words.proofs.Growth.{sum-put, union-grows, union-same}
+use Rattle.words.proofs.Laws.{in-union, length-union, lt-or-ge}
+use Rattle.words.proofs.Rows.{length-put, length-row, put-after, put-before, put-drop, put-row, put-self, put-take}
+use Rattle.words.specs.Rows.{classWords, rowAt}
+use Rattle.words.specs.Sets.{inSet, unionOf, wordSum}
+use Rattle.hierarchy.specs.Rows.{filled, joined, rowOf, rowPlace, withRow}
+
+-- row i is in the slice
+abbrev pub Fits : List ℕ → ℕ → Type 0
+Fits w i = (1 ≤ i) × (i * classWords ≤ length w)
+
+module _ (w : List ℕ) (i : ℕ) (f : Fits w i) where
+  pub row-length : length (rowOf w i) ≡ classWords
+  row-length = length-row classWords w (rowPlace i) (omega arith)
+
+  module _ (s : List ℕ) (l : length s ≡ classWords) where
+    pub with-length : length (withRow w i s) ≡ length w
+    with-length = length-put w (rowPlace i) s (omega arith)
+
+    pub with-same : rowOf (withRow w i s) i ≡ s
+    with-same = ap (λ (n : ℕ). rowAt n (withRow w i s) (rowPlace i)) (sym l) ∙ put-row w (rowPlace i) s (omega arith)
+
+    pub with-other : (j : ℕ) → 1 ≤ j → (i ≡ j → ⊥) → rowOf (withRow w i s) j ≡ rowOf w j
+    with-other j p n =
+        ⊎-elim (λ h. put-after w (rowPlace i) s (omega arith) classWords (rowPlace j) (omega arith))
+        (λ h. put-before w (rowPlace i) s (omega arith) classWords (rowPlace j) (omega arith)) (lt-or-ge i j)
+
+    pub with-drop : (k : ℕ) → i * classWords ≤ k → drop k (withRow w i s) ≡ drop k w
+    with-drop k h = put-drop w (rowPlace i) s (omega arith) k (omega arith)
+
+    pub with-take : (k : ℕ) → k ≤ rowPlace i → take k (withRow w i s) ≡ take k w
+    with-take k h = put-take w (rowPlace i) s (omega arith) k h
+
+-- ---- rows that are filled one after another
+
+module _ (first : ℕ) (f : ℕ → List ℕ) (whole : (c : ℕ) → length (f c) ≡ classWords) where
+  module _ (w : List ℕ) where
+    pub filled-length : (n : ℕ) → (first + n) * classWords ≤ length w → length (filled first f n w) ≡ length w
+    unfolding filled
+    filled-length zero h = refl
+    filled-length (suc n) h =
+        let e = filled-length n (omega arith) in
+        with-length (filled first f n w) (first + suc n) (omega arith, omega arith) (f (suc n)) (whole (suc n)) ∙ e
+
+    next-fits : (n : ℕ) → (first + suc n) * classWords ≤ length w → Fits (filled first f n w) (first + suc n)
+    next-fits n h = (omega arith, omega (arith, filled-length n (omega arith)))
+
+    pub filled-take : (n : ℕ) → (first + n) * classWords ≤ length w → take (first * classWords) (filled first f n w) ≡ take (first * classWords) w
+    unfolding filled
+    filled-take zero h = refl
+    filled-take (suc n) h =
+        with-take (filled first f n w) (first + suc n) (next-fits n h) (f (suc n)) (whole (suc n)) (first * classWords) (omega arith)
+        ∙ filled-take n (omega arith)
+
+    pub filled-drop : (n : ℕ) → (first + n) * classWords ≤ length w → (k : ℕ) → (first + n) * classWords ≤ k → drop k (filled first f n w) ≡ drop k w
+    unfolding filled
+    filled-drop zero h k l = refl
+    filled-drop (suc n) h k l =
+        with-drop (filled first f n w) (first + suc n) (next-fits n h) (f (suc n)) (whole (suc n)) k l ∙ filled-drop n (omega arith) k (omega arith)
+
+    pub filled-row : (n : ℕ) → (first + n) * classWords ≤ length w → (c : ℕ) → Name n c → rowOf (filled first f n w) (first + c) ≡ f c
+    unfolding filled
+    filled-row zero h c m = absurd (omega arith)
+    filled-row (suc n) h c m = go (eqb (suc n) c) refl (λ l. filled-row n (omega arith) c (m .0, l))
+      where
+        go : (b : Bool) → eqb (suc n) c ≡ b → (c ≤ n → rowOf (filled first f n w) (first + c) ≡ f c) → rowOf (filled first f (suc n) w) (first + c) ≡ f c
+        go true e before =
+            subst (λ (i : ℕ). rowOf (filled first f (suc n) w) (first + i) ≡ f i) (eqb-true (suc n) c e)
+            (with-same (filled first f n w) (first + suc n) (next-fits n h) (f (suc n)) (whole (suc n)))
+        go false e before =
+            let other = eqb-false (suc n) c e in
+            with-other (filled first f n w) (first + suc n) (next-fits n h) (f (suc n)) (whole (suc n)) (first + c) (omega (arith, m .0)) (λ z. other (omega arith))
+            ∙ before (omega arith)
+
+-- ---- a row that takes in another
+
+module _ (w : List ℕ) (i j : ℕ) (f : Fits w i) (g : Fits w j) where
+  both-length : length (unionOf (rowOf w i) (rowOf w j)) ≡ classWords
+  both-length = length-union (rowOf w i) (rowOf w j) ∙ row-length w i f
+
+  pub joined-length : length (joined w i j) ≡ length w
+  unfolding joined
+  joined-length = with-length w i f (unionOf (rowOf w i) (rowOf w j)) both-length
+
+  pub joined-in : (d : ℕ) → inSet (rowOf (joined w i j) i) d ≡ inSet (rowOf w i) d || inSet (rowOf w j) d
+  unfolding joined
+  joined-in d =
+      ap (λ (l : List ℕ). inSet l d) (with-same w i f (unionOf (rowOf w i) (rowOf w j)) both-length)
+      ∙ in-union (rowOf w i) (rowOf w j) (omega (arith, row-length w i f, row-length w j g)) d
+
+  pub joined-other : (k : ℕ) → 1 ≤ k → (i ≡ k → ⊥) → rowOf (joined w i j) k ≡ rowOf w k
+  unfolding joined
+  joined-other k p n = with-other w i f (unionOf (rowOf w i) (rowOf w j)) both-length k p n
+
+  pub joined-drop : (k : ℕ) → i * classWords ≤ k → drop k (joined w i j) ≡ drop k w
+  unfolding joined
+  joined-drop k h = with-drop w i f (unionOf (rowOf w i) (rowOf w j)) both-length k h
+
+  pub joined-take : (k : ℕ) → k ≤ rowPlace i → take k (joined w i j) ≡ take k w
+  unfolding joined
+  joined-take k h = with-take w i f (unionOf (rowOf w i) (rowOf w j)) both-length k h
+
+  -- the words' sum: by as much as the row's
+  sums : wordSum (joined w i j) + wordSum (rowOf w i) ≡ wordSum w + wordSum (unionOf (rowOf w i) (rowOf w j))
+  unfolding joined
+  sums =
+      ap (λ (n : ℕ). wordSum (joined w i j) + wordSum (rowAt n w (rowPlace i))) (sym both-length)
+      ∙ sum-put w (rowPlace i) (unionOf (rowOf w i) (rowOf w j))
+
+  pub joined-grows : wordSum w ≤ wordSum (joined w i j)
+  joined-grows = omega (arith, sums, union-grows (rowOf w i) (rowOf w j))
+
+  pub joined-more : (unionOf (rowOf w i) (rowOf w j) ≡ rowOf w i → ⊥) → wordSum w < wordSum (joined w i j)
+  joined-more n =
+      ⊎-elim (λ h. h) (λ h. absurd (n (union-same (rowOf w i) (rowOf w j) (omega (arith, sums))))) (lt-or-ge (wordSum w) (wordSum (joined w i j)))
+
+  pub joined-still : unionOf (rowOf w i) (rowOf w j) ≡ rowOf w i → joined w i j ≡ w
+  unfolding joined
+  joined-still e = ap (withRow w i) e ∙ put-self classWords w (rowPlace i) (omega arith)
+
+  -- where the sum did not grow
+  pub joined-shut : wordSum (joined w i j) ≤ wordSum w → unionOf (rowOf w i) (rowOf w j) ≡ rowOf w i
+  joined-shut h = union-same (rowOf w i) (rowOf w j) (omega (arith, sums))

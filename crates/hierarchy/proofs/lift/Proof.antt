@@ -1,0 +1,31 @@
+use borrow.Author.Needs.{needs}
+use mathlib.Core.Path.{refl}
+use Rattle.hierarchy.proofs.Steps.{lift-below, lift-fits, lift-length, lift-other}
+use Rattle.hierarchy.proofs.lift.Statement.{statement}
+use Rattle.hierarchy.proofs.lift.Tie as tie
+
+join-requires : tie.Need-join-requires
+join-requires c κs =
+    let s = c .before .before .before .before .before .before .before in
+    let a = s .args in
+    lift-fits (a .v .now) (a .work .now) (a .k) (c .before .before .before .before .axiom-kind .ensures) (s .pre) (c .before .before .before .if1 .left) (c .before .before .axiom-left .ensures)
+    (c .before .axiom-right .ensures)
+
+same-length : tie.Need-same-length
+same-length c =
+    let s = c .before .before .before .before .before .before .before .before .before .before in
+    let a = s .args in
+    lift-length (a .v .now) (a .work .now) (a .k) (c .before .before .before .before .before .before .before .axiom-kind .ensures) (s .pre) (c .before .before .before .before .before .before .if1 .left) (c .before .before .before .before .before .axiom-left .ensures)
+    (c .before .before .before .before .axiom-right .ensures) (c .before .before .join .ensures .0)
+
+pub lift-spec : {M : Type 1} → statement M
+lift-spec =
+    tie.close
+    (tie.spec
+    (λ c κs. search needs)
+    (λ c. (search lift-other, refl))
+    (λ c κs. search needs)
+    (λ c κs. search needs)
+    join-requires
+    same-length
+    (λ c. (search lift-below, c .before .before .join .ensures .1)))

@@ -1,0 +1,3 @@
+-- What the work slice holds through a call.
+pub mod Rows
+pub mod Singles

@@ -1,0 +1,99 @@
+-- The rows of the work slice, a set of classes each: the classes above a class, and those above a role's ranges.
+use Prim.Native.Nat.{_*_, _+_, _-_, _<_, _≤_, suc, zero, ℕ}
+use mathlib.Core.Bool.{Bool, false, true}
+use mathlib.Core.List.{List}
+use mathlib.Core.Path.{_≡_}
+use lib.ListN.{drop, length, replicate, take}
+use Rattle.meaning.proofs.Links.{Name}
+use Rattle.meaning.specs.Lists.{any}
+use Rattle.meaning.specs.NormalForm.{isBelow, ranges}
+use Rattle.meaning.specs.Vocabulary.{Axiom, below, classCount, disjoint, functionalFeature, functionalRole, mostClasses, range, roleCount, vocabularyOf}
+use Rattle.words.specs.Rows.{classWords, putAt, rowAt}
+use Rattle.words.specs.Sets.{inSet, including, unionOf, wordSum}
+
+-- rows count from 1, as classes do
+abbrev pub rowPlace : ℕ → ℕ
+rowPlace i = (i - 1) * classWords
+
+abbrev pub rowOf : List ℕ → ℕ → List ℕ
+rowOf w i = rowAt classWords w (rowPlace i)
+
+abbrev pub withRow : List ℕ → ℕ → List ℕ → List ℕ
+withRow w i s = putAt w (rowPlace i) s
+
+-- ---- what the rows hold
+
+-- in w's first rows stands what is above each class of v, the class itself among it
+pub record ClosedRows (v w : List ℕ) : Type 0 where
+  pub fits : classCount v * classWords ≤ length w
+  pub rows : (a b : ℕ) → Name (classCount v) a → inSet (rowOf w a) b ≡ isBelow (vocabularyOf v) a b
+
+-- w′ is w but for these rows
+pub record Closed (v w w′ : List ℕ) : Type 0 where
+  pub size : length w′ ≡ length w
+  pub rest : drop (classCount v * classWords) w′ ≡ drop (classCount v * classWords) w
+  pub closed : ClosedRows v w′
+
+-- row mostClasses + r for the role r, behind room for the rows of the most classes
+abbrev pub roleRow : ℕ → ℕ
+roleRow r = mostClasses + r
+
+-- in w stand the classes above each role's ranges
+pub record RangeRows (v w : List ℕ) : Type 0 where
+  pub fits : roleRow (roleCount v) * classWords ≤ length w
+  pub rows : (r b : ℕ) → Name (roleCount v) r →
+      inSet (rowOf w (roleRow r)) b ≡ any (λ c. isBelow (vocabularyOf v) c b) (ranges (vocabularyOf v) r)
+
+-- w′ is w but for the rows of v's roles
+pub record Kept (v w w′ : List ℕ) : Type 0 where
+  pub size : length w′ ≡ length w
+  pub front : take (mostClasses * classWords) w′ ≡ take (mostClasses * classWords) w
+  pub rest : drop (roleRow (roleCount v) * classWords) w′ ≡ drop (roleRow (roleCount v) * classWords) w
+
+pub record Ranged (v w w′ : List ℕ) : Type 0 where
+  pub kept : Kept v w w′
+  pub closed : ClosedRows v w′
+  pub ranged : RangeRows v w′
+
+-- ---- how they come about
+
+-- n rows from row first + 1 on, each as f says
+unfoldable pub filled : ℕ → (ℕ → List ℕ) → ℕ → List ℕ → List ℕ
+filled first f zero w = w
+filled first f (suc i) w = withRow (filled first f i w) (first + suc i) (f (suc i))
+
+abbrev pub empty : List ℕ
+empty = replicate classWords 0
+
+-- each class is above itself
+abbrev pub begun : ℕ → List ℕ → List ℕ
+begun n w = filled 0 (including empty) n w
+
+-- no class is above a range
+abbrev pub emptied : ℕ → List ℕ → List ℕ
+emptied n w = filled mostClasses (λ r. empty) n w
+
+-- row i with what row j has
+unfoldable pub joined : List ℕ → ℕ → ℕ → List ℕ
+joined w i j = withRow w i (unionOf (rowOf w i) (rowOf w j))
+
+-- what is above b is above a, where a record says that a is below b
+abbrev pub lifted : List ℕ → Axiom → List ℕ
+lifted w (below a b) = joined w a b
+lifted w (disjoint a b) = w
+lifted w (functionalRole r) = w
+lifted w (functionalFeature f) = w
+lifted w (range r c) = w
+
+-- what is above c is above a range of r, where a record says that c is one
+abbrev pub widened : List ℕ → Axiom → List ℕ
+widened w (below a b) = w
+widened w (disjoint a b) = w
+widened w (functionalRole r) = w
+widened w (functionalFeature f) = w
+widened w (range r c) = joined w (roleRow r) c
+
+-- from w to w′ the words' sum grew, or nothing changed
+abbrev pub Grown : Bool → List ℕ → List ℕ → Type 0
+Grown true w w′ = wordSum w < wordSum w′
+Grown false w w′ = w′ ≡ w

@@ -1,0 +1,249 @@
+// What an accepted vocabulary states, worked out once a call: nothing else looks through its records again.
+// The work slice begins with rows of ClassSet::WORDS words: row c is the set of the classes above c, c itself among them.
+use meaning::ClassNo;
+use meaning::FeatureNo;
+use meaning::RoleNo;
+use vocabulary::axiom_kind;
+use vocabulary::axiom_left;
+use vocabulary::axiom_next;
+use vocabulary::axiom_right;
+use vocabulary::class_count;
+use vocabulary::first_axiom;
+use vocabulary::role_count;
+use words::ClassSet;
+use words::has;
+use words::insert;
+use words::place;
+ghost use mathlib.Core.Bool.{true};
+ghost use mathlib.Core.Path.{_≡_};
+ghost use mathlib.Core.List.{List, foldl};
+ghost use Prim.Native.Nat.{ℕ, _+_, _*_, _≤_};
+ghost use lib.ListN.{length};
+ghost use Rattle.meaning.proofs.Links.{Name};
+ghost use Rattle.meaning.specs.Lists.{any};
+ghost use Rattle.meaning.specs.NormalForm.{isBelow, ranges, single, singleFeature};
+ghost use Rattle.meaning.specs.Vocabulary.{axiomAt, axiomFits, classCount, mostClasses, roleCount, vocabularyOf, vocabularyRefusal};
+ghost use Rattle.words.specs.Rows.{classWords};
+ghost use Rattle.words.specs.Sets.{inSet};
+ghost use Rattle.hierarchy.specs.Rows.{begun, Closed, ClosedRows, emptied, Grown, joined, lifted, RangeRows, Ranged, roleRow, rowOf, rowPlace, widened};
+ghost use Rattle.hierarchy.specs.Singles.{marked, Singles, withFeature, withRole};
+
+// Where row i starts.
+fn row_at(i: u32) -> usize
+    requires { ⌜ 1 ≤ i ⌝ }
+    ensures { λ r. ⌜ r ≡ rowPlace i ⌝ }
+{
+    place(i - 1) * ClassSet::WORDS
+}
+
+fn row(work: &[u32], i: u32) -> ClassSet
+    requires { ⌜ (1 ≤ i) × (i * classWords ≤ length (now work)) ⌝ }
+    ensures { λ r. ⌜ r .words ≡ rowOf (now (work .entry)) i ⌝ }
+{
+    ClassSet::load(work, row_at(i))
+}
+
+// Row i takes in row j; whether it grew.
+fn join(work: &mut [u32], i: u32, j: u32) -> bool
+    requires { ⌜ (1 ≤ i) × (1 ≤ j) × (i * classWords ≤ length (now work)) × (j * classWords ≤ length (now work)) ⌝ }
+    ensures { λ _. ⌜ now (work .exit) ≡ joined (now (work .entry)) i j ⌝ }
+    ensures { λ r. ⌜ Grown r (now (work .entry)) (now (work .exit)) ⌝ }
+{
+    let lower = row(work, i);
+    let upper = row(work, j);
+    if lower.covers(upper) {
+        return false;
+    }
+    lower.union(upper).store(work, row_at(i));
+    true
+}
+
+// Each class is above itself.
+fn begin(work: &mut [u32], n: u32)
+    requires { ⌜ n * classWords ≤ length (now work) ⌝ }
+    ensures { λ _. ⌜ now (work .exit) ≡ begun n (now (work .entry)) ⌝ }
+{
+    for i in 0..n {
+        ClassSet::new()
+            .with(ClassNo(i + 1))
+            .store(work, row_at(i + 1));
+    }
+}
+
+// What record k says, where it says that a class is below another; whether a row grew.
+fn lift(v: &[u32], work: &mut [u32], k: u32) -> bool
+    requires { ⌜ (axiomFits (now v) k ≡ true) × (classCount (now v) * classWords ≤ length (now work)) ⌝ }
+    ensures { λ _. ⌜ now (work .exit) ≡ lifted (now (work .entry)) (axiomAt (now (v .entry)) k) ⌝ }
+    ensures { λ r. ⌜ Grown r (now (work .entry)) (now (work .exit)) ⌝ }
+{
+    if axiom_kind(v, k) != 1 {
+        return false;
+    }
+    let a = axiom_left(v, k);
+    let b = axiom_right(v, k);
+    join(work, a, b)
+}
+
+// One pass over the records, in the chain's order; whether a row grew.
+fn pass(v: &[u32], work: &mut [u32]) -> bool
+    requires { ⌜ (vocabularyRefusal (now v) ≡ 0) × (classCount (now v) * classWords ≤ length (now work)) ⌝ }
+    ensures { λ _. ⌜ now (work .exit) ≡ foldl lifted (now (work .entry)) (vocabularyOf (now (v .entry))) ⌝ }
+    ensures { λ r. ⌜ Grown r (now (work .entry)) (now (work .exit)) ⌝ }
+{
+    let mut grown = false;
+    let mut k = first_axiom(v);
+    while k != 0 {
+        if lift(v, work, k) {
+            grown = true;
+        }
+        k = axiom_next(v, k);
+    }
+    grown
+}
+
+// Writes the rows of the classes, by passes until one changes nothing. A pass takes time in proportion to the records, and
+// there are as many as classes are stacked where records come in a bad order, two where the upper ones come first.
+pub fn close(v: &[u32], work: &mut [u32])
+    requires { ⌜ (vocabularyRefusal (now v) ≡ 0) × (classCount (now v) * classWords ≤ length (now work)) ⌝ }
+    ensures { λ _. ⌜ Closed (now (v .entry)) (now (work .entry)) (now (work .exit)) ⌝ }
+{
+    begin(work, class_count(v));
+    while pass(v, work) {}
+}
+
+// THE class test: whether a is below b. All else asks it, or takes a whole row.
+pub fn is_below(work: &[u32], a: ClassNo, b: ClassNo) -> bool
+    requires { ⌜ (1 ≤ a .0) × (a .0 * classWords ≤ length (now work)) ⌝ }
+    ensures { λ r. ⌜ r ≡ inSet (rowOf (now (work .entry)) (a .0)) (b .0) ⌝ }
+    ensures { λ r. ⌜ ((v : List ℕ) → ClosedRows v (now (work .entry)) → Name (classCount v) (a .0) → r ≡ isBelow (vocabularyOf v) (a .0) (b .0)) ⌝ }
+{
+    ClassSet::has_at(work, row_at(a.0), b)
+}
+
+// The classes above c.
+pub fn above(work: &[u32], c: ClassNo) -> ClassSet
+    requires { ⌜ (1 ≤ c .0) × (c .0 * classWords ≤ length (now work)) ⌝ }
+    ensures { λ r. ⌜ r .words ≡ rowOf (now (work .entry)) (c .0) ⌝ }
+    ensures { λ r. ⌜ ((v : List ℕ) → ClosedRows v (now (work .entry)) → Name (classCount v) (c .0) → (d : ℕ) → inSet (r .words) d ≡ isBelow (vocabularyOf v) (c .0) d) ⌝ }
+{
+    row(work, c.0)
+}
+
+// The rows of the roles stand behind room for those of the most classes: row ROLES + r is the set of the classes above the
+// ranges of r.
+const ROLES: u32 = ClassSet::MOST;
+
+// No class is above a range.
+fn empty_ranges(work: &mut [u32], n: u32)
+    requires { ⌜ (n ≤ 64) × (roleRow n * classWords ≤ length (now work)) ⌝ }
+    ensures { λ _. ⌜ now (work .exit) ≡ emptied n (now (work .entry)) ⌝ }
+{
+    for i in 0..n {
+        ClassSet::new().store(work, row_at(ROLES + (i + 1)));
+    }
+}
+
+// What record k says, where it says that a class is a range of a role: what is above the class is above the range.
+fn widen(v: &[u32], work: &mut [u32], k: u32)
+    requires { ⌜ (axiomFits (now v) k ≡ true) × (roleCount (now v) ≤ 64) × (classCount (now v) ≤ mostClasses) × (roleRow (roleCount (now v)) * classWords ≤ length (now work)) ⌝ }
+    ensures { λ _. ⌜ now (work .exit) ≡ widened (now (work .entry)) (axiomAt (now (v .entry)) k) ⌝ }
+{
+    if axiom_kind(v, k) != 5 {
+        return;
+    }
+    let r = axiom_left(v, k);
+    let c = axiom_right(v, k);
+    join(work, ROLES + r, c);
+}
+
+// Writes the rows of the roles from those of the classes, by one walk over the records.
+pub fn close_ranges(v: &[u32], work: &mut [u32])
+    requires { ⌜ (vocabularyRefusal (now v) ≡ 0) × ClosedRows (now v) (now work) × (roleRow (roleCount (now v)) * classWords ≤ length (now work)) ⌝ }
+    ensures { λ _. ⌜ Ranged (now (v .entry)) (now (work .entry)) (now (work .exit)) ⌝ }
+{
+    empty_ranges(work, role_count(v));
+    let mut k = first_axiom(v);
+    while k != 0 {
+        widen(v, work, k);
+        k = axiom_next(v, k);
+    }
+}
+
+// The classes above the ranges of r: what every value of r is in.
+pub fn range_above(work: &[u32], r: RoleNo) -> ClassSet
+    requires { ⌜ (r .0 ≤ 64) × (roleRow (r .0) * classWords ≤ length (now work)) ⌝ }
+    ensures { λ s. ⌜ s .words ≡ rowOf (now (work .entry)) (roleRow (r .0)) ⌝ }
+    ensures { λ s. ⌜ ((v : List ℕ) → RangeRows v (now (work .entry)) → Name (roleCount v) (r .0) → (b : ℕ) → inSet (s .words) b ≡ any (λ c. isBelow (vocabularyOf v) c b) (ranges (vocabularyOf v) (r .0))) ⌝ }
+{
+    row(work, ROLES + r.0)
+}
+
+// The names of which no individual has two values: a bit for each of the 64 roles and features that a vocabulary may count.
+pub struct Functional {
+    pub roles: [u32; 2],
+    pub features: [u32; 2],
+}
+
+impl Functional {
+    fn with_role(self, r: RoleNo) -> Self
+        ensures { λ s. ⌜ s ≡ withRole self (r .0) ⌝ }
+    {
+        let mut roles = self.roles;
+        let features = self.features;
+        insert(&mut roles, r.0);
+        Functional { roles, features }
+    }
+
+    fn with_feature(self, f: FeatureNo) -> Self
+        ensures { λ s. ⌜ s ≡ withFeature self (f .0) ⌝ }
+    {
+        let roles = self.roles;
+        let mut features = self.features;
+        insert(&mut features, f.0);
+        Functional { roles, features }
+    }
+
+    // With what record k says.
+    fn marked(self, v: &[u32], k: u32) -> Self
+        ensures { λ s. ⌜ s ≡ marked self (axiomAt (now (v .entry)) k) ⌝ }
+    {
+        let kind = axiom_kind(v, k);
+        let a = axiom_left(v, k);
+        match kind {
+            3 => self.with_role(RoleNo(a)),
+            4 => self.with_feature(FeatureNo(a)),
+            _ => self,
+        }
+    }
+
+    // The functional names of a vocabulary, by one walk over its records.
+    pub fn of(v: &[u32]) -> Self
+        requires { ⌜ vocabularyRefusal (now v) ≡ 0 ⌝ }
+        ensures { λ s. ⌜ Singles (now (v .entry)) s ⌝ }
+    {
+        let mut names = Functional {
+            roles: [0; 2],
+            features: [0; 2],
+        };
+        let mut k = first_axiom(v);
+        while k != 0 {
+            names = names.marked(v, k);
+            k = axiom_next(v, k);
+        }
+        names
+    }
+
+    pub fn has_role(self, r: RoleNo) -> bool
+        ensures { λ t. ⌜ t ≡ inSet (self .roles) (r .0) ⌝ }
+        ensures { λ t. ⌜ ((v : List ℕ) → Singles v self → t ≡ single (vocabularyOf v) (r .0)) ⌝ }
+    {
+        has(&self.roles, r.0)
+    }
+
+    pub fn has_feature(self, f: FeatureNo) -> bool
+        ensures { λ t. ⌜ t ≡ inSet (self .features) (f .0) ⌝ }
+        ensures { λ t. ⌜ ((v : List ℕ) → Singles v self → t ≡ singleFeature (vocabularyOf v) (f .0)) ⌝ }
+    {
+        has(&self.features, f.0)
+    }
+}

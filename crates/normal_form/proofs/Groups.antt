@@ -1,0 +1,287 @@
+-- A normal form by groups: the first arm of a functional role takes those that join it, the others stand behind it. The numbers, names
+-- and impossible concepts of a group, and its classes.
+use Prim.Native.Nat.{_+_, _≤_, suc, ℕ}
+use mathlib.Core.Bool.{Bool, _||_, cond, false, not, or-assoc, true}
+use mathlib.Core.List.{List, [], _++_, _∷_}
+use mathlib.Core.Path.{_∙_, _≡_, ap, refl, sym}
+use native.Mathlib.Omega.{arith}
+use lib.Dec.{eqb}
+use lib.ListN.{length, length-append}
+use borrow.Author.Tests.{eqb-false, eqb-true, ne-eqb}
+use Rattle.hierarchy.specs.Rows.{roleRow, rowOf, rowPlace}
+use Rattle.hierarchy.specs.declared.Functional.{Functional}
+use Rattle.meaning.proofs.Links.{Name}
+use Rattle.meaning.proofs.Rules.{all-append, head, tail}
+use Rattle.meaning.proofs.Terms.{ChainOf, count}
+use Rattle.meaning.proofs.Wellformed.{NamedAxiom, accepted-axioms, accepted-counts}
+use Rattle.meaning.specs.Lists.{All, any, cons, filter, nil}
+use Rattle.meaning.specs.NormalForm.{Form, Interval, Node, Successors, add, bare, blocked, graft, isBelow, none, normalForm, placeSuccessor, ranges, single, singleFeature, successor}
+use Rattle.meaning.specs.Policy.{Chain, class, end, impossible, interval, some}
+use Rattle.meaning.specs.Vocabulary.{Vocabulary, below, classCount, disjoint, featureCount, functionalFeature, functionalRole, mostClasses, range, roleCount, vocabularyOf}
+use Rattle.normal_form.proofs.Laws.{front-row, row-kept}
+use Rattle.normal_form.specs.Parts.{Arm, barred, barredAll, blockedAll, classesAll, classesIn, countAll, intervalCount, intervalsAll, intervalsIn, joins, parts, placeAll, roles, rolesAll, successorsOf, weigh}
+use Rattle.normal_form.specs.Steps.{ArmOf, Kept, Told, front, startOf}
+use Rattle.normal_form.specs.Tables.{Above, Prepared, tablesEnd}
+use Rattle.words.proofs.Laws.{in-zeros}
+use Rattle.words.specs.Rows.{classWords}
+use Rattle.words.specs.Sets.{inSet}
+
+-- ---- the individuals
+
+abbrev addAll : Vocabulary → List Arm → Form → Form
+addAll K [] t = t
+addAll K (a ∷ l) t = addAll K l (add K (a .child) t)
+
+abbrev onto : Vocabulary → List Arm → List ℕ → List Interval → Successors → Form
+onto K l cs ss ks = record { node = record { classes = cs; intervals = ss }; successors = placeAll K l ks }
+
+add-parts : (K : Vocabulary) (c : Chain) (t : Form) → add K c t ≡ onto K (roles c) (classesIn c (t .node .classes)) (intervalsIn (singleFeature K) c (t .node .intervals)) (t .successors)
+add-parts K end t = refl
+add-parts K (class a next) t = add-parts K next _
+add-parts K (impossible next) t = add-parts K next _
+add-parts K (some r child next) t = add-parts K next _
+add-parts K (interval f lo hi next) t = add-parts K next _
+
+place-append : (K : Vocabulary) (l m : List Arm) (ks : Successors) → placeAll K (l ++ m) ks ≡ placeAll K m (placeAll K l ks)
+place-append K [] m ks = refl
+place-append K (a ∷ l) m ks = place-append K l m _
+
+all-parts : (K : Vocabulary) (l : List Arm) (t : Form) → addAll K l t ≡ onto K (rolesAll l) (classesAll l (t .node .classes)) (intervalsAll (singleFeature K) l (t .node .intervals)) (t .successors)
+all-parts K [] t = refl
+all-parts K (a ∷ l) t =
+    ap (addAll K l) (add-parts K (a .child) t)
+    ∙ all-parts K l (onto K (roles (a .child)) (classesIn (a .child) (t .node .classes)) (intervalsIn (singleFeature K) (a .child) (t .node .intervals)) (t .successors))
+    ∙ ap (λ (x : Successors). record { node = record { classes = classesAll (a ∷ l) (t .node .classes); intervals = intervalsAll (singleFeature K) (a ∷ l) (t .node .intervals) }; successors = x })
+    (sym (place-append K (roles (a .child)) (rolesAll l) (t .successors)))
+
+-- arms after a first one of role s
+groups : (K : Vocabulary) (l : List Arm) (s : ℕ) (n : Node) (ks next : Successors) →
+    placeAll K l (successor s n ks next)
+    ≡ graft s (addAll K (filter (joins (single K) s) l) (record { node = n; successors = ks })) (placeAll K (filter (parts (single K) s) l) next)
+groups K [] s n ks next = refl
+groups K (a ∷ l) s n ks next = go (joins (single K) s a) (λ n′ ks′. groups K l s n′ ks′ next) (λ next′. groups K l s n ks next′)
+  where
+    go : (b : Bool) →
+        ((n′ : Node) (ks′ : Successors) → placeAll K l (successor s n′ ks′ next)
+        ≡ graft s (addAll K (filter (joins (single K) s) l) (record { node = n′; successors = ks′ })) (placeAll K (filter (parts (single K) s) l) next)) →
+        ((next′ : Successors) → placeAll K l (successor s n ks next′)
+        ≡ graft s (addAll K (filter (joins (single K) s) l) (record { node = n; successors = ks })) (placeAll K (filter (parts (single K) s) l) next′)) →
+        placeAll K l
+        (cond b (graft s (add K (a .child) (record { node = n; successors = ks })) next)
+        (successor s n ks (placeSuccessor (single K (a .role)) (a .role) (bare (ranges K (a .role))) (add K (a .child)) next)))
+        ≡ graft s (addAll K (cond b (a ∷ filter (joins (single K) s) l) (filter (joins (single K) s) l)) (record { node = n; successors = ks }))
+        (placeAll K (cond (not b) (a ∷ filter (parts (single K) s) l) (filter (parts (single K) s) l)) next)
+    go true f g = f _ _
+    go false f g = g _
+
+-- a first arm and those behind it
+by-groups : (K : Vocabulary) (a : Arm) (l : List Arm) →
+    let every = a ∷ filter (joins (single K) (a .role)) l in
+    successorsOf K (a ∷ l) ≡ successor (a .role) (record { classes = classesAll every (ranges K (a .role)); intervals = intervalsAll (singleFeature K) every [] })
+    (successorsOf K (rolesAll every)) (successorsOf K (filter (parts (single K) (a .role)) l))
+unfolding successorsOf
+by-groups K a l =
+    groups K l (a .role) (add K (a .child) (bare (ranges K (a .role))) .node) (add K (a .child) (bare (ranges K (a .role))) .successors) none
+    ∙ ap (λ (t : Form). graft (a .role) t (placeAll K (filter (parts (single K) (a .role)) l) none)) (all-parts K (a ∷ filter (joins (single K) (a .role)) l) (bare (ranges K (a .role))))
+
+-- by tests that tell the functional names
+pub successors-cons : (K : Vocabulary) {one two : ℕ → Bool} → one ≡ single K → two ≡ singleFeature K → (a : Arm) (l : List Arm) →
+    let every = a ∷ filter (joins one (a .role)) l in
+    successorsOf K (a ∷ l) ≡ successor (a .role) (record { classes = classesAll every (ranges K (a .role)); intervals = intervalsAll two every [] })
+    (successorsOf K (rolesAll every)) (successorsOf K (filter (parts one (a .role)) l))
+successors-cons K e d a l = rw (e, d) (by-groups K a l)
+
+-- the whole term: as the one arm of a role 0 without ranges
+pub successors-root : (K : Vocabulary) (c : Chain) → ranges K 0 ≡ [] →
+    successorsOf K (record { role = 0; child = c } ∷ []) ≡ successor 0 (normalForm K c .node) (normalForm K c .successors) none
+unfolding successorsOf normalForm
+successors-root K c e = ap (λ (cs : List ℕ). graft 0 (add K c (bare cs)) none) e
+
+-- ---- numbers
+
+module _ (p : Arm → Bool) where
+  pub filter-length : (l : List Arm) → length (filter p l) + length (filter (λ a. not (p a)) l) ≡ length l
+  filter-length [] = refl
+  filter-length (a ∷ l) = go (p a) (filter-length l)
+    where
+      go : (b : Bool) → length (filter p l) + length (filter (λ x. not (p x)) l) ≡ length l →
+          length (cond b (a ∷ filter p l) (filter p l)) + length (cond (not b) (a ∷ filter (λ x. not (p x)) l) (filter (λ x. not (p x)) l)) ≡ suc (length l)
+      go true h = omega arith
+      go false h = omega arith
+
+  pub filter-weigh : (l : List Arm) → weigh (filter p l) + weigh (filter (λ a. not (p a)) l) ≡ weigh l
+  filter-weigh [] = refl
+  filter-weigh (a ∷ l) = go (p a) (filter-weigh l)
+    where
+      go : (b : Bool) → weigh (filter p l) + weigh (filter (λ x. not (p x)) l) ≡ weigh l →
+          weigh (cond b (a ∷ filter p l) (filter p l)) + weigh (cond (not b) (a ∷ filter (λ x. not (p x)) l) (filter (λ x. not (p x)) l)) ≡ count (a .child) + weigh l
+      go true h = omega arith
+      go false h = omega arith
+
+weigh-append : (l m : List Arm) → weigh (l ++ m) ≡ weigh l + weigh m
+weigh-append [] m = omega arith
+weigh-append (a ∷ l) m = let h = weigh-append l m in omega arith
+
+-- arms, constraints and what lies below them are among a chain's records
+chain-count : (c : Chain) → length (roles c) + intervalCount c + weigh (roles c) ≤ count c
+chain-count end = omega arith
+chain-count (class a next) = let h = chain-count next in omega arith
+chain-count (impossible next) = let h = chain-count next in omega arith
+chain-count (some r child next) = let h = chain-count next in omega arith
+chain-count (interval f lo hi next) = let h = chain-count next in omega arith
+
+pub all-count : (l : List Arm) → length (rolesAll l) + countAll l + weigh (rolesAll l) ≤ weigh l
+all-count [] = omega arith
+all-count (a ∷ l) =
+    let h = all-count l in
+    let g = chain-count (a .child) in
+    omega (arith, length-append (roles (a .child)) (rolesAll l), weigh-append (roles (a .child)) (rolesAll l))
+
+-- ---- the impossible concept
+
+-- two of four by two of four
+swap : (a b c d : Bool) → (a || b) || (c || d) ≡ (a || c) || (b || d)
+swap true b c d = refl
+swap false true true d = refl
+swap false true false d = refl
+swap false false c d = refl
+
+front-of : (a b c : Bool) → a || (b || c) ≡ b || (a || c)
+front-of true true c = refl
+front-of true false c = refl
+front-of false b c = refl
+
+pub any-append : {A : Type 0} (p : A → Bool) (l m : List A) → any p (l ++ m) ≡ any p l || any p m
+any-append p [] m = refl
+any-append p (x ∷ l) m = ap (λ (b : Bool). p x || b) (any-append p l m) ∙ sym (or-assoc (p x) (any p l) (any p m))
+
+chain-blocked : (c : Chain) → blocked c ≡ barred c || blockedAll (roles c)
+chain-blocked end = refl
+chain-blocked (class a next) = chain-blocked next
+chain-blocked (impossible next) = refl
+chain-blocked (some r child next) = ap (λ (b : Bool). blocked child || b) (chain-blocked next) ∙ front-of (blocked child) (barred next) (blockedAll (roles next))
+chain-blocked (interval f lo hi next) = chain-blocked next
+
+pub all-blocked : (l : List Arm) → blockedAll l ≡ barredAll l || blockedAll (rolesAll l)
+all-blocked [] = refl
+all-blocked (a ∷ l) =
+    ap (λ (b : Bool). b || blockedAll l) (chain-blocked (a .child))
+    ∙ ap (λ (b : Bool). (barred (a .child) || blockedAll (roles (a .child))) || b) (all-blocked l)
+    ∙ swap (barred (a .child)) (blockedAll (roles (a .child))) (barredAll l) (blockedAll (rolesAll l))
+    ∙ ap (λ (b : Bool). (barred (a .child) || barredAll l) || b) (sym (any-append (λ x. blocked (x .child)) (roles (a .child)) (rolesAll l)))
+
+pub filter-blocked : (p : Arm → Bool) (l : List Arm) → blockedAll l ≡ blockedAll (filter p l) || blockedAll (filter (λ a. not (p a)) l)
+filter-blocked p [] = refl
+filter-blocked p (a ∷ l) = go (p a) (filter-blocked p l)
+  where
+    go : (b : Bool) → blockedAll l ≡ blockedAll (filter p l) || blockedAll (filter (λ x. not (p x)) l) →
+        blocked (a .child) || blockedAll l ≡ blockedAll (cond b (a ∷ filter p l) (filter p l)) || blockedAll (cond (not b) (a ∷ filter (λ x. not (p x)) l) (filter (λ x. not (p x)) l))
+    go true h = ap (λ (t : Bool). blocked (a .child) || t) h ∙ sym (or-assoc (blocked (a .child)) (blockedAll (filter p l)) (blockedAll (filter (λ x. not (p x)) l)))
+    go false h = ap (λ (t : Bool). blocked (a .child) || t) h ∙ front-of (blocked (a .child)) (blockedAll (filter p l)) (blockedAll (filter (λ x. not (p x)) l))
+
+-- ---- names
+
+pub filter-all : {P : Arm → Type 0} (p : Arm → Bool) {l : List Arm} → All P l → All P (filter p l)
+filter-all p nil = nil
+filter-all {P} p (cons {x = a} {l = l} h t) = go (p a) (filter-all p t)
+  where
+    go : (b : Bool) → All P (filter p l) → All P (cond b (a ∷ filter p l) (filter p l))
+    go true r = cons h r
+    go false r = r
+
+module _ (v : List ℕ) where
+  named-roles : (c : Chain) → ChainOf v c → All (ArmOf v) (roles c)
+  named-roles end h = nil
+  named-roles (class a next) h = named-roles next (h .1)
+  named-roles (impossible next) h = named-roles next h
+  named-roles (some r child next) h = cons (h .0 .1, h .1) (named-roles next (h .2))
+  named-roles (interval f lo hi next) h = named-roles next (h .1)
+
+  pub named-below : (l : List Arm) → All (ArmOf v) l → All (ArmOf v) (rolesAll l)
+  named-below [] h = nil
+  named-below (a ∷ l) h = all-append (named-roles (a .child) (head h .1)) (named-below l (tail h))
+
+  named-classes : (c : Chain) (cs : List ℕ) → ChainOf v c → All (Name (classCount v)) cs → All (Name (classCount v)) (classesIn c cs)
+  named-classes end cs h g = g
+  named-classes (class a next) cs h g = named-classes next (a ∷ cs) (h .1) (cons (h .0) g)
+  named-classes (impossible next) cs h g = named-classes next cs h g
+  named-classes (some r child next) cs h g = named-classes next cs (h .2) g
+  named-classes (interval f lo hi next) cs h g = named-classes next cs (h .1) g
+
+  named-all : (l : List Arm) (cs : List ℕ) → All (ArmOf v) l → All (Name (classCount v)) cs → All (Name (classCount v)) (classesAll l cs)
+  named-all [] cs h g = g
+  named-all (a ∷ l) cs h g = named-all l (classesIn (a .child) cs) (tail h) (named-classes (a .child) cs (head h .1) g)
+
+-- role 0 is no role, and has no range
+no-range : {N R F : ℕ} {K : Vocabulary} → All (NamedAxiom N R F) K → ranges K 0 ≡ []
+no-range nil = refl
+no-range (cons {x = below a b} n t) = no-range t
+no-range (cons {x = disjoint a b} n t) = no-range t
+no-range (cons {x = functionalRole r} n t) = no-range t
+no-range (cons {x = functionalFeature f} n t) = no-range t
+no-range (cons {x = range r c} n t) = rw (ne-eqb 0 r (λ e. omega arith)) (no-range t)
+
+-- ---- classes
+
+classes-append : (c : Chain) (cs ds : List ℕ) → classesIn c (cs ++ ds) ≡ classesIn c cs ++ ds
+classes-append end cs ds = refl
+classes-append (class a next) cs ds = classes-append next (a ∷ cs) ds
+classes-append (impossible next) cs ds = classes-append next cs ds
+classes-append (some r child next) cs ds = classes-append next cs ds
+classes-append (interval f lo hi next) cs ds = classes-append next cs ds
+
+all-append-classes : (l : List Arm) (cs ds : List ℕ) → classesAll l (cs ++ ds) ≡ classesAll l cs ++ ds
+all-append-classes [] cs ds = refl
+all-append-classes (a ∷ l) cs ds = ap (classesAll l) (classes-append (a .child) cs ds) ∙ all-append-classes l (classesIn (a .child) cs) ds
+
+-- what the rows say is what the vocabulary says
+module _ {v w : List ℕ} {f : Functional} (prepared : Prepared v w f) where
+  counts : Name mostClasses (classCount v) × (roleCount v ≤ 64) × (featureCount v ≤ 64)
+  counts = accepted-counts v (prepared .accepted)
+
+  pub unranged : ranges (vocabularyOf v) 0 ≡ []
+  unranged = no-range (accepted-axioms v (prepared .accepted))
+
+  pub prepared-kept : {j e u n m : ℕ} {w′ : List ℕ} → Kept j e u n m w w′ → Prepared v w′ f
+  prepared-kept {w′ = w′} k = record {
+    accepted = prepared .accepted;
+    closed = record {
+      fits = rw (k .same) (prepared .closed .fits);
+      rows = λ a b n. rw (same a (let u = counts in omega arith)) (prepared .closed .rows a b n);
+    };
+    ranged = record {
+      fits = rw (k .same) (prepared .ranged .fits);
+      rows = λ r b n. rw (same (roleRow r) (let u = counts in omega arith)) (prepared .ranged .rows r b n);
+    };
+    singles = prepared .singles;
+  }
+    where
+      same : (i : ℕ) → i ≤ roleRow 64 → rowOf w′ i ≡ rowOf w i
+      same i h = row-kept classWords w w′ (rowPlace i) (k .same) (λ j p q. k .before j (omega arith))
+
+  module _ (long : tablesEnd ≤ length w) (b : ℕ) where
+    rows-say : {cs : List ℕ} → All (Name (classCount v)) cs → any (λ c. inSet (rowOf (front w) c) b) cs ≡ any (λ c. isBelow (vocabularyOf v) c b) cs
+    rows-say nil = refl
+    rows-say (cons {x = c} {l = cs} n t) =
+        ap (λ (y : Bool). y || any (λ d. inSet (rowOf (front w) d) b) cs)
+        (ap (λ (l : List ℕ). inSet l b) (front-row w (rowPlace c) (let u = counts in omega arith) long) ∙ prepared .closed .rows c b n)
+        ∙ ap (λ (y : Bool). isBelow (vocabularyOf v) c b || y) (rows-say t)
+
+    start-says : (r : ℕ) → r ≤ roleCount v → inSet (startOf (front w) r) b ≡ any (λ c. isBelow (vocabularyOf v) c b) (ranges (vocabularyOf v) r)
+    unfolding startOf
+    start-says r h = go (eqb r 0) refl
+      where
+        go : (t : Bool) → eqb r 0 ≡ t → inSet (startOf (front w) r) b ≡ any (λ c. isBelow (vocabularyOf v) c b) (ranges (vocabularyOf v) r)
+        go true e = rw (eqb-true r 0 e, unranged) (in-zeros classWords b)
+        go false e =
+            let n = eqb-false r 0 e in
+            rw e (ap (λ (l : List ℕ). inSet l b) (front-row w (rowPlace (roleRow r)) (let u = counts in omega arith) long) ∙ prepared .ranged .rows r b (omega arith, h))
+
+  -- a group's set is that of the classes above its classes and its role's ranges
+  pub told-above : tablesEnd ≤ length w → (l : List Arm) (r : ℕ) (ws : List ℕ) → r ≤ roleCount v → All (ArmOf v) l →
+      Told (front w) (startOf (front w) r) ws (classesAll l []) → Above (vocabularyOf v) ws (classesAll l (ranges (vocabularyOf v) r))
+  told-above long l r ws h n t b =
+      t b ∙ ap (λ (y : Bool). y || inSet (startOf (front w) r) b) (rows-say long b (named-all v l [] n nil))
+      ∙ ap (λ (y : Bool). any (λ c. isBelow (vocabularyOf v) c b) (classesAll l []) || y) (start-says long b r h)
+      ∙ sym (any-append (λ c. isBelow (vocabularyOf v) c b) (classesAll l []) (ranges (vocabularyOf v) r))
+      ∙ ap (any (λ c. isBelow (vocabularyOf v) c b)) (sym (all-append-classes l [] (ranges (vocabularyOf v) r)))

@@ -1,0 +1,286 @@
+-- The pending roles that join one: the ways of `gather`.
+use Prim.Native.Nat.{_+_, _-_, _<_, _≤_, ℕ}
+use mathlib.Core.Bool.{Bool, false, true}
+use mathlib.Core.List.{List, [], _++_, _∷_}
+use mathlib.Core.Logic.{_⊎_, inl, inr}
+use mathlib.Core.Path.{_∙_, _≡_, ap, refl, subst, sym}
+use native.Mathlib.Omega.{arith}
+use lib.Dec.{eqb}
+use lib.ListN.{getD, length, length-append, length-set, set}
+use lib.Seq.{getD-set-other, getD-set-same}
+use borrow.Author.Tests.{eq-eqb, ne-eqb}
+use Rattle.meaning.proofs.Rules.{head, tail}
+use Rattle.meaning.specs.Lists.{All, cons, filter, nil}
+use Rattle.meaning.specs.NormalForm.{Interval}
+use Rattle.meaning.specs.Policy.{Chain, childOf}
+use Rattle.normal_form.proofs.Chains.{add-none, adds-then, front-same}
+use Rattle.normal_form.proofs.Laws.{front-kept, intervals-kept, words-eq, words-kept, words-next}
+use Rattle.normal_form.specs.Parts.{Arm, armAt, barred, chainAt, classesIn, intervalCount, intervalsIn, joins, live, parts, roles, rolesAll, wordsAt}
+use Rattle.normal_form.specs.Steps.{Adding, Adds, Entry, Gathering, Good, ReadyFor, ReadyForAll, Struck, Sure, Told, front, restAt}
+use Rattle.normal_form.specs.Tables.{IntervalsStand, heldBy, pendingAt, rowsAt, tablesEnd}
+use Rattle.normal_form.specs.declared.Got.{Got}
+
+-- ---- the pending words
+
+module _ (p w : List ℕ) (j stop : ℕ) where
+  pub rest-none : j ≡ stop → restAt p w j stop ≡ []
+  rest-none e = ap (live p) (words-eq w {b = j} {n = stop - j} {n′ = 0} refl (omega arith))
+
+  module _ (less : j < stop) where
+    pub rest-zero : getD w j 0 ≡ 0 → restAt p w j stop ≡ restAt p w (j + 1) stop
+    rest-zero e = ap (live p) (words-next w j stop less) ∙ rw (eq-eqb (getD w j 0) 0 e)
+
+    pub rest-arm : (k : ℕ) → (k ≡ 0 → ⊥) → k ≡ getD w j 0 → restAt p w j stop ≡ armAt p k ∷ restAt p w (j + 1) stop
+    rest-arm k n e = ap (live p) (words-next w j stop less) ∙ rw (← e, ne-eqb k 0 n)
+
+    sure-split : Sure p (wordsAt w j (stop - j)) → Sure p (getD w j 0 ∷ wordsAt w (j + 1) (stop - (j + 1)))
+    sure-split s = subst (λ (l : List ℕ). Sure p l) (words-next w j stop less) s
+
+    pub sure-tail : Sure p (wordsAt w j (stop - j)) → Sure p (wordsAt w (j + 1) (stop - (j + 1)))
+    sure-tail s = tail (sure-split s)
+
+    pub sure-entry : Sure p (wordsAt w j (stop - j)) → (k : ℕ) → (k ≡ 0 → ⊥) → k ≡ getD w j 0 → Entry p k
+    sure-entry s k n e = subst (λ (y : ℕ). Entry p y) (sym e) (go (head (sure-split s)))
+      where
+        go : (getD w j 0 ≡ 0) ⊎ Entry p (getD w j 0) → Entry p (getD w j 0)
+        go (inl z) = absurd (n (e ∙ z))
+        go (inr h) = h
+
+    pub sure-cons : (getD w j 0 ≡ 0) ⊎ Entry p (getD w j 0) → Sure p (wordsAt w (j + 1) (stop - (j + 1))) → Sure p (wordsAt w j (stop - j))
+    sure-cons h s = subst (λ (l : List ℕ). Sure p l) (sym (words-next w j stop less)) (cons h s)
+
+pub words-same : (w w′ : List ℕ) (j stop : ℕ) → ((i : ℕ) → j ≤ i → i < stop → getD w′ i 0 ≡ getD w i 0) → wordsAt w′ j (stop - j) ≡ wordsAt w j (stop - j)
+words-same w w′ j stop f = words-kept w w′ j (stop - j) (λ i a b. f i a (omega arith))
+
+-- ---- those of them that join role r
+
+abbrev pub picks : (ℕ → Bool) → List ℕ → List ℕ → ℕ → ℕ → ℕ → List Arm
+picks one p w r j stop = filter (joins one r) (restAt p w j stop)
+
+lower : {p : List ℕ} {x j e m : ℕ} {fc : List ℕ → List ℕ} {rs : List Arm} {fs : List Interval → List Interval} {ns : ℕ} {b : Bool} {u u′ : List ℕ} {h h′ : Got} →
+    Adds p x (j + 1) e m fc rs fs ns b u u′ h h′ → Adds p x j e m fc rs fs ns b u u′ h h′
+lower s = record {
+  classes = s .classes;
+  pending = s .pending;
+  arms = s .arms;
+  sure = s .sure;
+  top = s .top;
+  intervals = s .intervals;
+  few = s .few;
+  first = s .first;
+  bars = s .bars;
+  kept = record {
+    before = s .kept .before;
+    low = λ i f. s .kept .low i (omega arith);
+    upper = s .kept .upper;
+    rows = s .kept .rows;
+    intervals = s .kept .intervals;
+    behind = s .kept .behind;
+    same = s .kept .same;
+  };
+}
+
+-- `one` tells the functional roles, `two` the functional features
+module _ (one two : ℕ → Bool) (p : List ℕ) (x r j stop m : ℕ) (w : List ℕ) (g : Got) where
+  -- what `gather` asks
+  abbrev Can : ℕ → List ℕ → Got → Type 0
+  Can i u h = (i ≤ stop) × (stop ≤ h .pending) × (pendingAt ≤ i) × Sure p (wordsAt u i (stop - i)) × ReadyForAll u m h (restAt p u i stop)
+
+  -- what it gives
+  abbrev Done : ℕ → List ℕ → List ℕ → Got → Got → Type 0
+  Done i u u′ h h′ = Gathering two p x i stop m (picks one p u r i stop) u u′ h h′ × Struck one p r i stop u u′
+
+  module _ (can : Can j w g) where
+    pub gather-end : j ≡ stop → Done j w w g g
+    gather-end e = (
+      subst (λ (l : List Arm). Gathering two p x j stop m (filter (joins one r) l) w w g g) (sym (rest-none p w j stop e)) (add-none p x m w g j stop),
+      record { left = rest-none p w j stop e ∙ sym (ap (filter (parts one r)) (rest-none p w j stop e)); sure = can .3 },
+    )
+
+    module _ (ne : j ≡ stop → ⊥) where
+      pub less : j < stop
+      less = let a = can .0 in omega arith
+
+      -- struck out already
+      module _ (z : getD w j 0 ≡ 0) where
+        pub skip-can : Can (j + 1) w g
+        skip-can = (
+          let a = less in omega arith,
+          can .1,
+          let a = can .2 in omega arith,
+          sure-tail p w j stop less (can .3),
+          rw (rest-zero p w j stop less z) at (can .4),
+        )
+
+        pub skip-done : {w′ : List ℕ} {g′ : Got} → Done (j + 1) w w′ g g′ → Done j w w′ g g′
+        skip-done {w′} {g′} s = (
+          subst (λ (l : List Arm). Gathering two p x j stop m (filter (joins one r) l) w w′ g g′) (sym (rest-zero p w j stop less z)) (lower (s .0)),
+          record {
+            left = rest-zero p w′ j stop less zero′ ∙ s .1 .left ∙ ap (filter (parts one r)) (sym (rest-zero p w j stop less z));
+            sure = sure-cons p w′ j stop less (inl zero′) (s .1 .sure);
+          },
+        )
+          where
+            zero′ : getD w′ j 0 ≡ 0
+            zero′ = s .0 .kept .low j (omega arith) ∙ z
+
+      module _ {k : ℕ} (ek : k ≡ getD w j 0) (nk : k ≡ 0 → ⊥) where
+        pub entry : Entry p k
+        entry = sure-entry p w j stop less (can .3) k nk ek
+
+        rest : restAt p w j stop ≡ armAt p k ∷ restAt p w (j + 1) stop
+        rest = rest-arm p w j stop less k nk ek
+
+        -- room for record k's chain and for the others
+        room : ReadyForAll w m g (armAt p k ∷ restAt p w (j + 1) stop)
+        room = rw rest at (can .4)
+
+        -- not of the role
+        module _ (no : joins one r (armAt p k) ≡ false) where
+          pub pass-can : Can (j + 1) w g
+          pass-can =
+              let e = length-append (roles (chainAt p (childOf p k))) (rolesAll (restAt p w (j + 1) stop)) in
+              let a = room .pending in
+              let b = room .intervals in (
+                let a = less in omega arith,
+                can .1,
+                let a = can .2 in omega arith,
+                sure-tail p w j stop less (can .3),
+                record { long = room .long; low = room .low; pending = omega arith; first = room .first; intervals = omega arith },
+              )
+
+          pub pass-done : {w′ : List ℕ} {g′ : Got} → Done (j + 1) w w′ g g′ → Done j w w′ g g′
+          pass-done {w′} {g′} s = (
+            subst (λ (l : List Arm). Gathering two p x j stop m l w w′ g g′) (sym passed) (lower (s .0)),
+            record {
+              left = rest-arm p w′ j stop less k nk ek′ ∙ ap (λ (l : List Arm). armAt p k ∷ l) (s .1 .left) ∙ kept-arm ∙ ap (filter (parts one r)) (sym rest);
+              sure = sure-cons p w′ j stop less (inr (subst (λ (y : ℕ). Entry p y) ek′ entry)) (s .1 .sure);
+            },
+          )
+            where
+              ek′ : k ≡ getD w′ j 0
+              ek′ = ek ∙ sym (s .0 .kept .low j (omega arith))
+
+              passed : picks one p w r j stop ≡ picks one p w r (j + 1) stop
+              passed = ap (filter (joins one r)) rest ∙ rw no
+
+              kept-arm : armAt p k ∷ filter (parts one r) (restAt p w (j + 1) stop) ≡ filter (parts one r) (armAt p k ∷ restAt p w (j + 1) stop)
+              kept-arm = rw no
+
+        -- of the role: u is the words with it struck out
+        module _ (yes : joins one r (armAt p k) ≡ true) {y : ℕ} (ey : y ≡ childOf p k) {u : List ℕ} (eu : u ≡ set w j 0) where
+          u-other : (i : ℕ) → (i ≡ j → ⊥) → getD u i 0 ≡ getD w i 0
+          u-other i d = ap (λ (l : List ℕ). getD l i 0) eu ∙ getD-set-other w j i 0 0 d
+
+          u-length : length u ≡ length w
+          u-length = ap length eu ∙ length-set w j 0
+
+          pub take-chain : Good p y × ReadyFor u m g (chainAt p y)
+          take-chain =
+              let e = length-append (roles (chainAt p (childOf p k))) (rolesAll (restAt p w (j + 1) stop)) in
+              let z = u-length in
+              let a = room .pending in
+              let b = room .intervals in
+              let l = room .long in
+              rw ey (entry .good, record { long = omega arith; low = room .low; pending = omega arith; first = room .first; intervals = omega arith })
+
+          -- v is the words after its chain, h what it has given
+          module _ {v : List ℕ} {h : Got} (c : Adding two p x m (chainAt p y) u v g h) where
+            c′ : Adding two p x m (chainAt p (childOf p k)) u v g h
+            c′ = subst (λ (i : ℕ). Adding two p x m (chainAt p i) u v g h) ey c
+
+            end-low : stop ≤ g .pending
+            end-low = can .1
+
+            v-zero : getD v j 0 ≡ 0
+            v-zero =
+                let o = less in
+                let q = end-low in
+                let t = room .pending in
+                let l = room .long in
+                c .kept .upper j (omega arith) (omega arith) ∙ ap (λ (l : List ℕ). getD l j 0) eu ∙ getD-set-same w j 0 0 (omega arith)
+
+            v-words : wordsAt v (j + 1) (stop - (j + 1)) ≡ wordsAt w (j + 1) (stop - (j + 1))
+            v-words = words-same w v (j + 1) stop (λ i a b. c .kept .upper i (omega arith) (let q = end-low in omega arith) ∙ u-other i (λ d. omega arith))
+
+            v-rest : restAt p v (j + 1) stop ≡ restAt p w (j + 1) stop
+            v-rest = ap (live p) v-words
+
+            pub take-can : Can (j + 1) v h
+            take-can =
+                let e = length-append (roles (chainAt p (childOf p k))) (rolesAll (restAt p w (j + 1) stop)) in
+                let z = u-length in
+                let a = room .pending in
+                let b = room .intervals in
+                let l = room .long in
+                let o = room .low in
+                let i = room .first in
+                let c1 = c′ .pending in
+                let c2 = c′ .few in
+                let c3 = c′ .first in
+                let c4 = c′ .kept .same in
+                let q = end-low in
+                let t = less in
+                let n = can .2 in (
+                  omega arith,
+                  omega arith,
+                  omega arith,
+                  subst (λ (l : List ℕ). Sure p l) (sym v-words) (sure-tail p w j stop less (can .3)),
+                  rw v-rest (record { long = omega arith; low = omega arith; pending = omega arith; first = omega arith; intervals = omega arith }),
+                )
+
+            u-front : front u ≡ front w
+            u-front = let n = can .2 in front-kept w u u-length (λ i a. u-other i (λ d. omega arith))
+
+            abbrev given : Chain
+            given = chainAt p (childOf p k)
+
+            struck-chain : Adds p x j stop m (classesIn given) (roles given) (intervalsIn two given) (intervalCount given) (barred given) w v g h
+            struck-chain = record {
+              classes = λ s cs q. rw u-front at (c′ .classes s cs (rw u-front q));
+              pending = c′ .pending;
+              arms = c′ .arms;
+              sure = c′ .sure;
+              top = λ l q s. c′ .top l q (onto-u l s);
+              intervals = λ l q s. c′ .intervals l q (onto-u l s);
+              few = c′ .few;
+              first = c′ .first;
+              bars = c′ .bars;
+              kept = record {
+                before = λ i a. c′ .kept .before i a ∙ u-other i (λ d. let n = can .2 in omega arith);
+                low = λ i f. c′ .kept .upper i (omega arith) (let t = less in let q = end-low in omega arith) ∙ u-other i (λ d. omega arith);
+                upper = λ i a f. c′ .kept .upper i (omega arith) f ∙ u-other i (λ d. let t = less in omega arith);
+                rows = λ i a f. c′ .kept .rows i a f ∙ u-other i (λ d. beyond i a d);
+                intervals = λ i a f. c′ .kept .intervals i a f ∙ u-other i (λ d. beyond i (omega arith) d);
+                behind = λ i a. c′ .kept .behind i a ∙ u-other i (λ d. beyond i (omega arith) d);
+                same = c′ .kept .same ∙ u-length;
+              };
+            }
+              where
+                beyond : (i : ℕ) → rowsAt ≤ i → i ≡ j → ⊥
+                beyond i a d = let t = less in let q = end-low in let n = room .pending in omega arith
+
+                onto-u : (l : List Interval) → IntervalsStand w m (heldBy x l) → IntervalsStand u m (heldBy x l)
+                onto-u l s = intervals-kept w u m (heldBy x l) (λ i a b. u-other i (λ d. beyond i (omega arith) d)) s
+
+            module _ {w′ : List ℕ} {g′ : Got} (s : Done (j + 1) v w′ h g′) where
+              taken : picks one p w r j stop ≡ armAt p k ∷ picks one p w r (j + 1) stop
+              taken = ap (filter (joins one r)) rest ∙ rw yes
+
+              more : Gathering two p x j stop m (picks one p w r (j + 1) stop) v w′ h g′
+              more = subst (λ (l : List Arm). Gathering two p x j stop m (filter (joins one r) l) v w′ h g′) v-rest (lower (s .0))
+
+              zero′ : getD w′ j 0 ≡ 0
+              zero′ = s .0 .kept .low j (omega arith) ∙ v-zero
+
+              gone : filter (parts one r) (restAt p w (j + 1) stop) ≡ filter (parts one r) (armAt p k ∷ restAt p w (j + 1) stop)
+              gone = rw yes
+
+              pub take-done : Done j w w′ g g′
+              take-done = (
+                subst (λ (l : List Arm). Gathering two p x j stop m l w w′ g g′) (sym taken) (adds-then p x j stop m _ _ refl refl end-low struck-chain more),
+                record {
+                  left = rest-zero p w′ j stop less zero′ ∙ s .1 .left ∙ ap (filter (parts one r)) v-rest ∙ gone ∙ ap (filter (parts one r)) (sym rest);
+                  sure = sure-cons p w′ j stop less (inl zero′) (s .1 .sure);
+                },
+              )

@@ -1,0 +1,647 @@
+-- One individual with its row, the individuals of pending roles, and the whole form: the ways of `node`, `successors`, `normalise`.
+use Prim.Native.Nat.{_*_, _+_, _-_, _<_, _≤_, suc, ℕ}
+use mathlib.Core.Bool.{Bool, _||_, false, or-assoc, or-false}
+use mathlib.Core.List.{List, [], _++_, _∷_, append-nil}
+use mathlib.Core.Logic.{inr}
+use mathlib.Core.Path.{_∙_, _≡_, ap, fun-ext, refl, subst, sym}
+use native.Mathlib.Omega.{arith}
+use lib.ListN.{getD, length, length-append, length-set, set}
+use lib.Seq.{getD-set-other, getD-set-same}
+use Rattle.hierarchy.specs.declared.Functional.{Functional}
+use Rattle.meaning.proofs.Terms.{ChainOf, count}
+use Rattle.meaning.specs.Countermodel.{size}
+use Rattle.meaning.specs.Lists.{All, cons, filter, nil}
+use Rattle.meaning.proofs.Rules.{head, tail}
+use Rattle.meaning.specs.NormalForm.{Interval, Node, Successors, blocked, none, normalForm, ranges, single, singleFeature, successor}
+use Rattle.meaning.specs.Policy.{Chain, childOf, nameOf}
+use Rattle.meaning.specs.Splitting.{intervalsOf}
+use Rattle.meaning.specs.Vocabulary.{Vocabulary, vocabularyOf}
+use Rattle.normal_form.proofs.Chains.{adds-less, adds-then, front-same, kept-same}
+use Rattle.normal_form.proofs.Groups.{all-blocked, all-count, filter-all, filter-blocked, filter-length, filter-weigh, named-below, prepared-kept, successors-cons, successors-root, told-above, unranged}
+use Rattle.normal_form.proofs.Joining.{picks, rest-arm, rest-none, rest-zero, sure-cons, sure-entry, sure-tail, words-same}
+use Rattle.normal_form.proofs.Laws.{front-kept, held-length, intervals-append, intervals-kept, row-kept, words-eq, words-kept}
+use Rattle.normal_form.specs.Parts.{Arm, armAt, barredAll, blockedAll, chainAt, classesAll, countAll, intervalCount, intervalsAll, joins, live, parts, roles, rolesAll, successorsOf, weigh, wordsAt}
+use Rattle.normal_form.specs.Steps.{Adding, Built, Entry, Gathering, Good, Grown, Kept, ArmOf, Noded, ReadyFor, ReadyForAll, Room, RowPut, Struck, Sure, Told, everyAt, front, othersAt, restAt, startOf}
+use Rattle.normal_form.specs.Tables.{Fit, Held, IntervalsStand, Normalised, Prepared, RowStands, RowsStand, Tabled, heldBelow, heldBy, intervalPlace, pendingAt, individualPlace, rowsAt, tablesEnd, termAt}
+use Rattle.normal_form.specs.declared.Got.{Got}
+use Rattle.normal_form.specs.declared.Tables.{Tables}
+use Rattle.words.specs.Rows.{classWords, rowAt}
+use Rattle.words.specs.Sets.{inSet}
+
+-- ---- one individual; `one` tells the functional roles, `two` the functional features
+
+module _ (one two : ℕ → Bool) (p w : List ℕ) (j stop n m k : ℕ) (less : j < stop) (ek : k ≡ getD w j 0) (nz : k ≡ 0 → ⊥) (room : Room p w j stop n m) where
+  abbrev R : List Arm
+  R = restAt p w (j + 1) stop
+
+  abbrev every : List Arm
+  every = everyAt one p w j stop k
+
+  abbrev others : List Arm
+  others = othersAt one p w j stop k
+
+  abbrev own : Chain
+  own = chainAt p (childOf p k)
+
+  entry-in : Entry p k
+  entry-in = sure-entry p w j stop less (room .sure) k nz ek
+
+  rest : restAt p w j stop ≡ armAt p k ∷ R
+  rest = rest-arm p w j stop less k nz ek
+
+  -- the numbers
+  record Sums : Type 0 where
+    long : length (restAt p w j stop) ≡ suc (length R)
+    heavy : weigh (restAt p w j stop) ≡ count own + weigh R
+    cut-long : length (filter (joins one (nameOf p k)) R) + length others ≡ length R
+    cut-heavy : weigh (filter (joins one (nameOf p k)) R) + weigh others ≡ weigh R
+    all : length (rolesAll (armAt p k ∷ R)) + countAll (armAt p k ∷ R) + weigh (rolesAll (armAt p k ∷ R)) ≤ weigh (armAt p k ∷ R)
+    split : length (rolesAll (armAt p k ∷ R)) ≡ length (roles own) + length (rolesAll R)
+    both : length (rolesAll every) + countAll every + weigh (rolesAll every) ≤ weigh every
+    whole : weigh every ≡ count own + weigh (filter (joins one (nameOf p k)) R)
+
+  sums : Sums
+  sums = record {
+    long = ap length rest;
+    heavy = ap weigh rest;
+    cut-long = filter-length (joins one (nameOf p k)) R;
+    cut-heavy = filter-weigh (joins one (nameOf p k)) R;
+    all = all-count (armAt p k ∷ R);
+    split = length-append (roles own) (rolesAll R);
+    both = all-count every;
+    whole = refl;
+  }
+
+  pub number : n < 512
+  number = let s = sums .long in let a = room .rows in omega arith
+
+  pub role-small : nameOf p k ≤ 64
+  role-small = entry-in .role
+
+  module _ {start : Got} (sp : start .pending ≡ stop) (ss : start .intervals ≡ m) {y : ℕ} (ey : y ≡ childOf p k) where
+    pub own-ready : Good p y × ReadyFor w m start (chainAt p y)
+    own-ready =
+        let s1 = sums .heavy in
+        let s2 = sums .all in
+        let s3 = sums .split in
+        let a = room .pending in
+        let b = room .intervals in
+        let l = room .low in
+        rw ey (entry-in .good, record { long = room .long; low = omega arith; pending = omega arith; first = omega arith; intervals = omega arith })
+
+    module _ {x : ℕ} {w1 : List ℕ} {mine : Got} (c : Adding two p x m (chainAt p y) w w1 start mine) where
+      c′ : Adding two p x m own w w1 start mine
+      c′ = subst (λ (i : ℕ). Adding two p x m (chainAt p i) w w1 start mine) ey c
+
+      same-words : wordsAt w1 (j + 1) (stop - (j + 1)) ≡ wordsAt w (j + 1) (stop - (j + 1))
+      same-words = words-same w w1 (j + 1) stop (λ i a b. c .kept .upper i (omega arith) (omega arith))
+
+      same-rest : restAt p w1 (j + 1) stop ≡ R
+      same-rest = ap (live p) same-words
+
+      pub gather-can : (j + 1 ≤ stop) × (stop ≤ mine .pending) × (pendingAt ≤ j + 1) × Sure p (wordsAt w1 (j + 1) (stop - (j + 1))) × ReadyForAll w1 m mine (restAt p w1 (j + 1) stop)
+      gather-can =
+          let s1 = sums .heavy in
+          let s2 = sums .all in
+          let s3 = sums .split in
+          let a = room .pending in
+          let b = room .intervals in
+          let d = room .long in
+          let l = room .low in
+          let e = c′ .pending in
+          let f = c′ .few in
+          let h = c′ .first in
+          let i = c′ .kept .same in (
+            omega arith,
+            omega arith,
+            omega arith,
+            subst (λ (l : List ℕ). Sure p l) (sym same-words) (sure-tail p w j stop less (room .sure)),
+            rw same-rest (record { long = omega arith; low = omega arith; pending = omega arith; first = omega arith; intervals = omega arith }),
+          )
+
+      -- what `gather` gives
+      abbrev Gave : ℕ → List ℕ → Got → Type 0
+      Gave r w2 g = Gathering two p x (j + 1) stop m (filter (joins one r) (restAt p w1 (j + 1) stop)) w1 w2 mine g × Struck one p r (j + 1) stop w1 w2
+
+      module _ {r : ℕ} {w2 : List ℕ} {g : Got} (er : r ≡ nameOf p k) (gave : Gave r w2 g) where
+        q : Gave (nameOf p k) w2 g
+        q = subst (λ (i : ℕ). Gave i w2 g) er gave
+
+        total : Gathering two p x (j + 1) stop m every w w2 start g
+        total =
+            adds-then p x (j + 1) stop m _ _ refl refl (omega arith) (adds-less p x (j + 1) stop m (omega arith) c′)
+            (subst (λ (l : List Arm). Gathering two p x (j + 1) stop m (filter (joins one (nameOf p k)) l) w1 w2 mine g) same-rest (q .0))
+
+        pub row-long : tablesEnd ≤ length w2
+        row-long = let a = total .kept .same in let b = room .long in omega arith
+
+        pub noded : {i : ℕ} {w3 : List ℕ} {b : Bool} → x ≡ n + 1 → start .classes .words ≡ startOf (front w) r → start .blocked ≡ b →
+            RowPut n i r (g .classes .words) w2 w3 → Noded two p every others (nameOf p k) j stop i n m b w w3 g
+        noded {i} {w3} {b} ex ec eb u =
+            let s1 = sums .heavy in
+            let s2 = sums .both in
+            let s3 = sums .whole in
+            let s4 = sums .cut-heavy in
+            let a = room .pending in
+            let d = room .intervals in
+            let l = room .low in
+            let num = number in
+            let none-yet : start .intervals ≡ m + 0 = omega arith in
+            let tp : g .pending ≡ start .pending + length (rolesAll every) = total .pending in
+            let kp : (h : ℕ) → h < rowsAt → getD w3 h 0 ≡ getD w2 h 0 = (λ h o. u .low h (omega arith)) in
+            let arms-same : wordsAt w3 stop (length (rolesAll every)) ≡ wordsAt w2 (start .pending) (length (rolesAll every)) =
+                words-kept w2 w3 stop (length (rolesAll every)) (λ h e f. kp h (omega arith)) ∙ words-eq w2 {n = length (rolesAll every)} (sym sp) refl in
+            let left-same : wordsAt w3 (j + 1) (stop - (j + 1)) ≡ wordsAt w2 (j + 1) (stop - (j + 1)) = words-same w2 w3 (j + 1) stop (λ h e f. kp h (omega arith)) in
+            record {
+              parent = u .parent;
+              role = u .role ∙ er;
+              classes = rw (u .classes) (total .classes (startOf (front w) (nameOf p k)) [] (rw (ec ∙ ap (startOf (front w)) er) (λ h. refl)));
+              top = total .top [] none-yet tt;
+              intervals = subst (λ (z : ℕ). IntervalsStand w3 m (heldBy z (intervalsAll two every []))) ex
+                  (intervals-kept w2 w3 m (heldBy x (intervalsAll two every [])) (λ h e f. u .high h (omega arith)) (total .intervals [] none-yet tt));
+              few = let f = total .few in omega arith;
+              pending = omega arith;
+              arms = ap (live p) arms-same ∙ total .arms;
+              sure = subst (λ (l : List ℕ). Sure p l) (sym arms-same) (total .sure);
+              left = ap (live p) left-same ∙ q .1 .left ∙ ap (filter (parts one (nameOf p k))) same-rest;
+              left-sure = subst (λ (l : List ℕ). Sure p l) (sym left-same) (q .1 .sure);
+              bars = total .bars ∙ ap (λ (y : Bool). y || barredAll every) eb;
+              kept = record {
+                before = λ h o. kp h (omega arith) ∙ total .kept .before h o;
+                low = λ h o. kp h (omega arith) ∙ total .kept .low h (omega arith);
+                upper = λ h o f. absurd (omega arith);
+                rows = λ h o f. u .low h f ∙ total .kept .rows h o (omega arith);
+                intervals = λ h o f. u .high h (omega arith) ∙ total .kept .intervals h o f;
+                behind = λ h o. u .high h (omega arith) ∙ total .kept .behind h o;
+                same = u .same ∙ total .kept .same;
+              };
+            }
+
+-- ---- rows that stand
+
+module _ (K : Vocabulary) (w w′ : List ℕ) (same : length w′ ≡ length w) where
+  row-kept-at : (n i r : ℕ) (cs : List ℕ) → ((h : ℕ) → individualPlace n ≤ h → h < individualPlace (n + 1) → getD w′ h 0 ≡ getD w h 0) → RowStands K w n i r cs → RowStands K w′ n i r cs
+  row-kept-at n i r cs f s = record {
+    parent = f (individualPlace n) (omega arith) (omega arith) ∙ s .parent;
+    role = f (individualPlace n + 1) (omega arith) (omega arith) ∙ s .role;
+    classes = rw (row-kept classWords w w′ (individualPlace n + 2) same (λ h a b. f h (omega arith) (omega arith))) (s .classes);
+  }
+
+  rows-kept : (ks : Successors) (i n : ℕ) → ((h : ℕ) → individualPlace n ≤ h → h < individualPlace (n + size ks) → getD w′ h 0 ≡ getD w h 0) → RowsStand K w ks i n → RowsStand K w′ ks i n
+  rows-kept none i n f s = tt
+  rows-kept (successor r m under next) i n f s = (
+    row-kept-at n i r (m .classes) (λ h a b. f h a (omega arith)) (s .0),
+    rows-kept under (suc n) (suc n) (λ h a b. f h (omega arith) (omega arith)) (s .1),
+    rows-kept next i (suc n + size under) (λ h a b. f h (omega arith) (omega arith)) (s .2),
+  )
+
+pub held-below : (ks : Successors) (k : ℕ) → length (heldBelow ks k) ≡ length (intervalsOf ks)
+held-below none k = refl
+held-below (successor r n under next) k =
+    let a = held-below under (suc k) in
+    let b = held-below next (suc k + size under) in
+    let c = held-length k (n .intervals) in
+    let d = length-append (heldBy k (n .intervals)) (heldBelow under (suc k) ++ heldBelow next (suc k + size under)) in
+    let e = length-append (heldBelow under (suc k)) (heldBelow next (suc k + size under)) in
+    let f = length-append (n .intervals) (intervalsOf under ++ intervalsOf next) in
+    let g = length-append (intervalsOf under) (intervalsOf next) in
+    omega arith
+
+-- ---- the ways of `successors`
+
+-- what is still to be done: it falls
+abbrev pub undone : List ℕ → List ℕ → ℕ → ℕ → ℕ
+undone p w j stop = weigh (restAt p w j stop) + (stop - j)
+
+module _ (f : Functional) (p w : List ℕ) (j stop i : ℕ) (t : Tables) (room : Room p w j stop (t .individuals) (t .intervals)) where
+  abbrev one : ℕ → Bool
+  one = inSet (f .roles)
+
+  abbrev two : ℕ → Bool
+  two = inSet (f .features)
+
+  pub built-end : j ≡ stop → Built f (restAt p w j stop) j i (t .individuals) (t .intervals) (t .blocked) w w t
+  unfolding successorsOf
+  built-end e = rw (rest-none p w j stop e) (record {
+    grown = λ v q h. record { count = omega arith; top = omega arith; rows = tt; held = tt };
+    more = (omega arith, omega arith);
+    few = omega arith;
+    fewer = omega arith;
+    bars = sym (or-false (t .blocked));
+    kept = kept-same j j j (t .individuals) (t .intervals) w;
+  })
+
+  module _ (ne : j ≡ stop → ⊥) where
+    pub less : j < stop
+    less = let a = room .order in omega arith
+
+    -- struck out
+    module _ (z : getD w j 0 ≡ 0) where
+      gone : restAt p w j stop ≡ restAt p w (j + 1) stop
+      gone = rest-zero p w j stop less z
+
+      pub skip-room : Room p w (j + 1) stop (t .individuals) (t .intervals)
+      skip-room =
+          let e : weigh (restAt p w j stop) ≡ weigh (restAt p w (j + 1) stop) = ap weigh gone in
+          let h : length (restAt p w j stop) ≡ length (restAt p w (j + 1) stop) = ap length gone in
+          let a = room .pending in
+          let b = room .rows in
+          let c = room .intervals in
+          let d = less in
+          let l = room .low in
+          record {
+            long = room .long;
+            low = omega arith;
+            order = omega arith;
+            sure = sure-tail p w j stop less (room .sure);
+            pending = omega arith;
+            rows = omega arith;
+            intervals = omega arith;
+          }
+
+      pub skip-falls : {n : ℕ} → undone p w j stop ≡ n → undone p w (j + 1) stop < n
+      skip-falls q =
+          let e : weigh (restAt p w j stop) ≡ weigh (restAt p w (j + 1) stop) = ap weigh gone in
+          let d = less in
+          omega arith
+
+      pub skip-built : {w′ : List ℕ} {u : Tables} → Built f (restAt p w (j + 1) stop) (j + 1) i (t .individuals) (t .intervals) (t .blocked) w w′ u →
+          Built f (restAt p w j stop) j i (t .individuals) (t .intervals) (t .blocked) w w′ u
+      skip-built s = rw gone (record {
+        grown = s .grown;
+        more = s .more;
+        few = s .few;
+        fewer = s .fewer;
+        bars = s .bars;
+        kept = record {
+          before = s .kept .before;
+          low = λ h a. s .kept .low h (omega arith);
+          upper = λ h a b. absurd (omega arith);
+          rows = s .kept .rows;
+          intervals = s .kept .intervals;
+          behind = s .kept .behind;
+          same = s .kept .same;
+        };
+      })
+
+    module _ {k : ℕ} (ek : k ≡ getD w j 0) (nz : k ≡ 0 → ⊥) where
+      abbrev S : Sums one two p w j stop (t .individuals) (t .intervals) k less ek nz room
+      S = sums one two p w j stop (t .individuals) (t .intervals) k less ek nz room
+
+      abbrev ev : List Arm
+      ev = everyAt one p w j stop k
+
+      abbrev ot : List Arm
+      ot = othersAt one p w j stop k
+
+      pub few : t .individuals < 512
+      few = number one two p w j stop (t .individuals) (t .intervals) k less ek nz room
+
+      module _ {w1 : List ℕ} {g : Got} (nd : Noded two p ev ot (nameOf p k) j stop i (t .individuals) (t .intervals) (t .blocked) w w1 g) where
+        wide : g .pending - stop ≡ length (rolesAll ev)
+        wide = let a = nd .pending in omega arith
+
+        new-words : wordsAt w1 stop (g .pending - stop) ≡ wordsAt w1 stop (length (rolesAll ev))
+        new-words = words-eq w1 {b = stop} refl wide
+
+        new-rest : restAt p w1 stop (g .pending) ≡ rolesAll ev
+        new-rest = ap (live p) new-words ∙ nd .arms
+
+        pub child-room : Room p w1 stop (g .pending) (t .individuals + 1) (g .intervals)
+        child-room =
+            let e : weigh (restAt p w1 stop (g .pending)) ≡ weigh (rolesAll ev) = ap weigh new-rest in
+            let h : length (restAt p w1 stop (g .pending)) ≡ length (rolesAll ev) = ap length new-rest in
+            let s1 = S .long in
+            let s2 = S .heavy in
+            let s3 = S .both in
+            let s4 = S .whole in
+            let s5 = S .cut-heavy in
+            let a = nd .pending in
+            let b = nd .few in
+            let c = nd .kept .same in
+            let r1 = room .pending in
+            let r2 = room .rows in
+            let r3 = room .intervals in
+            let r4 = room .long in
+            let r5 = room .low in
+            let l = less in
+            record {
+              long = omega arith;
+              low = omega arith;
+              order = omega arith;
+              sure = subst (λ (l : List ℕ). Sure p l) (sym new-words) (nd .sure);
+              pending = omega arith;
+              rows = omega arith;
+              intervals = omega arith;
+            }
+
+        pub child-falls : {n : ℕ} → undone p w j stop ≡ n → undone p w1 stop (g .pending) < n
+        child-falls q =
+            let e : weigh (restAt p w1 stop (g .pending)) ≡ weigh (rolesAll ev) = ap weigh new-rest in
+            let s2 = S .heavy in
+            let s3 = S .both in
+            let s4 = S .whole in
+            let s5 = S .cut-heavy in
+            let a = wide in
+            let d = less in
+            omega arith
+
+        module _ {x : ℕ} (ex : x ≡ t .individuals + 1) {w2 : List ℕ} {u : Tables}
+            (ch : Built f (restAt p w1 stop (g .pending)) stop x (t .individuals + 1) (g .intervals) (g .blocked) w1 w2 u) where
+          old-words : wordsAt w2 (j + 1) (stop - (j + 1)) ≡ wordsAt w1 (j + 1) (stop - (j + 1))
+          old-words = words-same w1 w2 (j + 1) stop (λ h a b. ch .kept .low h b)
+
+          old-rest : restAt p w2 (j + 1) stop ≡ ot
+          old-rest = ap (live p) old-words ∙ nd .left
+
+          -- the numbers of both
+          e1 : weigh (restAt p w1 stop (g .pending)) ≡ weigh (rolesAll ev)
+          e1 = ap weigh new-rest
+
+          e2 : length (restAt p w1 stop (g .pending)) ≡ length (rolesAll ev)
+          e2 = ap length new-rest
+
+          e3 : weigh (restAt p w2 (j + 1) stop) ≡ weigh ot
+          e3 = ap weigh old-rest
+
+          e4 : length (restAt p w2 (j + 1) stop) ≡ length ot
+          e4 = ap length old-rest
+
+          pub next-room : Room p w2 (j + 1) stop (u .individuals) (u .intervals)
+          next-room =
+              let s1 = S .long in
+              let s2 = S .heavy in
+              let s3 = S .both in
+              let s4 = S .whole in
+              let s5 = S .cut-heavy in
+              let s6 = S .cut-long in
+              let a = nd .pending in
+              let b = nd .few in
+              let c = nd .kept .same in
+              let d = ch .kept .same in
+              let h = ch .few in
+              let o = ch .fewer in
+              let r1 = room .pending in
+              let r2 = room .rows in
+              let r3 = room .intervals in
+              let r4 = room .long in
+              let r5 = room .low in
+              let l = less in
+              let n1 = e1 in
+              let n2 = e2 in
+              let n3 = e3 in
+              let n4 = e4 in
+              record {
+                long = omega arith;
+                low = omega arith;
+                order = omega arith;
+                sure = subst (λ (l : List ℕ). Sure p l) (sym old-words) (nd .left-sure);
+                pending = omega arith;
+                rows = omega arith;
+                intervals = omega arith;
+              }
+
+          pub next-falls : {n : ℕ} → undone p w j stop ≡ n → undone p w2 (j + 1) stop < n
+          next-falls q =
+              let s2 = S .heavy in
+              let s5 = S .cut-heavy in
+              let d = less in
+              let n3 = e3 in
+              omega arith
+
+          module _ {w3 : List ℕ} {u3 : Tables} (nx : Built f (restAt p w2 (j + 1) stop) (j + 1) i (u .individuals) (u .intervals) (u .blocked) w2 w3 u3) where
+            module _ (v : List ℕ) (q : Prepared v w f) (named : All (ArmOf v) (armAt p k ∷ restAt p w (j + 1) stop)) where
+              abbrev K : Vocabulary
+              K = vocabularyOf v
+
+              mine : All (ArmOf v) ev
+              mine = cons (head named) (filter-all (joins one (nameOf p k)) (tail named))
+
+              under : Successors
+              under = successorsOf K (rolesAll ev)
+
+              next : Successors
+              next = successorsOf K ot
+
+              me : Node
+              me = record { classes = classesAll ev (ranges K (nameOf p k)); intervals = intervalsAll two ev [] }
+
+              prepared1 : Prepared v w1 f
+              prepared1 = prepared-kept q (nd .kept)
+
+              below : Grown K under x (t .individuals + 1) (g .intervals) w2 u
+              unfolding under
+              below = subst (λ (l : List Arm). All (ArmOf v) l → Grown K (successorsOf K l) x (t .individuals + 1) (g .intervals) w2 u) new-rest (ch .grown v prepared1) (named-below v ev mine)
+
+              behind : Grown K next i (u .individuals) (u .intervals) w3 u3
+              unfolding next
+              behind =
+                  subst (λ (l : List Arm). All (ArmOf v) l → Grown K (successorsOf K l) i (u .individuals) (u .intervals) w3 u3) old-rest
+                  (nx .grown v (prepared-kept prepared1 (ch .kept))) (filter-all (parts one (nameOf p k)) (tail named))
+
+              -- where they stand
+              x-is : x ≡ suc (t .individuals)
+              x-is = omega arith
+
+              after : suc (t .individuals) ≡ t .individuals + 1
+              after = omega arith
+
+              then : u .individuals ≡ suc (t .individuals) + size under
+              then = let a = below .count in omega arith
+
+              row-me : RowStands K w1 (t .individuals) i (nameOf p k) (me .classes)
+              unfolding me
+              row-me = record { parent = nd .parent; role = nd .role; classes = told-above q (room .long) ev (nameOf p k) _ (head named .0) mine (nd .classes) }
+
+              rows-all : RowsStand K w3 (successor (nameOf p k) me under next) i (t .individuals)
+              rows-all = (
+                row-kept-at K w1 w3 (nx .kept .same ∙ ch .kept .same) (t .individuals) i (nameOf p k) (me .classes)
+                (λ h a b. nx .kept .rows h (omega arith) (let c = then in omega arith) ∙ ch .kept .rows h (omega arith) (omega arith)) row-me,
+                rows-kept K w2 w3 (nx .kept .same) under (suc (t .individuals)) (suc (t .individuals))
+                (λ h a b. nx .kept .rows h (omega arith) (let c = then in omega arith))
+                (subst (λ (y : ℕ). RowsStand K w2 under y (suc (t .individuals))) x-is (subst (λ (y : ℕ). RowsStand K w2 under x y) (sym after) (below .rows))),
+                subst (λ (y : ℕ). RowsStand K w3 next i y) then (behind .rows),
+              )
+
+              mid : u .intervals ≡ t .intervals + length (me .intervals) + length (intervalsOf under)
+              unfolding me
+              mid = let a = below .top in let b = nd .top in omega arith
+
+              me-held : IntervalsStand w1 (t .intervals) (heldBy (t .individuals + 1) (me .intervals))
+              unfolding me
+              me-held = nd .intervals
+
+              held-all : IntervalsStand w3 (t .intervals) (heldBelow (successor (nameOf p k) me under next) (t .individuals + 1))
+              held-all =
+                  let a = held-length (t .individuals + 1) (me .intervals) in
+                  let b = held-below under (suc (t .individuals + 1)) in
+                  let c = mid in
+                  let d : t .individuals + 1 + 1 ≡ suc (t .individuals + 1) = omega arith in
+                  let e : u .individuals + 1 ≡ suc (t .individuals + 1) + size under = let h = then in omega arith in
+                  intervals-append w3 (t .intervals) (heldBy (t .individuals + 1) (me .intervals)) (heldBelow under (suc (t .individuals + 1)) ++ heldBelow next (suc (t .individuals + 1) + size under))
+                  mine-held
+                  (intervals-append w3 (t .intervals + length (heldBy (t .individuals + 1) (me .intervals))) (heldBelow under (suc (t .individuals + 1))) (heldBelow next (suc (t .individuals + 1) + size under))
+                  (subst (λ (y : ℕ). IntervalsStand w3 y (heldBelow under (suc (t .individuals + 1)))) (let v = nd-top in omega arith)
+                  (intervals-kept w2 w3 (g .intervals) (heldBelow under (suc (t .individuals + 1))) (λ h o l. nx .kept .intervals h (let v = nd-top in omega arith) (let v = nd-top in omega arith))
+                  (subst (λ (y : ℕ). IntervalsStand w2 (g .intervals) (heldBelow under y)) d (below .held))))
+                  (subst (λ (y : ℕ). IntervalsStand w3 y (heldBelow next (suc (t .individuals + 1) + size under))) (omega arith)
+                  (subst (λ (y : ℕ). IntervalsStand w3 (u .intervals) (heldBelow next y)) e (behind .held))))
+                where
+                  nd-top : g .intervals ≡ t .intervals + length (me .intervals)
+                  nd-top = let a = below .top in let b = mid in omega arith
+
+                  mine-held : IntervalsStand w3 (t .intervals) (heldBy (t .individuals + 1) (me .intervals))
+                  mine-held =
+                      let a = held-length (t .individuals + 1) (me .intervals) in
+                      let b = nd-top in
+                      let c = mid in
+                      intervals-kept w1 w3 (t .intervals) (heldBy (t .individuals + 1) (me .intervals))
+                      (λ h o l. nx .kept .intervals h (omega arith) (omega arith) ∙ ch .kept .intervals h (omega arith) (omega arith)) me-held
+
+              together : Grown K (successor (nameOf p k) me under next) i (t .individuals) (t .intervals) w3 u3
+              together =
+                  let a1 = then in
+                  let a2 = behind .count in
+                  let a3 = mid in
+                  let a4 = behind .top in
+                  let a5 = length-append (me .intervals) (intervalsOf under ++ intervalsOf next) in
+                  let a6 = length-append (intervalsOf under) (intervalsOf next) in
+                  record { count = omega arith; top = omega arith; rows = rows-all; held = held-all }
+
+              pub node-grown : Grown K (successorsOf K (armAt p k ∷ restAt p w (j + 1) stop)) i (t .individuals) (t .intervals) w3 u3
+              unfolding me under next
+              node-grown =
+                  subst (λ (y : Successors). Grown K y i (t .individuals) (t .intervals) w3 u3)
+                  (sym (successors-cons K (fun-ext (q .singles .role)) (fun-ext (q .singles .feature)) (armAt p k) (restAt p w (j + 1) stop))) together
+
+            bars-all : u3 .blocked ≡ t .blocked || blockedAll (armAt p k ∷ restAt p w (j + 1) stop)
+            bars-all =
+                nx .bars ∙ ap (λ (y : Bool). y || blockedAll (restAt p w2 (j + 1) stop)) (ch .bars)
+                ∙ ap (λ (l : List Arm). (g .blocked || blockedAll (restAt p w1 stop (g .pending))) || blockedAll l) old-rest
+                ∙ ap (λ (l : List Arm). (g .blocked || blockedAll l) || blockedAll ot) new-rest
+                ∙ ap (λ (y : Bool). (y || blockedAll (rolesAll ev)) || blockedAll ot) (nd .bars)
+                ∙ ap (λ (y : Bool). y || blockedAll ot) (or-assoc (t .blocked) (barredAll ev) (blockedAll (rolesAll ev)))
+                ∙ ap (λ (y : Bool). (t .blocked || y) || blockedAll ot) (sym (all-blocked ev))
+                ∙ or-assoc (t .blocked) (blockedAll ev) (blockedAll ot)
+                ∙ ap (λ (y : Bool). t .blocked || y) (or-assoc (blocked (chainAt p (childOf p k))) (blockedAll (filter (joins one (nameOf p k)) (restAt p w (j + 1) stop))) (blockedAll ot))
+                ∙ ap (λ (y : Bool). t .blocked || (blocked (chainAt p (childOf p k)) || y)) (sym (filter-blocked (joins one (nameOf p k)) (restAt p w (j + 1) stop)))
+
+            pub node-built : Built f (restAt p w j stop) j i (t .individuals) (t .intervals) (t .blocked) w w3 u3
+            node-built =
+                let s1 = S .long in
+                let s2 = S .heavy in
+                let s3 = S .both in
+                let s4 = S .whole in
+                let s5 = S .cut-heavy in
+                let s6 = S .cut-long in
+                let b1 = ch .few in
+                let b2 = nx .few in
+                let b3 = ch .fewer in
+                let b4 = nx .fewer in
+                let b5 = nd .few in
+                let b6 = ch .more in
+                let b7 = nx .more in
+                let b8 = nd .top in
+                let n1 = e1 in
+                let n2 = e2 in
+                let n3 = e3 in
+                let n4 = e4 in
+                subst (λ (l : List Arm). Built f l j i (t .individuals) (t .intervals) (t .blocked) w w3 u3) (sym (rest-arm p w j stop less k nz ek)) (record {
+                  grown = λ v q h. node-grown v q h;
+                  more = (omega arith, omega arith);
+                  few = omega arith;
+                  fewer = omega arith;
+                  bars = bars-all;
+                  kept = record {
+                    before = λ h a. nx .kept .before h a ∙ ch .kept .before h a ∙ nd .kept .before h a;
+                    low = λ h a. nx .kept .low h (omega arith) ∙ ch .kept .low h (let l = less in omega arith) ∙ nd .kept .low h a;
+                    upper = λ h a b. absurd (omega arith);
+                    rows = λ h a b. nx .kept .rows h a (omega arith) ∙ ch .kept .rows h a (omega arith) ∙ nd .kept .rows h a b;
+                    intervals = λ h a b. nx .kept .intervals h a (omega arith) ∙ ch .kept .intervals h a (omega arith) ∙ nd .kept .intervals h a b;
+                    behind = λ h a. nx .kept .behind h a ∙ ch .kept .behind h a ∙ nd .kept .behind h a;
+                    same = nx .kept .same ∙ ch .kept .same ∙ nd .kept .same;
+                  };
+                })
+
+-- ---- the whole form
+
+module _ (p w : List ℕ) (s : ℕ) (fit : Fit p w s) where
+  first : getD (set w pendingAt s) pendingAt 0 ≡ s
+  first = getD-set-same w pendingAt s 0 (let a = fit .long in omega arith)
+
+  term : chainAt p (childOf p s) ≡ termAt p s
+  unfolding chainAt
+  term = refl
+
+  one-rest : restAt p (set w pendingAt s) pendingAt (pendingAt + 1) ≡ armAt p s ∷ []
+  one-rest =
+      rest-arm p (set w pendingAt s) pendingAt (pendingAt + 1) (omega arith) s (fit .here) (sym first)
+      ∙ ap (λ (l : List Arm). armAt p s ∷ l) (rest-none p (set w pendingAt s) (pendingAt + 1) (pendingAt + 1) refl)
+
+  pub root-room : Room p (set w pendingAt s) pendingAt (pendingAt + 1) 0 0
+  root-room =
+      let e : weigh (restAt p (set w pendingAt s) pendingAt (pendingAt + 1)) ≡ weigh (armAt p s ∷ []) = ap weigh one-rest in
+      let f : length (restAt p (set w pendingAt s) pendingAt (pendingAt + 1)) ≡ 1 = ap length one-rest in
+      let d : count (chainAt p (childOf p s)) ≡ count (termAt p s) = ap count term in
+      let a = fit .few in
+      let b = length-set w pendingAt s in
+      let c = fit .long in
+      record {
+        long = omega arith;
+        low = omega arith;
+        order = omega arith;
+        sure = sure-cons p (set w pendingAt s) pendingAt (pendingAt + 1) (omega arith) (inr (subst (λ (y : ℕ). Entry p y) (sym first) entry)) nil;
+        pending = omega arith;
+        rows = omega arith;
+        intervals = omega arith;
+      }
+    where
+      entry : Entry p s
+      entry = record { role = let a = fit .nameless in omega arith; good = record { reads = rw term (fit .reads); named = rw term (fit .named) } }
+
+  pub normalised : (f : Functional) {w′ : List ℕ} {u : Tables} →
+      Built f (restAt p (set w pendingAt s) pendingAt (pendingAt + 1)) pendingAt 0 0 0 false (set w pendingAt s) w′ u → Normalised f (termAt p s) w w′ u
+  normalised f {w′} {u} built = record {
+    tabled = tabled;
+    bars = b .bars ∙ or-false (blocked (chainAt p (childOf p s))) ∙ ap blocked term;
+    before = λ h a. b .kept .before h a ∙ other h (λ e. omega arith);
+    behind = λ h a. b .kept .behind h a ∙ other h (λ e. omega arith);
+    same = b .kept .same ∙ length-set w pendingAt s;
+  }
+    where
+      b : Built f (armAt p s ∷ []) pendingAt 0 0 0 false (set w pendingAt s) w′ u
+      b = subst (λ (l : List Arm). Built f l pendingAt 0 0 0 false (set w pendingAt s) w′ u) one-rest built
+
+      other : (h : ℕ) → (h ≡ pendingAt → ⊥) → getD (set w pendingAt s) h 0 ≡ getD w h 0
+      other h n = getD-set-other w pendingAt h s 0 n
+
+      root : Kept pendingAt 0 0 0 0 w (set w pendingAt s)
+      root = record {
+        before = λ h a. other h (λ e. omega arith);
+        low = λ h a. other h (λ e. omega arith);
+        upper = λ h a c. absurd (omega arith);
+        rows = λ h a c. absurd (omega arith);
+        intervals = λ h a c. absurd (omega arith);
+        behind = λ h a. other h (λ e. omega arith);
+        same = length-set w pendingAt s;
+      }
+
+      arm : armAt p s ≡ record { role = 0; child = termAt p s }
+      arm = ap (λ (r : ℕ). record { role = r; child = chainAt p (childOf p s) }) (fit .nameless) ∙ ap (λ (c : Chain). record { role = 0; child = c }) term
+
+      tabled : (v : List ℕ) → Prepared v w f → ChainOf v (termAt p s) → Tabled (vocabularyOf v) (normalForm (vocabularyOf v) (termAt p s)) w′ u
+      tabled v q n =
+          let K = vocabularyOf v in
+          let t = normalForm K (termAt p s) in
+          let g : Grown K (successor 0 (t .node) (t .successors) none) 0 0 0 w′ u =
+              subst (λ (y : Successors). Grown K y 0 0 0 w′ u) (ap (λ (a : Arm). successorsOf K (a ∷ [])) arm ∙ successors-root K (termAt p s) (unranged q))
+              (b .grown v (prepared-kept q root) (cons (let a = fit .nameless in omega arith, rw term n) nil)) in
+          let c1 = g .count in
+          let c2 = g .top in
+          let c3 = b .few in
+          let c4 = fit .few in
+          let c5 : count (chainAt p (childOf p s)) ≡ count (termAt p s) = ap count term in
+          let c6 = length-append (t .node .intervals) (intervalsOf (t .successors) ++ []) in
+          let c7 = length-append (intervalsOf (t .successors)) [] in
+          let c8 = length-append (t .node .intervals) (intervalsOf (t .successors)) in
+          record { count = omega arith; most = omega arith; top = omega arith; rows = g .rows; held = rw append-nil at (g .held) }

@@ -1,0 +1,130 @@
+-- What a chain of conjuncts adds to an individual: classes, constraints, roles to follow; and the individuals that those roles reach.
+use Prim.Native.Nat.{_+_, suc, zero, ℕ}
+use mathlib.Core.Bool.{Bool, _&&_, _||_, cond, false, not, true}
+use mathlib.Core.List.{List, [], _++_, _∷_}
+use lib.Dec.{eqb}
+use lib.ListN.{getD, length}
+use Rattle.meaning.proofs.Terms.{count}
+use Rattle.meaning.specs.Lists.{any}
+use Rattle.meaning.specs.NormalForm.{Interval, Successors, add, bare, blocked, none, placeInterval, placeSuccessor, ranges, single}
+use Rattle.meaning.specs.Policy.{Chain, chainFrom, childOf, class, conjunctAt, end, impossible, interval, nameOf, some}
+use Rattle.meaning.specs.Vocabulary.{Vocabulary}
+
+-- ---- the words of a policy
+
+-- the chain from record k on, and record k alone
+unfoldable pub chainAt : List ℕ → ℕ → Chain
+chainAt p k = chainFrom (length p) p k
+
+unfoldable pub headAt : List ℕ → ℕ → Chain
+headAt p k = conjunctAt p k (chainAt p (childOf p k)) end
+
+-- ---- the parts of a chain; `one` tells the functional names
+
+-- a role to follow: the individual that it reaches is in the child chain
+pub record Arm : Type 0 where
+  pub role : ℕ
+  pub child : Chain
+
+abbrev pub classesIn : Chain → List ℕ → List ℕ
+classesIn end cs = cs
+classesIn (class a next) cs = classesIn next (a ∷ cs)
+classesIn (impossible next) cs = classesIn next cs
+classesIn (some r child next) cs = classesIn next cs
+classesIn (interval f lo hi next) cs = classesIn next cs
+
+abbrev pub intervalsIn : (ℕ → Bool) → Chain → List Interval → List Interval
+intervalsIn one end l = l
+intervalsIn one (class a next) l = intervalsIn one next l
+intervalsIn one (impossible next) l = intervalsIn one next l
+intervalsIn one (some r child next) l = intervalsIn one next l
+intervalsIn one (interval f lo hi next) l = intervalsIn one next (placeInterval (one f) (record { feature = f; lo = lo; hi = hi }) l)
+
+abbrev pub roles : Chain → List Arm
+roles end = []
+roles (class a next) = roles next
+roles (impossible next) = roles next
+roles (some r child next) = record { role = r; child = child } ∷ roles next
+roles (interval f lo hi next) = roles next
+
+-- the impossible concept stands among its own conjuncts
+abbrev pub barred : Chain → Bool
+barred end = false
+barred (class a next) = barred next
+barred (impossible next) = true
+barred (some r child next) = barred next
+barred (interval f lo hi next) = barred next
+
+-- how many constraints, and how many conjuncts
+abbrev pub intervalCount : Chain → ℕ
+intervalCount end = 0
+intervalCount (class a next) = intervalCount next
+intervalCount (impossible next) = intervalCount next
+intervalCount (some r child next) = intervalCount next
+intervalCount (interval f lo hi next) = suc (intervalCount next)
+
+abbrev pub conjuncts : Chain → ℕ
+conjuncts end = 0
+conjuncts (class a next) = suc (conjuncts next)
+conjuncts (impossible next) = suc (conjuncts next)
+conjuncts (some r child next) = suc (conjuncts next)
+conjuncts (interval f lo hi next) = suc (conjuncts next)
+
+-- the same of the arms that go to one individual
+abbrev pub classesAll : List Arm → List ℕ → List ℕ
+classesAll [] cs = cs
+classesAll (a ∷ l) cs = classesAll l (classesIn (a .child) cs)
+
+abbrev pub intervalsAll : (ℕ → Bool) → List Arm → List Interval → List Interval
+intervalsAll one [] s = s
+intervalsAll one (a ∷ l) s = intervalsAll one l (intervalsIn one (a .child) s)
+
+abbrev pub rolesAll : List Arm → List Arm
+rolesAll [] = []
+rolesAll (a ∷ l) = roles (a .child) ++ rolesAll l
+
+abbrev pub barredAll : List Arm → Bool
+barredAll [] = false
+barredAll (a ∷ l) = barred (a .child) || barredAll l
+
+abbrev pub countAll : List Arm → ℕ
+countAll [] = 0
+countAll (a ∷ l) = intervalCount (a .child) + countAll l
+
+-- how many records stand below the arms, and whether one of them is the impossible concept
+abbrev pub weigh : List Arm → ℕ
+weigh [] = 0
+weigh (a ∷ l) = count (a .child) + weigh l
+
+abbrev pub blockedAll : List Arm → Bool
+blockedAll l = any (λ a. blocked (a .child)) l
+
+-- ---- the individuals that arms reach
+
+abbrev pub placeAll : Vocabulary → List Arm → Successors → Successors
+placeAll K [] ks = ks
+placeAll K (a ∷ l) ks = placeAll K l (placeSuccessor (single K (a .role)) (a .role) (bare (ranges K (a .role))) (add K (a .child)) ks)
+
+unfoldable pub successorsOf : Vocabulary → List Arm → Successors
+successorsOf K l = placeAll K l none
+
+-- arm a goes to the individual that a first arm of role r has made, or not
+abbrev pub joins : (ℕ → Bool) → ℕ → Arm → Bool
+joins one r a = one (a .role) && eqb (a .role) r
+
+abbrev pub parts : (ℕ → Bool) → ℕ → Arm → Bool
+parts one r a = not (joins one r a)
+
+-- ---- pending words
+
+abbrev pub wordsAt : List ℕ → ℕ → ℕ → List ℕ
+wordsAt w b zero = []
+wordsAt w b (suc n) = getD w b 0 ∷ wordsAt w (suc b) n
+
+abbrev pub armAt : List ℕ → ℕ → Arm
+armAt p k = record { role = nameOf p k; child = chainAt p (childOf p k) }
+
+-- the arms that pending words stand for; 0 is struck out
+abbrev pub live : List ℕ → List ℕ → List Arm
+live p [] = []
+live p (k ∷ l) = cond (eqb k 0) (live p l) (armAt p k ∷ live p l)

@@ -1,0 +1,318 @@
+// The normal form of a simple policy, as flat tables of the work slice: one walk, no tree, no numbering afterwards.
+use hierarchy::Functional;
+use hierarchy::above;
+use hierarchy::range_above;
+use meaning::ClassNo;
+use meaning::FeatureNo;
+use meaning::RoleNo;
+use policy::child_of;
+use policy::hi_of;
+use policy::kind_of;
+use policy::lo_of;
+use policy::name_of;
+use policy::next_of;
+use words::ClassSet;
+ghost use mathlib.Core.Bool.{_&&_};
+ghost use mathlib.Core.List.{[], _∷_};
+ghost use mathlib.Core.Path.{_≡_};
+ghost use Prim.Native.Nat.{ℕ, _+_, _-_, _<_, _≤_, max, min};
+ghost use lib.Dec.{eqb};
+ghost use lib.ListN.{length, getD};
+ghost use Rattle.meaning.specs.Lists.{filter};
+ghost use Rattle.meaning.specs.Policy.{nameOf};
+ghost use Rattle.normal_form.specs.Parts.{armAt, chainAt, headAt, joins, wordsAt};
+ghost use Rattle.normal_form.specs.Steps.{Adding, Built, Gathering, Good, Noded, Placed, Ready, ReadyFor, ReadyForAll, Room, RowPut, Struck, Sure, everyAt, front, intervalPut, othersAt, restAt, startOf};
+ghost use Rattle.normal_form.specs.Tables.{Fit, Normalised, intervalPlace, pendingAt, individualPlace, tablesEnd, termAt};
+ghost use Rattle.words.specs.Sets.{inSet};
+
+// The most individuals, the most constraints and the most roles that wait: a policy has no more records.
+const MOST: usize = 512;
+
+// Behind the rows of hierarchy: the records of roles that are still to be followed, 0 for one that was merged away.
+pub const PENDING: usize = (ClassSet::MOST as usize + 64) * ClassSet::WORDS;
+
+// Individuals: parent, role, set of classes.
+pub const ROWS: usize = PENDING + MOST;
+
+pub const ROW: usize = 2 + ClassSet::WORDS;
+
+// Constraints: individual, feature, lo, hi, and two words for whoever splits them.
+pub const INTERVALS: usize = ROWS + ROW * MOST;
+
+pub const INTERVAL: usize = 6;
+
+// What the tables hold, and whether the impossible concept stands in the term.
+pub struct Tables {
+    pub individuals: u32,
+    pub intervals: usize,
+    pub blocked: bool,
+}
+
+// What the conjuncts of an individual have given: its classes, the ends of the pending roles and of the constraints, and whether
+// one is the impossible concept.
+struct Got {
+    classes: ClassSet,
+    pending: usize,
+    intervals: usize,
+    blocked: bool,
+}
+
+fn larger(x: u32, y: u32) -> u32
+    ensures { λ r. ⌜ r ≡ max x y ⌝ }
+{
+    if x < y { y } else { x }
+}
+
+fn smaller(x: u32, y: u32) -> u32
+    ensures { λ r. ⌜ r ≡ min x y ⌝ }
+{
+    if x < y { x } else { y }
+}
+
+fn both(one: bool, f: u32, g: u32) -> bool
+    ensures { λ r. ⌜ r ≡ (one && eqb f g) ⌝ }
+{
+    one && f == g
+}
+
+fn put_interval(work: &mut [u32], i: usize, x: u32, f: u32, lo: u32, hi: u32)
+    requires { ⌜ (i < 512) × (tablesEnd ≤ length (now work)) ⌝ }
+    ensures { λ _. ⌜ now (work .exit) ≡ intervalPut (now (work .entry)) i x f lo hi ⌝ }
+{
+    let at = INTERVALS + INTERVAL * i;
+    work[at] = x;
+    work[at + 1] = f;
+    work[at + 2] = lo;
+    work[at + 3] = hi;
+}
+
+// The constraint joins the first of its feature from place i on, where the feature is functional; else it stands last.
+fn add_interval(
+    work: &mut [u32],
+    one: bool,
+    x: u32,
+    i: usize,
+    top: usize,
+    f: u32,
+    lo: u32,
+    hi: u32,
+) -> usize
+    requires { ⌜ (i ≤ top) × (top < 512) × (tablesEnd ≤ length (now work)) ⌝ }
+    ensures { λ r. ⌜ Placed one x i top f lo hi (now (work .entry)) (now (work .exit)) r ⌝ }
+{
+    if i == top {
+        put_interval(work, i, x, f, lo, hi);
+        return top + 1;
+    }
+    let at = INTERVALS + INTERVAL * i;
+    let g = work[at + 1];
+    if both(one, g, f) {
+        let a = larger(work[at + 2], lo);
+        let b = smaller(work[at + 3], hi);
+        put_interval(work, i, x, f, a, b);
+        return top;
+    }
+    add_interval(work, one, x, i + 1, top, f, lo, hi)
+}
+
+// One individual's row.
+fn put_row(work: &mut [u32], n: u32, parent: u32, r: u32, s: ClassSet)
+    requires { ⌜ (n < 512) × (tablesEnd ≤ length (now work)) ⌝ }
+    ensures { λ _. ⌜ RowPut n parent r (s .words) (now (work .entry)) (now (work .exit)) ⌝ }
+{
+    let at = ROWS + ROW * (n as usize);
+    work[at] = parent;
+    work[at + 1] = r;
+    s.store(work, at + 2);
+}
+
+// The classes of a new individual by role r: those above r's ranges. The first individual is by no role.
+fn start_classes(work: &[u32], r: u32) -> ClassSet
+    requires { ⌜ (r ≤ 64) × (tablesEnd ≤ length (now work)) ⌝ }
+    ensures { λ s. ⌜ s .words ≡ startOf (front (now (work .entry))) r ⌝ }
+{
+    if r == 0 {
+        ClassSet::new()
+    } else {
+        range_above(work, RoleNo(r))
+    }
+}
+
+// One conjunct of individual x, whose constraints start at place first.
+fn conjunct(p: &[u32], work: &mut [u32], f: Functional, k: u32, x: u32, first: usize, g: Got) -> Got
+    requires { ⌜ (k ≡ 0 → ⊥) × Good (now p) k × ReadyFor (now work) first g (chainAt (now p) k) ⌝ }
+    ensures { λ r. ⌜ Adding (inSet (f .features)) (now (p .entry)) x first (headAt (now (p .entry)) k) (now (work .entry)) (now (work .exit)) g r ⌝ }
+{
+    let kind = kind_of(p, k);
+    let a = name_of(p, k);
+    let classes = g.classes;
+    match kind {
+        1 => {
+            let more = classes.union(above(work, ClassNo(a)));
+            Got {
+                classes: more,
+                pending: g.pending,
+                intervals: g.intervals,
+                blocked: g.blocked,
+            }
+        }
+        2 => Got {
+            classes,
+            pending: g.pending,
+            intervals: g.intervals,
+            blocked: true,
+        },
+        3 => {
+            let at = g.pending;
+            work[at] = k;
+            Got {
+                classes,
+                pending: at + 1,
+                intervals: g.intervals,
+                blocked: g.blocked,
+            }
+        }
+        _ => {
+            let one = f.has_feature(FeatureNo(a));
+            let top = add_interval(work, one, x, first, g.intervals, a, lo_of(p, k), hi_of(p, k));
+            Got {
+                classes,
+                pending: g.pending,
+                intervals: top,
+                blocked: g.blocked,
+            }
+        }
+    }
+}
+
+// The conjuncts from record k on.
+fn chain(p: &[u32], work: &mut [u32], f: Functional, k: u32, x: u32, first: usize, g: Got) -> Got
+    requires { ⌜ Good (now p) k × ReadyFor (now work) first g (chainAt (now p) k) ⌝ }
+    ensures { λ r. ⌜ Adding (inSet (f .features)) (now (p .entry)) x first (chainAt (now (p .entry)) k) (now (work .entry)) (now (work .exit)) g r ⌝ }
+{
+    if k == 0 {
+        return g;
+    }
+    let h = conjunct(p, work, f, k, x, first, g);
+    chain(p, work, f, next_of(p, k), x, first, h)
+}
+
+// Whether record k's role is r and functional: then both reach one individual.
+fn does_join(p: &[u32], f: Functional, k: u32, r: u32) -> bool
+    ensures { λ b. ⌜ b ≡ joins (inSet (f .roles)) r (armAt (now (p .entry)) k) ⌝ }
+{
+    let a = name_of(p, k);
+    f.has_role(RoleNo(a)) && a == r
+}
+
+// Of the pending roles from j to stop, those that join role r give their conjuncts to individual x and are struck out.
+fn gather(
+    p: &[u32],
+    work: &mut [u32],
+    f: Functional,
+    r: u32,
+    j: usize,
+    stop: usize,
+    x: u32,
+    first: usize,
+    g: Got,
+) -> Got
+    requires { ⌜ (j ≤ stop) × (stop ≤ g .pending) × (pendingAt ≤ j) × Sure (now p) (wordsAt (now work) j (stop - j)) × ReadyForAll (now work) first g (restAt (now p) (now work) j stop) ⌝ }
+    ensures { λ s. ⌜ Gathering (inSet (f .features)) (now (p .entry)) x j stop first (filter (joins (inSet (f .roles)) r) (restAt (now (p .entry)) (now (work .entry)) j stop)) (now (work .entry)) (now (work .exit)) g s × Struck (inSet (f .roles)) (now (p .entry)) r j stop (now (work .entry)) (now (work .exit)) ⌝ }
+{
+    if j == stop {
+        return g;
+    }
+    let k = work[j];
+    if k == 0 {
+        return gather(p, work, f, r, j + 1, stop, x, first, g);
+    }
+    if does_join(p, f, k, r) {
+        work[j] = 0;
+        let h = chain(p, work, f, child_of(p, k), x, first, g);
+        return gather(p, work, f, r, j + 1, stop, x, first, h);
+    }
+    gather(p, work, f, r, j + 1, stop, x, first, g)
+}
+
+// The individual of the pending role at j, record k: its row and constraints, and its own roles pending from stop on.
+fn node(
+    p: &[u32],
+    work: &mut [u32],
+    f: Functional,
+    j: usize,
+    k: u32,
+    stop: usize,
+    parent: u32,
+    t: Tables,
+) -> Got
+    requires { ⌜ (j < stop) × (k ≡ getD (now work) j 0) × (k ≡ 0 → ⊥) × Room (now p) (now work) j stop (t .individuals) (t .intervals) ⌝ }
+    ensures { λ g. ⌜ Noded (inSet (f .features)) (now (p .entry)) (everyAt (inSet (f .roles)) (now (p .entry)) (now (work .entry)) j stop k) (othersAt (inSet (f .roles)) (now (p .entry)) (now (work .entry)) j stop k) (nameOf (now (p .entry)) k) j stop parent (t .individuals) (t .intervals) (t .blocked) (now (work .entry)) (now (work .exit)) g ⌝ }
+{
+    let r = name_of(p, k);
+    let x = t.individuals + 1;
+    let first = t.intervals;
+    let start = Got {
+        classes: start_classes(work, r),
+        pending: stop,
+        intervals: first,
+        blocked: t.blocked,
+    };
+    let own = chain(p, work, f, child_of(p, k), x, first, start);
+    let all = gather(p, work, f, r, j + 1, stop, x, first, own);
+    let classes = all.classes;
+    put_row(work, t.individuals, parent, r, classes);
+    all
+}
+
+// The individuals of the pending roles from j to stop, each followed by those below it.
+fn successors(p: &[u32], work: &mut [u32], f: Functional, j: usize, stop: usize, parent: u32, t: Tables) -> Tables
+    requires { ⌜ Room (now p) (now work) j stop (t .individuals) (t .intervals) ⌝ }
+    ensures { λ u. ⌜ Built f (restAt (now (p .entry)) (now (work .entry)) j stop) j parent (t .individuals) (t .intervals) (t .blocked) (now (work .entry)) (now (work .exit)) u ⌝ }
+{
+    if j == stop {
+        return t;
+    }
+    let k = work[j];
+    if k == 0 {
+        return successors(p, work, f, j + 1, stop, parent, t);
+    }
+    let g = node(p, work, f, j, k, stop, parent, t);
+    let x = t.individuals + 1;
+    let u = successors(
+        p,
+        work,
+        f,
+        stop,
+        g.pending,
+        x,
+        Tables {
+            individuals: x,
+            intervals: g.intervals,
+            blocked: g.blocked,
+        },
+    );
+    successors(p, work, f, j + 1, stop, parent, u)
+}
+
+// The simple policy at record s. Its record is the first pending role, with no name. Time grows with the term's records, times the
+// roles that wait beside one another and the constraints of one individual.
+pub fn normalise(p: &[u32], work: &mut [u32], f: Functional, s: u32) -> Tables
+    requires { ⌜ Fit (now p) (now work) s ⌝ }
+    ensures { λ r. ⌜ Normalised f (termAt (now (p .entry)) s) (now (work .entry)) (now (work .exit)) r ⌝ }
+{
+    work[PENDING] = s;
+    successors(
+        p,
+        work,
+        f,
+        PENDING,
+        PENDING + 1,
+        0,
+        Tables {
+            individuals: 0,
+            intervals: 0,
+            blocked: false,
+        },
+    )
+}

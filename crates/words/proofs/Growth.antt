@@ -1,0 +1,78 @@
+-- A union never lowers the words' sum, and leaves it only where it adds nothing: what a search that only adds ends by. Assumes nothing.
+use Prim.Native.Nat.{_*_, _+_, _/_, _<_, _≤_, suc, zero, ℕ}
+use lib.Bits.{bitOr, or-step}
+use lib.Dec.{T}
+use lib.ListN.{drop, getD, length, take, take-append-drop}
+use lib.Seq.{drop-drop, ext-getD}
+use mathlib.Core.Bool.{false, true, true≢false}
+use mathlib.Core.List.{List, [], _++_, _∷_}
+use mathlib.Core.Logic.{_↔_}
+use mathlib.Core.Path.{_≡_, _∙_, ap, ap₂, refl, subst, sym}
+use native.Mathlib.Nat.{suc-mul}
+use native.Mathlib.Omega.{arith}
+use Rattle.meaning.proofs.Rules.{or-right}
+use Rattle.words.specs.Rows.{putAt, rowAt}
+use Rattle.words.specs.Sets.{inSet, unionOf, wordSum}
+use Rattle.words.proofs.Laws.{in-union, length-union, union-at}
+
+or-grows : (d a b : ℕ) → a ≤ d → a ≤ bitOr a b
+or-grows zero a b h = omega arith
+or-grows (suc d) zero b h = omega arith
+or-grows (suc d) (suc a) b h = rw (or-step (suc a) b) (let k = or-grows d (suc a / 2) (b / 2) (omega arith) in omega arith)
+
+pub union-grows : (ws vs : List ℕ) → wordSum ws ≤ wordSum (unionOf ws vs)
+unfolding unionOf wordSum
+union-grows [] vs = omega arith
+union-grows (w ∷ ws) [] = omega arith
+union-grows (w ∷ ws) (v ∷ vs) = let here = or-grows w w v (omega arith) in omega (arith, union-grows ws vs)
+
+pub union-same : (ws vs : List ℕ) → wordSum (unionOf ws vs) ≤ wordSum ws → unionOf ws vs ≡ ws
+unfolding unionOf wordSum
+union-same [] vs h = refl
+union-same (w ∷ ws) [] h = refl
+union-same (w ∷ ws) (v ∷ vs) h =
+    let here = or-grows w w v (omega arith) in
+    let later = union-grows ws vs in
+    let word : bitOr w v ≡ w = omega arith in
+    ap₂ (λ (x : ℕ) (l : List ℕ). x ∷ l) word (union-same ws vs (omega arith))
+
+-- a union that adds nothing
+pub covered : (ws vs : List ℕ) → length vs ≤ length ws → unionOf ws vs ≡ ws → (d : ℕ) → T (inSet vs d) → T (inSet ws d)
+covered ws vs l e d t =
+    subst T (sym (in-union ws vs l d) ∙ ap (λ (s : List ℕ). inSet s d) e) (or-right (inSet ws d) (inSet vs d) t)
+
+-- ---- in a longer row
+
+sum-append : (ws vs : List ℕ) → wordSum (ws ++ vs) ≡ wordSum ws + wordSum vs
+unfolding wordSum
+sum-append [] vs = omega arith
+sum-append (w ∷ ws) vs = omega (arith, sum-append ws vs)
+
+pub sum-put : (ws : List ℕ) (at : ℕ) (vs : List ℕ) → wordSum (putAt ws at vs) + wordSum (rowAt (length vs) ws at) ≡ wordSum ws + wordSum vs
+sum-put ws at vs =
+    let row = rowAt (length vs) ws at in
+    let rest = drop (at + length vs) ws in
+    let parts : drop at ws ≡ row ++ rest = sym (take-append-drop (length vs) (drop at ws)) ∙ ap (λ (l : List ℕ). row ++ l) (drop-drop (length vs) at ws) in
+    let whole : wordSum ws ≡ wordSum (take at ws) + (wordSum row + wordSum rest) =
+    ap wordSum (sym (take-append-drop at ws)) ∙ sum-append (take at ws) (drop at ws)
+    ∙ ap (λ (n : ℕ). wordSum (take at ws) + n) (ap wordSum parts ∙ sum-append row rest) in
+    let new = sum-append (take at ws) (vs ++ rest) in
+    omega (arith, sum-append vs rest)
+
+-- the sum of so many words
+pub sum-most : (ws : List ℕ) (b : ℕ) → ((k : ℕ) → getD ws k 0 < b) → wordSum ws ≤ length ws * b
+unfolding wordSum
+sum-most [] b h = omega arith
+sum-most (w ∷ ws) b h = let first : w < b = h 0 in omega (arith, sum-most ws b (λ k. h (suc k)), suc-mul (length ws) b)
+
+-- ---- `covers`: a word that the union changes, and none
+
+module _ (ws vs : List ℕ) (l : length vs ≤ length ws) where
+  pub uncovered : (i : ℕ) → (bitOr (getD ws i 0) (getD vs i 0) ≡ getD ws i 0 → ⊥) → (false ≡ true) ↔ (unionOf ws vs ≡ ws)
+  uncovered i n = (
+    λ f. absurd (true≢false (sym f)),
+    λ e. absurd (n (sym (union-at ws vs l i) ∙ ap (λ (s : List ℕ). getD s i 0) e)),
+  )
+
+  pub covers-all : (i : ℕ) → length ws ≤ i → ((j : ℕ) → j < i → bitOr (getD ws j 0) (getD vs j 0) ≡ getD ws j 0) → (true ≡ true) ↔ (unionOf ws vs ≡ ws)
+  covers-all i m h = (λ _. ext-getD 0 (unionOf ws vs) ws (length-union ws vs) (λ j q. union-at ws vs l j ∙ h j (omega (arith, length-union ws vs))), λ _. refl)
