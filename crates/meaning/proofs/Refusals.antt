@@ -10,7 +10,7 @@ use Rattle.meaning.specs.Lists.{any}
 use Rattle.meaning.specs.Operations.{inputRefusal, unless}
 use Rattle.meaning.specs.Policy.{Walk, childOf, fault, faultOf, firstTerm, headedPolicy, nextOf, onward, policyRefusal, reached, second, soundRecord, walk}
 use Rattle.meaning.specs.Records.{orElse, sized}
-use Rattle.meaning.specs.Vocabulary.{vocabularyRefusal}
+use Rattle.meaning.specs.Vocabulary.{axiomNext, axiomsRefusal, firstAxiom, headedVocabulary, soundAxiom, vocabularyRefusal}
 
 pub or-zero : (a b : ℕ) → orElse a b ≡ 0 → (a ≡ 0) × (b ≡ 0)
 or-zero zero b e = (refl, e)
@@ -59,6 +59,21 @@ unfolding policyRefusal
 policy-few v p =
     cond-all (λ n. n ≤ 8) (sized 6 3078 (length p))
     (cond-all (λ n. n ≤ 8) (headedPolicy p) (walk-few (length p) v p 0 (firstTerm p) []) (omega arith)) (omega arith)
+
+-- and a vocabulary's at most 3
+axioms-few : (f : ℕ) (v : List ℕ) (k : ℕ) → axiomsRefusal f v k ≤ 3
+axioms-few zero v k = omega arith
+axioms-few (suc f) v k =
+    cond-all (λ n. n ≤ 3) (eqb k 0) (omega arith) (cond-all (λ n. n ≤ 3) (soundAxiom v k) (axioms-few f v (axiomNext v k)) (omega arith))
+
+pub vocabulary-few : (v : List ℕ) → vocabularyRefusal v ≤ 3
+unfolding vocabularyRefusal
+vocabulary-few v =
+    cond-all (λ n. n ≤ 3) (sized 4 4100 (length v)) (cond-all (λ n. n ≤ 3) (headedVocabulary v) (axioms-few (length v) v (firstAxiom v)) (omega arith)) (omega arith)
+
+pub or-few : (n a b : ℕ) → a ≤ n → b ≤ n → orElse a b ≤ n
+or-few n zero b h k = k
+or-few n (suc a) b h k = h
 
 -- the vocabulary and both policies are accepted
 pub record AcceptedInput (v p q : List ℕ) : Type 0 where

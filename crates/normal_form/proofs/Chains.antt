@@ -1,6 +1,6 @@
 -- A chain's first conjunct and the rest, and what adding conjuncts does to the tables.
 use Prim.Native.Nat.{_*_, _+_, _-_, _<_, _≤_, ℕ}
-use mathlib.Core.Bool.{Bool, _||_, false, or-assoc, or-false, or-true, true}
+use mathlib.Core.Bool.{Bool, _||_, and-false, and-true, false, or-assoc, or-false, or-true, true}
 use mathlib.Core.List.{List, [], _++_, _∷_}
 use mathlib.Core.Logic.{inl, inr}
 use mathlib.Core.Path.{_∙_, _≡_, ap, refl, subst, sym}
@@ -8,7 +8,7 @@ use native.Mathlib.Omega.{arith}
 use lib.Dec.{eqb}
 use lib.ListN.{getD, length, length-append, length-set, set}
 use lib.Seq.{getD-set-other, getD-set-same}
-use borrow.Author.Tests.{ne-eqb}
+use borrow.Author.Tests.{eq-eqb, ne-eqb}
 use Rattle.hierarchy.specs.Rows.{rowOf, rowPlace}
 use Rattle.meaning.proofs.Links.{Name}
 use Rattle.meaning.proofs.Rules.{all-append}
@@ -410,9 +410,9 @@ module _ (one : ℕ → Bool) (p : List ℕ) (x m k : ℕ) (w : List ℕ) (g : G
 
 -- ---- whether a record joins a role
 
-module _ (one : ℕ → Bool) (p : List ℕ) (k r : ℕ) {a : ℕ} {t : Bool} (ea : a ≡ nameOf p k) (et : t ≡ one a) where
-  pub join-yes : t ≡ true → eqb a r ≡ joins one r (armAt p k)
-  join-yes h = rw (← ea, ← et, h)
+module _ (one : ℕ → Bool) (p : List ℕ) (k r : ℕ) {a : ℕ} (ea : a ≡ nameOf p k) where
+  pub join-yes : {t : Bool} → a ≡ r → t ≡ one a → t ≡ joins one r (armAt p k)
+  join-yes h e = rw (← ea, eq-eqb a r h, and-true (one a)) e
 
-  pub join-no : t ≡ false → t ≡ joins one r (armAt p k)
-  join-no h = rw (← ea, ← et, h)
+  pub join-no : (a ≡ r → ⊥) → eqb a r ≡ joins one r (armAt p k)
+  join-no h = rw (← ea, ne-eqb a r h, and-false (one a))

@@ -112,10 +112,15 @@ interval-kept w w′ m h f s = record {
   hi = f (intervalPlace m + 3) (omega arith) (omega arith) ∙ s .hi;
 }
 
+-- whatever stands in the two words behind each
+pub intervals-same : (w w′ : List ℕ) (m : ℕ) (l : List Held) → ((n : ℕ) → m ≤ n → n < m + length l → Same w w′ (intervalPlace n) (intervalPlace n + 4)) →
+    IntervalsStand w m l → IntervalsStand w′ m l
+intervals-same w w′ m [] f s = tt
+intervals-same w w′ m (h ∷ l) f s =
+    (interval-kept w w′ m h (f m (omega arith) (omega arith)) (s .0), intervals-same w w′ (suc m) l (λ n p q. f n (omega arith) (omega arith)) (s .1))
+
 pub intervals-kept : (w w′ : List ℕ) (m : ℕ) (l : List Held) → Same w w′ (intervalPlace m) (intervalPlace (m + length l)) → IntervalsStand w m l → IntervalsStand w′ m l
-intervals-kept w w′ m [] f s = tt
-intervals-kept w w′ m (h ∷ l) f s =
-    (interval-kept w w′ m h (λ i p q. f i p (omega arith)) (s .0), intervals-kept w w′ (suc m) l (λ i p q. f i (omega arith) (omega arith)) (s .1))
+intervals-kept w w′ m l f s = intervals-same w w′ m l (λ n p q i a b. f i (omega arith) (omega arith)) s
 
 pub intervals-append : (w : List ℕ) (m : ℕ) (l k : List Held) → IntervalsStand w m l → IntervalsStand w (m + length l) k → IntervalsStand w m (l ++ k)
 intervals-append w m [] k s t = subst (λ (i : ℕ). IntervalsStand w i k) (omega arith) t

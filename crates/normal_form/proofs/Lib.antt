@@ -4,3 +4,5 @@ pub mod Chains
 pub mod Joining
 pub mod Groups
 pub mod Nodes
+pub mod Cleanness
+pub mod Callers

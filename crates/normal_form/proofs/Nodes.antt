@@ -12,9 +12,9 @@ use Rattle.meaning.proofs.Terms.{ChainOf, count}
 use Rattle.meaning.specs.Countermodel.{size}
 use Rattle.meaning.specs.Lists.{All, cons, filter, nil}
 use Rattle.meaning.proofs.Rules.{head, tail}
-use Rattle.meaning.specs.NormalForm.{Interval, Node, Successors, blocked, none, normalForm, ranges, single, singleFeature, successor}
+use Rattle.meaning.specs.NormalForm.{Form, Interval, Node, Successors, blocked, none, normalForm, ranges, single, singleFeature, successor}
 use Rattle.meaning.specs.Policy.{Chain, childOf, nameOf}
-use Rattle.meaning.specs.Splitting.{intervalsOf}
+use Rattle.meaning.specs.Splitting.{constraints, intervalsOf}
 use Rattle.meaning.specs.Vocabulary.{Vocabulary, vocabularyOf}
 use Rattle.normal_form.proofs.Chains.{adds-less, adds-then, front-same, kept-same}
 use Rattle.normal_form.proofs.Groups.{all-blocked, all-count, filter-all, filter-blocked, filter-length, filter-weigh, named-below, prepared-kept, successors-cons, successors-root, told-above, unranged}
@@ -22,7 +22,7 @@ use Rattle.normal_form.proofs.Joining.{picks, rest-arm, rest-none, rest
 use Rattle.normal_form.proofs.Laws.{front-kept, held-length, intervals-append, intervals-kept, row-kept, words-eq, words-kept}
 use Rattle.normal_form.specs.Parts.{Arm, armAt, barredAll, blockedAll, chainAt, classesAll, countAll, intervalCount, intervalsAll, joins, live, parts, roles, rolesAll, successorsOf, weigh, wordsAt}
 use Rattle.normal_form.specs.Steps.{Adding, Built, Entry, Gathering, Good, Grown, Kept, ArmOf, Noded, ReadyFor, ReadyForAll, Room, RowPut, Struck, Sure, Told, everyAt, front, othersAt, restAt, startOf}
-use Rattle.normal_form.specs.Tables.{Fit, Held, IntervalsStand, Normalised, Prepared, RowStands, RowsStand, Tabled, heldBelow, heldBy, intervalPlace, pendingAt, individualPlace, rowsAt, tablesEnd, termAt}
+use Rattle.normal_form.specs.Tables.{Fit, Held, IntervalsStand, Normalised, Prepared, RowStands, RowsStand, Tabled, heldBelow, heldBy, heldIn, intervalPlace, pendingAt, individualPlace, rowsAt, tablesEnd, termAt}
 use Rattle.normal_form.specs.declared.Got.{Got}
 use Rattle.normal_form.specs.declared.Tables.{Tables}
 use Rattle.words.specs.Rows.{classWords, rowAt}
@@ -150,7 +150,7 @@ module _ (one two : ℕ → Bool) (p w : List ℕ) (j stop n m k : ℕ) (less : 
             let tp : g .pending ≡ start .pending + length (rolesAll every) = total .pending in
             let kp : (h : ℕ) → h < rowsAt → getD w3 h 0 ≡ getD w2 h 0 = (λ h o. u .low h (omega arith)) in
             let arms-same : wordsAt w3 stop (length (rolesAll every)) ≡ wordsAt w2 (start .pending) (length (rolesAll every)) =
-                words-kept w2 w3 stop (length (rolesAll every)) (λ h e f. kp h (omega arith)) ∙ words-eq w2 {n = length (rolesAll every)} (sym sp) refl in
+            words-kept w2 w3 stop (length (rolesAll every)) (λ h e f. kp h (omega arith)) ∙ words-eq w2 {n = length (rolesAll every)} (sym sp) refl in
             let left-same : wordsAt w3 (j + 1) (stop - (j + 1)) ≡ wordsAt w2 (j + 1) (stop - (j + 1)) = words-same w2 w3 (j + 1) stop (λ h e f. kp h (omega arith)) in
             record {
               parent = u .parent;
@@ -187,7 +187,7 @@ module _ (K : Vocabulary) (w w′ : List ℕ) (same : length w′ ≡ length w) 
     classes = rw (row-kept classWords w w′ (individualPlace n + 2) same (λ h a b. f h (omega arith) (omega arith))) (s .classes);
   }
 
-  rows-kept : (ks : Successors) (i n : ℕ) → ((h : ℕ) → individualPlace n ≤ h → h < individualPlace (n + size ks) → getD w′ h 0 ≡ getD w h 0) → RowsStand K w ks i n → RowsStand K w′ ks i n
+  pub rows-kept : (ks : Successors) (i n : ℕ) → ((h : ℕ) → individualPlace n ≤ h → h < individualPlace (n + size ks) → getD w′ h 0 ≡ getD w h 0) → RowsStand K w ks i n → RowsStand K w′ ks i n
   rows-kept none i n f s = tt
   rows-kept (successor r m under next) i n f s = (
     row-kept-at n i r (m .classes) (λ h a b. f h a (omega arith)) (s .0),
@@ -205,6 +205,15 @@ held-below (successor r n under next) k =
     let e = length-append (heldBelow under (suc k)) (heldBelow next (suc k + size under)) in
     let f = length-append (n .intervals) (intervalsOf under ++ intervalsOf next) in
     let g = length-append (intervalsOf under) (intervalsOf next) in
+    omega arith
+
+-- a constraint of the table for each of the form's
+pub held-in : (t : Form) → length (heldIn t) ≡ length (constraints t)
+held-in t =
+    let a = held-below (t .successors) 2 in
+    let b = held-length 1 (t .node .intervals) in
+    let c = length-append (heldBy 1 (t .node .intervals)) (heldBelow (t .successors) 2) in
+    let d = length-append (t .node .intervals) (intervalsOf (t .successors)) in
     omega arith
 
 -- ---- the ways of `successors`
@@ -456,10 +465,10 @@ module _ (f : Functional) (p w : List ℕ) (j stop i : ℕ) (t : Tables) (room :
               rows-all : RowsStand K w3 (successor (nameOf p k) me under next) i (t .individuals)
               rows-all = (
                 row-kept-at K w1 w3 (nx .kept .same ∙ ch .kept .same) (t .individuals) i (nameOf p k) (me .classes)
-                (λ h a b. nx .kept .rows h (omega arith) (let c = then in omega arith) ∙ ch .kept .rows h (omega arith) (omega arith)) row-me,
+                    (λ h a b. nx .kept .rows h (omega arith) (let c = then in omega arith) ∙ ch .kept .rows h (omega arith) (omega arith)) row-me,
                 rows-kept K w2 w3 (nx .kept .same) under (suc (t .individuals)) (suc (t .individuals))
-                (λ h a b. nx .kept .rows h (omega arith) (let c = then in omega arith))
-                (subst (λ (y : ℕ). RowsStand K w2 under y (suc (t .individuals))) x-is (subst (λ (y : ℕ). RowsStand K w2 under x y) (sym after) (below .rows))),
+                    (λ h a b. nx .kept .rows h (omega arith) (let c = then in omega arith))
+                    (subst (λ (y : ℕ). RowsStand K w2 under y (suc (t .individuals))) x-is (subst (λ (y : ℕ). RowsStand K w2 under x y) (sym after) (below .rows))),
                 subst (λ (y : ℕ). RowsStand K w3 next i y) then (behind .rows),
               )
 
@@ -604,6 +613,12 @@ module _ (p w : List ℕ) (s : ℕ) (fit : Fit p w s) where
   normalised f {w′} {u} built = record {
     tabled = tabled;
     bars = b .bars ∙ or-false (blocked (chainAt p (childOf p s))) ∙ ap blocked term;
+    most =
+        let c1 = b .few in
+        let c2 = b .fewer in
+        let c3 = fit .few in
+        let c4 : count (chainAt p (childOf p s)) ≡ count (termAt p s) = ap count term in
+        (omega arith, omega arith);
     before = λ h a. b .kept .before h a ∙ other h (λ e. omega arith);
     behind = λ h a. b .kept .behind h a ∙ other h (λ e. omega arith);
     same = b .kept .same ∙ length-set w pendingAt s;
@@ -634,14 +649,11 @@ module _ (p w : List ℕ) (s : ℕ) (fit : Fit p w s) where
           let K = vocabularyOf v in
           let t = normalForm K (termAt p s) in
           let g : Grown K (successor 0 (t .node) (t .successors) none) 0 0 0 w′ u =
-              subst (λ (y : Successors). Grown K y 0 0 0 w′ u) (ap (λ (a : Arm). successorsOf K (a ∷ [])) arm ∙ successors-root K (termAt p s) (unranged q))
-              (b .grown v (prepared-kept q root) (cons (let a = fit .nameless in omega arith, rw term n) nil)) in
+          subst (λ (y : Successors). Grown K y 0 0 0 w′ u) (ap (λ (a : Arm). successorsOf K (a ∷ [])) arm ∙ successors-root K (termAt p s) (unranged q))
+          (b .grown v (prepared-kept q root) (cons (let a = fit .nameless in omega arith, rw term n) nil)) in
           let c1 = g .count in
           let c2 = g .top in
-          let c3 = b .few in
-          let c4 = fit .few in
-          let c5 : count (chainAt p (childOf p s)) ≡ count (termAt p s) = ap count term in
           let c6 = length-append (t .node .intervals) (intervalsOf (t .successors) ++ []) in
           let c7 = length-append (intervalsOf (t .successors)) [] in
           let c8 = length-append (t .node .intervals) (intervalsOf (t .successors)) in
-          record { count = omega arith; most = omega arith; top = omega arith; rows = g .rows; held = rw append-nil at (g .held) }
+          record { count = omega arith; top = omega arith; rows = g .rows; held = rw append-nil at (g .held) }

@@ -16,7 +16,7 @@ use Rattle.meaning.specs.Policy.{Chain, childOf, nameOf}
 use Rattle.meaning.specs.Splitting.{intervalsOf}
 use Rattle.meaning.specs.Vocabulary.{Vocabulary, mostClasses, roleCount, vocabularyOf}
 use Rattle.normal_form.specs.Parts.{Arm, armAt, barred, barredAll, blockedAll, chainAt, classesAll, classesIn, countAll, intervalCount, intervalsAll, intervalsIn, joins, live, parts, roles, rolesAll, successorsOf, weigh, wordsAt}
-use Rattle.normal_form.specs.Tables.{Held, IntervalsStand, Prepared, RowsStand, heldBelow, heldBy, intervalPlace, intervalsAt, pendingAt, individualPlace, rowWidth, rowsAt, tablesEnd}
+use Rattle.normal_form.specs.Tables.{Held, IntervalsStand, Prepared, RowsStand, heldBelow, heldBy, intervalPlace, intervalsAt, mostEntries, pendingAt, individualPlace, rowWidth, rowsAt, tablesEnd}
 use Rattle.normal_form.specs.declared.Got.{Got}
 use Rattle.normal_form.specs.declared.Tables.{Tables}
 use Rattle.words.specs.Rows.{classWords, rowAt}
@@ -92,7 +92,7 @@ pub record Ready (w : List ℕ) (m : ℕ) (g : Got) (nr ns : ℕ) : Type 0 where
   pub low : pendingAt ≤ g .pending
   pub pending : g .pending + nr ≤ rowsAt
   pub first : m ≤ g .intervals
-  pub intervals : g .intervals + ns ≤ 512
+  pub intervals : g .intervals + ns ≤ mostEntries
 
 -- conjuncts with these classes, arms and constraints have been added to individual x, whose constraints start at m
 pub record Adds (p : List ℕ) (x j e m : ℕ) (fc : List ℕ → List ℕ) (rs : List Arm) (fs : List Interval → List Interval) (ns : ℕ) (b : Bool)
@@ -106,7 +106,7 @@ pub record Adds (p : List ℕ) (x j e m : ℕ) (fc : List ℕ → List ℕ) (rs 
   pub few : g′ .intervals ≤ g .intervals + ns
   pub first : g .intervals ≤ g′ .intervals
   pub bars : g′ .blocked ≡ g .blocked || b
-  pub kept : Kept j e (g .pending) 512 m w w′
+  pub kept : Kept j e (g .pending) mostEntries m w w′
 
 -- those of a chain, and those of arms; `one` tells the functional features
 abbrev pub Adding : (ℕ → Bool) → List ℕ → ℕ → ℕ → Chain → List ℕ → List ℕ → Got → Got → Type 0
@@ -144,8 +144,8 @@ pub record Room (p w : List ℕ) (j stop n m : ℕ) : Type 0 where
   pub order : j ≤ stop
   pub sure : Sure p (wordsAt w j (stop - j))
   pub pending : stop + weigh (restAt p w j stop) ≤ rowsAt
-  pub rows : n + length (restAt p w j stop) + weigh (restAt p w j stop) ≤ 512
-  pub intervals : m + weigh (restAt p w j stop) ≤ 512
+  pub rows : n + length (restAt p w j stop) + weigh (restAt p w j stop) ≤ mostEntries
+  pub intervals : m + weigh (restAt p w j stop) ≤ mostEntries
 
 -- the individual of the arms `every`, number n + 1, has its row, its constraints and its own arms pending; `others` are pending still
 pub record Noded (one : ℕ → Bool) (p : List ℕ) (every others : List Arm) (r j stop i n m : ℕ) (b : Bool) (w w′ : List ℕ) (g : Got) : Type 0 where

@@ -19,23 +19,27 @@ use Rattle.words.specs.Sets.{inSet}
 
 -- ---- where the tables stand: behind the closed sets of the classes and of the roles' ranges
 
+-- the most individuals, constraints and roles that wait: a policy has no more records
+abbrev pub mostEntries : ℕ
+mostEntries = 512
+
 -- records of roles that are still to be followed, a word each
 abbrev pub pendingAt : ℕ
 pendingAt = (mostClasses + 64) * classWords
 
 -- individuals: parent, role, set of classes
 abbrev pub rowsAt : ℕ
-rowsAt = pendingAt + 512
+rowsAt = pendingAt + mostEntries
 
 abbrev pub rowWidth : ℕ
 rowWidth = 2 + classWords
 
 -- constraints: individual, feature, lo, hi, and two words for whoever splits them
 abbrev pub intervalsAt : ℕ
-intervalsAt = rowsAt + rowWidth * 512
+intervalsAt = rowsAt + rowWidth * mostEntries
 
 abbrev pub tablesEnd : ℕ
-tablesEnd = intervalsAt + 6 * 512
+tablesEnd = intervalsAt + 6 * mostEntries
 
 -- the row of individual n + 1, and constraint m, counted from 0
 abbrev pub individualPlace : ℕ → ℕ
@@ -64,7 +68,7 @@ pub record Fit (p w : List ℕ) (s : ℕ) : Type 0 where
   pub nameless : nameOf p s ≡ 0
   pub reads : Reads p (childOf p s) (termAt p s)
   pub named : NamedChain mostClasses 64 64 (termAt p s)
-  pub few : count (termAt p s) < 512
+  pub few : count (termAt p s) < mostEntries
 
 -- ---- what is left behind
 
@@ -116,7 +120,6 @@ IntervalsStand w m (h ∷ l) = IntervalStands w m h × IntervalsStand w (suc m) 
 -- the tables hold the form: the first individual is by role 0 below individual 0, which there are not
 pub record Tabled (K : Vocabulary) (t : Form) (w : List ℕ) (r : Tables) : Type 0 where
   pub count : r .individuals ≡ individuals t
-  pub most : r .individuals ≤ 512
   pub top : r .intervals ≡ length (constraints t)
   pub rows : RowsStand K w (successor 0 (t .node) (t .successors) none) 0 0
   pub held : IntervalsStand w 0 (heldIn t)
@@ -126,6 +129,7 @@ pub record Tabled (K : Vocabulary) (t : Form) (w : List ℕ) (r : Tables) : Type
 pub record Normalised (f : Functional) (c : Chain) (w w′ : List ℕ) (r : Tables) : Type 0 where
   pub tabled : (v : List ℕ) → Prepared v w f → ChainOf v c → Tabled (vocabularyOf v) (normalForm (vocabularyOf v) c) w′ r
   pub bars : r .blocked ≡ blocked c
+  pub most : (r .individuals ≤ mostEntries) × (r .intervals ≤ mostEntries)
   pub before : (i : ℕ) → i < pendingAt → getD w′ i 0 ≡ getD w i 0
   pub behind : (i : ℕ) → tablesEnd ≤ i → getD w′ i 0 ≡ getD w i 0
   pub same : length w′ ≡ length w

@@ -11,6 +11,11 @@ use policy::kind_of;
 use policy::lo_of;
 use policy::name_of;
 use policy::next_of;
+use vocabulary::axiom_kind;
+use vocabulary::axiom_left;
+use vocabulary::axiom_next;
+use vocabulary::axiom_right;
+use vocabulary::first_axiom;
 use words::ClassSet;
 ghost use mathlib.Core.Bool.{_&&_};
 ghost use mathlib.Core.List.{[], _∷_};
@@ -18,11 +23,14 @@ ghost use mathlib.Core.Path.{_≡_};
 ghost use Prim.Native.Nat.{ℕ, _+_, _-_, _<_, _≤_, max, min};
 ghost use lib.Dec.{eqb};
 ghost use lib.ListN.{length, getD};
-ghost use Rattle.meaning.specs.Lists.{filter};
+ghost use Rattle.meaning.specs.Lists.{all, counting, filter};
+ghost use Rattle.meaning.specs.NormalForm.{Form};
 ghost use Rattle.meaning.specs.Policy.{nameOf};
+ghost use Rattle.meaning.specs.Vocabulary.{axiomAt, vocabularyOf, vocabularyRefusal};
+ghost use Rattle.normal_form.specs.Clean.{agree, cleanForm, filledAt, parted, setAt};
 ghost use Rattle.normal_form.specs.Parts.{armAt, chainAt, headAt, joins, wordsAt};
-ghost use Rattle.normal_form.specs.Steps.{Adding, Built, Gathering, Good, Noded, Placed, Ready, ReadyFor, ReadyForAll, Room, RowPut, Struck, Sure, everyAt, front, intervalPut, othersAt, restAt, startOf};
-ghost use Rattle.normal_form.specs.Tables.{Fit, Normalised, intervalPlace, pendingAt, individualPlace, tablesEnd, termAt};
+ghost use Rattle.normal_form.specs.Steps.{Adding, Built, Gathering, Good, Noded, Placed, ReadyFor, ReadyForAll, Room, RowPut, Struck, Sure, everyAt, front, intervalPut, othersAt, restAt, startOf};
+ghost use Rattle.normal_form.specs.Tables.{Fit, Normalised, Tabled, mostEntries, pendingAt, tablesEnd, termAt};
 ghost use Rattle.words.specs.Sets.{inSet};
 
 // The most individuals, the most constraints and the most roles that wait: a policy has no more records.
@@ -76,7 +84,7 @@ fn both(one: bool, f: u32, g: u32) -> bool
 }
 
 fn put_interval(work: &mut [u32], i: usize, x: u32, f: u32, lo: u32, hi: u32)
-    requires { ⌜ (i < 512) × (tablesEnd ≤ length (now work)) ⌝ }
+    requires { ⌜ (i < mostEntries) × (tablesEnd ≤ length (now work)) ⌝ }
     ensures { λ _. ⌜ now (work .exit) ≡ intervalPut (now (work .entry)) i x f lo hi ⌝ }
 {
     let at = INTERVALS + INTERVAL * i;
@@ -97,7 +105,7 @@ fn add_interval(
     lo: u32,
     hi: u32,
 ) -> usize
-    requires { ⌜ (i ≤ top) × (top < 512) × (tablesEnd ≤ length (now work)) ⌝ }
+    requires { ⌜ (i ≤ top) × (top < mostEntries) × (tablesEnd ≤ length (now work)) ⌝ }
     ensures { λ r. ⌜ Placed one x i top f lo hi (now (work .entry)) (now (work .exit)) r ⌝ }
 {
     if i == top {
@@ -117,7 +125,7 @@ fn add_interval(
 
 // One individual's row.
 fn put_row(work: &mut [u32], n: u32, parent: u32, r: u32, s: ClassSet)
-    requires { ⌜ (n < 512) × (tablesEnd ≤ length (now work)) ⌝ }
+    requires { ⌜ (n < mostEntries) × (tablesEnd ≤ length (now work)) ⌝ }
     ensures { λ _. ⌜ RowPut n parent r (s .words) (now (work .entry)) (now (work .exit)) ⌝ }
 {
     let at = ROWS + ROW * (n as usize);
@@ -174,7 +182,16 @@ fn conjunct(p: &[u32], work: &mut [u32], f: Functional, k: u32, x: u32, first: u
         }
         _ => {
             let one = f.has_feature(FeatureNo(a));
-            let top = add_interval(work, one, x, first, g.intervals, a, lo_of(p, k), hi_of(p, k));
+            let top = add_interval(
+                work,
+                one,
+                x,
+                first,
+                g.intervals,
+                a,
+                lo_of(p, k),
+                hi_of(p, k),
+            );
             Got {
                 classes,
                 pending: g.pending,
@@ -197,12 +214,12 @@ fn chain(p: &[u32], work: &mut [u32], f: Functional, k: u32, x: u32, first: usiz
     chain(p, work, f, next_of(p, k), x, first, h)
 }
 
-// Whether record k's role is r and functional: then both reach one individual.
+// Whether record k's role is r and functional: then it reaches the individual that another record of r has made.
 fn does_join(p: &[u32], f: Functional, k: u32, r: u32) -> bool
     ensures { λ b. ⌜ b ≡ joins (inSet (f .roles)) r (armAt (now (p .entry)) k) ⌝ }
 {
     let a = name_of(p, k);
-    f.has_role(RoleNo(a)) && a == r
+    a == r && f.has_role(RoleNo(a))
 }
 
 // Of the pending roles from j to stop, those that join role r give their conjuncts to individual x and are struck out.
@@ -266,7 +283,15 @@ fn node(
 }
 
 // The individuals of the pending roles from j to stop, each followed by those below it.
-fn successors(p: &[u32], work: &mut [u32], f: Functional, j: usize, stop: usize, parent: u32, t: Tables) -> Tables
+fn successors(
+    p: &[u32],
+    work: &mut [u32],
+    f: Functional,
+    j: usize,
+    stop: usize,
+    parent: u32,
+    t: Tables,
+) -> Tables
     requires { ⌜ Room (now p) (now work) j stop (t .individuals) (t .intervals) ⌝ }
     ensures { λ u. ⌜ Built f (restAt (now (p .entry)) (now (work .entry)) j stop) j parent (t .individuals) (t .intervals) (t .blocked) (now (work .entry)) (now (work .exit)) u ⌝ }
 {
@@ -315,4 +340,68 @@ pub fn normalise(p: &[u32], work: &mut [u32], f: Functional, s: u32) -> Tables
             blocked: false,
         },
     )
+}
+
+// Whether record k says of two classes of the set, or of one, that they share no individual.
+fn parts(v: &[u32], k: u32, s: ClassSet) -> bool
+    ensures { λ r. ⌜ r ≡ parted (s .words) (axiomAt (now (v .entry)) k) ⌝ }
+{
+    let kind = axiom_kind(v, k);
+    if kind != 2 {
+        return false;
+    }
+    s.has(ClassNo(axiom_left(v, k))) && s.has(ClassNo(axiom_right(v, k)))
+}
+
+// Whether no record does. The set is closed upward, so one look at each record is enough.
+fn is_compatible(v: &[u32], s: ClassSet) -> bool
+    requires { ⌜ vocabularyRefusal (now v) ≡ 0 ⌝ }
+    ensures { λ r. ⌜ r ≡ agree (vocabularyOf (now (v .entry))) (s .words) ⌝ }
+{
+    let mut k = first_axiom(v);
+    while k != 0 {
+        if parts(v, k, s) {
+            return false;
+        }
+        k = axiom_next(v, k);
+    }
+    true
+}
+
+// Rule 7 at each of the first n individuals.
+fn are_compatible(v: &[u32], work: &[u32], n: u32) -> bool
+    requires { ⌜ (vocabularyRefusal (now v) ≡ 0) × (n ≤ mostEntries) × (tablesEnd ≤ length (now work)) ⌝ }
+    ensures { λ r. ⌜ r ≡ all (λ i. agree (vocabularyOf (now (v .entry))) (setAt (now (work .entry)) i)) (counting 0 n) ⌝ }
+{
+    for i in 0..n {
+        let s = ClassSet::load(work, ROWS + ROW * (i as usize) + 2);
+        if !is_compatible(v, s) {
+            return false;
+        }
+    }
+    true
+}
+
+// Rule 3 at each of the first n constraints.
+fn are_filled(work: &[u32], n: usize) -> bool
+    requires { ⌜ (n ≤ mostEntries) × (tablesEnd ≤ length (now work)) ⌝ }
+    ensures { λ r. ⌜ r ≡ all (filledAt (now (work .entry))) (counting 0 n) ⌝ }
+{
+    for i in 0..n {
+        let at = INTERVALS + INTERVAL * i;
+        let lo = work[at + 2];
+        let hi = work[at + 3];
+        if hi < lo {
+            return false;
+        }
+    }
+    true
+}
+
+// Whether rules 3 and 7 find nothing in the form that the tables hold. Time grows with the individuals times the vocabulary's records.
+pub fn is_clean(v: &[u32], work: &[u32], t: Tables) -> bool
+    requires { ⌜ (vocabularyRefusal (now v) ≡ 0) × (tablesEnd ≤ length (now work)) × (t .individuals ≤ mostEntries) × (t .intervals ≤ mostEntries) ⌝ }
+    ensures { λ r. ⌜ ((x : Form) → Tabled (vocabularyOf (now (v .entry))) x (now (work .entry)) t → r ≡ cleanForm (vocabularyOf (now (v .entry))) x) ⌝ }
+{
+    are_filled(work, t.intervals) && are_compatible(v, work, t.individuals)
 }

@@ -244,6 +244,13 @@ fn refusal_of(v: &[u32], p: &[u32], latter: bool) -> u32
     if latter { second_number(own) } else { own }
 }
 
+// The first refusal of an operation on one policy: the vocabulary, then the policy.
+pub fn first_refusal(v: &[u32], p: &[u32]) -> u32
+    ensures { λ r. ⌜ r ≡ orElse (vocabularyRefusal (now (v .entry))) (policyRefusal (now (v .entry)) (now (p .entry))) ⌝ }
+{
+    refusal_of(v, p, false)
+}
+
 pub fn read_policy(v: &[u32], p: &[u32]) -> Reading
     ensures { λ r. ⌜ readingAnswer r ≡ readPolicy (now (v .entry)) (now (p .entry)) ⌝ }
 {

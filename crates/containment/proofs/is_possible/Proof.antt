@@ -1,0 +1,30 @@
+use native.Mathlib.Omega.{arith}
+use borrow.Author.Needs.{needs}
+use Rattle.containment.proofs.Laws.{term-blocked, term-clean, term-kept, term-tabled}
+use Rattle.containment.proofs.is_possible.Statement.{statement}
+use Rattle.containment.proofs.is_possible.Tie as tie
+
+returns : tie.Need-returns
+returns c =
+    let q = c .before .before .before .before .before .before .before .before .pre in
+    let n = c .before .before .before .normalise .ensures in
+    (term-blocked (q .0) (q .1) n (c .if1 .taken), term-kept (q .0) (q .1) n)
+
+is-clean-requires : tie.Need-is-clean-requires
+is-clean-requires c κs =
+    let q = c .before .before .before .before .before .before .before .before .before .pre in
+    let n = c .before .before .before .before .normalise .ensures in
+    let s = n .same in
+    let f = q .1 in
+    (q .0 .accepted, omega arith, n .most .0, n .most .1)
+
+returns-2 : tie.Need-returns-2
+returns-2 c =
+    let q = c .before .before .before .before .before .before .before .before .before .before .pre in
+    let n = c .before .before .before .before .before .normalise .ensures in
+    (term-clean (q .0) (q .1) n (c .before .before .if1 .left) (c .is-clean .ensures _ (term-tabled (q .0) (q .1) n (q .3))), term-kept (q .0) (q .1) n)
+
+pub is-possible-spec : {M : Type 1} → statement M
+is-possible-spec =
+    tie.close
+    (tie.spec (λ c κs. c .before .before .before .before .pre .2) (λ c. c .before .before .before .normalise .ensures .same) returns is-clean-requires (λ c. c .before .before .before .before .before .normalise .ensures .same) returns-2)

@@ -1,0 +1,2 @@
+-- What the operations carry through the work slice.
+pub mod Work

@@ -1,0 +1,245 @@
+-- The tests of the tables are those of the form.
+use Prim.Native.Nat.{_+_, _-_, _<_, _≤_, suc, zero, ℕ}
+use mathlib.Core.Bool.{Bool, _&&_, and-assoc, and-false, and-true, cond, false, not, true}
+use mathlib.Core.List.{List, [], _++_, _∷_, append-nil, foldl}
+use mathlib.Core.Path.{_∙_, _≡_, ap, refl, subst, sym}
+use native.Mathlib.Omega.{arith}
+use lib.Dec.{T, eqb, leb}
+use lib.ListN.{getD, length, length-append}
+use borrow.Author.Tests.{le-leb, lt-leb, ne-eqb}
+use Rattle.meaning.proofs.Links.{split}
+use Rattle.meaning.proofs.Rules.{T-and, all-at, all-in, all-of, all-out, and-T, any-at, any-in, any-out, at-any, isFalse, not-all, notTrue, same-test}
+use Rattle.meaning.specs.Countermodel.{size}
+use Rattle.meaning.specs.Lists.{All, Any, _∈_, all, any, counting}
+use Rattle.meaning.specs.NormalForm.{Form, Interval, Node, Successors, clash, cleanNode, cleanSuccessors, compatible, filled, isBelow, none, separates, successor}
+use Rattle.meaning.specs.Vocabulary.{Axiom, Vocabulary, axiomAt, axiomKind, axiomLeft, axiomNext, axiomRight, below, disjoint, functionalFeature, functionalRole, range, vocabularyOf}
+use Rattle.normal_form.proofs.Nodes.{held-in}
+use Rattle.normal_form.specs.Clean.{agree, cleanForm, filledAt, parted, setAt}
+use Rattle.normal_form.specs.Tables.{Above, Held, IntervalsStand, RowsStand, Tabled, heldBelow, heldBy, heldIn}
+use Rattle.normal_form.specs.declared.Tables.{Tables}
+use Rattle.vocabulary.proofs.Chain.{Walking, walking-ends, walking-on}
+use Rattle.words.specs.Sets.{inSet}
+
+-- ---- all of a list
+
+all-append : {A : Type 0} (p : A → Bool) (l m : List A) → all p (l ++ m) ≡ all p l && all p m
+all-append p [] m = refl
+all-append p (x ∷ l) m = ap (λ (b : Bool). p x && b) (all-append p l m) ∙ sym (and-assoc (p x) (all p l) (all p m))
+
+counting-append : (k m n : ℕ) → counting k (m + n) ≡ counting k m ++ counting (k + m) n
+counting-append k zero n = rw (zero-add n) (ap (λ (i : ℕ). counting i n) (omega arith))
+  where
+    zero-add : (n : ℕ) → zero + n ≡ n
+    zero-add n = omega arith
+counting-append k (suc m) n =
+    let e : suc m + n ≡ suc (m + n) = omega arith in
+    let d : suc k + m ≡ k + suc m = omega arith in
+    rw e (ap (λ (l : List ℕ). k ∷ l) (counting-append (suc k) m n ∙ ap (λ (i : ℕ). counting (suc k) m ++ counting i n) d))
+
+-- a loop over 0 to before n that stops where a test fails
+pub test-starts : (p : ℕ → Bool) (n : ℕ) → all p (counting 0 n) ≡ all p (counting 0 (n - 0))
+test-starts p n = let e : n - 0 ≡ n = omega arith in rw e
+
+module _ (p : ℕ → Bool) (n i : ℕ) (same : all p (counting 0 n) ≡ all p (counting i (n - i))) where
+  pub test-ends : n ≤ i → true ≡ all p (counting 0 n)
+  test-ends h = let e : n - i ≡ 0 = omega arith in sym (same ∙ rw e)
+
+  module _ (h : i < n) where
+    first : all p (counting 0 n) ≡ p i && all p (counting (i + 1) (n - (i + 1)))
+    first =
+        let e : n - i ≡ suc (n - (i + 1)) = omega arith in
+        let d : suc i ≡ i + 1 = omega arith in
+        same ∙ rw e (ap (λ (j : ℕ). p i && all p (counting j (n - (i + 1)))) d)
+
+    pub test-fails : p i ≡ false → false ≡ all p (counting 0 n)
+    test-fails e = sym (first ∙ rw e)
+
+    pub test-on : p i ≡ true → all p (counting 0 n) ≡ all p (counting (i + 1) (n - (i + 1)))
+    test-on e = first ∙ rw e
+
+-- ---- constraints
+
+-- the list's constraints have values
+abbrev filledAll : List Held → Bool
+filledAll l = all (λ h. leb (h .constraint .lo) (h .constraint .hi)) l
+
+filled-words : (w : List ℕ) (m : ℕ) (l : List Held) → IntervalsStand w m l → all (filledAt w) (counting m (length l)) ≡ filledAll l
+filled-words w m [] s = refl
+filled-words w m (h ∷ l) s = rw (s .0 .lo, s .0 .hi) (ap (λ (b : Bool). leb (h .constraint .lo) (h .constraint .hi) && b) (filled-words w (suc m) l (s .1)))
+
+filled-held : (x : ℕ) (l : List Interval) → filledAll (heldBy x l) ≡ filled l
+filled-held x [] = refl
+filled-held x (s ∷ l) = ap (λ (b : Bool). leb (s .lo) (s .hi) && b) (filled-held x l)
+
+-- ---- sets
+
+module _ (K : Vocabulary) (ws cs : List ℕ) (told : Above K ws cs) where
+  -- some class of the individual is below b
+  has : (b : ℕ) → T (inSet ws b) → Any (λ a. T (isBelow K a b)) cs
+  has b t = any-out (λ a. isBelow K a b) cs (rw (told b) at t)
+
+  in-set : (a b : ℕ) → a ∈ cs → T (isBelow K a b) → T (inSet ws b)
+  in-set a b m t = rw (told b) (any-in (λ c. isBelow K c b) (at-any m t))
+
+  parts-them : (a b : ℕ) (x : Axiom) → a ∈ cs → b ∈ cs → T (separates K a b x) → T (parted ws x)
+  parts-them a b (below x y) m n t = t
+  parts-them a b (disjoint x y) m n t =
+      let u = T-and (isBelow K a x) (isBelow K b y) t in and-T (inSet ws x) (inSet ws y) (in-set a x m (u .0)) (in-set b y n (u .1))
+  parts-them a b (functionalRole r) m n t = t
+  parts-them a b (functionalFeature f) m n t = t
+  parts-them a b (range r c) m n t = t
+
+  parted-by : (x : Axiom) → T (parted ws x) → (a : ℕ) × (b : ℕ) × (a ∈ cs) × (b ∈ cs) × T (separates K a b x)
+  parted-by (below x y) t = absurd t
+  parted-by (disjoint x y) t =
+      let u = T-and (inSet ws x) (inSet ws y) t in
+      let p = any-at (has x (u .0)) in
+      let q = any-at (has y (u .1)) in
+      (p .0, q .0, p .1, q .1, and-T (isBelow K (p .0) x) (isBelow K (q .0) y) (p .2) (q .2))
+  parted-by (functionalRole r) t = absurd t
+  parted-by (functionalFeature f) t = absurd t
+  parted-by (range r c) t = absurd t
+
+  no : (b : Bool) → (T b → ⊥) → T (not b)
+  no true f = absurd (f tt)
+  no false f = tt
+
+  never : (b : Bool) → T (not b) → T b → ⊥
+  never true f t = f
+  never false f t = t
+
+  -- rule 7, told by the closed set
+  agree-compatible : agree K ws ≡ compatible K cs
+  unfolding agree
+  agree-compatible = same-test (all (λ x. not (parted ws x)) K) (compatible K cs) there back
+    where
+      there : T (all (λ x. not (parted ws x)) K) → T (compatible K cs)
+      there t =
+          all-in (λ a. all (λ b. not (clash K a b)) cs) (all-of cs (λ a m. all-in (λ b. not (clash K a b)) (all-of cs (λ b n. no (clash K a b) (λ c.
+          let s = any-at (any-out (separates K a b) K c) in
+          never (parted ws (s .0)) (all-at (all-out (λ x. not (parted ws x)) K t) (s .1)) (parts-them a b (s .0) m n (s .2)))))))
+
+      back : T (compatible K cs) → T (all (λ x. not (parted ws x)) K)
+      back t =
+          all-in (λ x. not (parted ws x)) (all-of K (λ x m. no (parted ws x) (λ h.
+          let s = parted-by x h in
+          never (clash K (s .0) (s .1))
+          (all-at (all-out (λ b. not (clash K (s .0) b)) cs (all-at (all-out (λ a. all (λ b. not (clash K a b)) cs) cs t) (s .2))) (s .3))
+          (any-in (separates K (s .0) (s .1)) (at-any m (s .4))))))
+
+-- ---- the form
+
+-- three tests of two parts, as two of three
+parts-of : (a b c d e f : Bool) → (a && b) && ((c && d) && (e && f)) ≡ (a && (c && e)) && (b && (d && f))
+parts-of false b c d e f = refl
+parts-of true false c d e f = sym (and-false (c && e))
+parts-of true true false d e f = refl
+parts-of true true true true e f = refl
+parts-of true true true false e f = sym (and-false e)
+
+module _ (K : Vocabulary) (w : List ℕ) where
+  compatibleAll : Successors → Bool
+  compatibleAll none = true
+  compatibleAll (successor r n under next) = compatible K (n .classes) && (compatibleAll under && compatibleAll next)
+
+  agree-rows : (ks : Successors) (i n : ℕ) → RowsStand K w ks i n → all (λ j. agree K (setAt w j)) (counting n (size ks)) ≡ compatibleAll ks
+  unfolding compatibleAll
+  agree-rows none i n s = refl
+  agree-rows (successor r m under next) i n s =
+      let e : 1 + size under + size next ≡ suc (size under + size next) = omega arith in
+      ap (λ (k : ℕ). all (λ j. agree K (setAt w j)) (counting n k)) e
+      ∙ ap (λ (b : Bool). b && all (λ j. agree K (setAt w j)) (counting (suc n) (size under + size next))) (agree-compatible K (setAt w n) (m .classes) (s .0 .classes))
+      ∙ ap (λ (b : Bool). compatible K (m .classes) && b)
+      (ap (all (λ j. agree K (setAt w j))) (counting-append (suc n) (size under) (size next))
+      ∙ all-append (λ j. agree K (setAt w j)) (counting (suc n) (size under)) (counting (suc n + size under) (size next))
+      ∙ ap (λ (b : Bool). b && all (λ j. agree K (setAt w j)) (counting (suc n + size under) (size next))) (agree-rows under (suc n) (suc n) (s .1))
+      ∙ ap (λ (b : Bool). compatibleAll under && b) (agree-rows next i (suc n + size under) (s .2)))
+
+  clean-parts : (ks : Successors) (k : ℕ) → cleanSuccessors K ks ≡ filledAll (heldBelow ks k) && compatibleAll ks
+  unfolding compatibleAll
+  clean-parts none k = refl
+  clean-parts (successor r n under next) k =
+      ap (λ (b : Bool). (filled (n .intervals) && compatible K (n .classes)) && (b && cleanSuccessors K next)) (clean-parts under (suc k))
+      ∙ ap (λ (b : Bool). (filled (n .intervals) && compatible K (n .classes)) && ((filledAll (heldBelow under (suc k)) && compatibleAll under) && b)) (clean-parts next (suc k + size under))
+      ∙ parts-of (filled (n .intervals)) (compatible K (n .classes)) (filledAll (heldBelow under (suc k))) (compatibleAll under) (filledAll (heldBelow next (suc k + size under))) (compatibleAll next)
+      ∙ ap (λ (b : Bool). b && (compatible K (n .classes) && (compatibleAll under && compatibleAll next))) (sym whole)
+    where
+      whole : filledAll (heldBelow (successor r n under next) k) ≡ filled (n .intervals) && (filledAll (heldBelow under (suc k)) && filledAll (heldBelow next (suc k + size under)))
+      whole =
+          all-append (λ h. leb (h .constraint .lo) (h .constraint .hi)) (heldBy k (n .intervals)) (heldBelow under (suc k) ++ heldBelow next (suc k + size under))
+          ∙ ap (λ (b : Bool). b && filledAll (heldBelow under (suc k) ++ heldBelow next (suc k + size under))) (filled-held k (n .intervals))
+          ∙ ap (λ (b : Bool). filled (n .intervals) && b) (all-append (λ h. leb (h .constraint .lo) (h .constraint .hi)) (heldBelow under (suc k)) (heldBelow next (suc k + size under)))
+
+-- both tests of the tables
+module _ (K : Vocabulary) (w : List ℕ) (r : Tables) {a : Bool} (ea : a ≡ all (filledAt w) (counting 0 (r .intervals))) where
+  clean-form : (t : Form) → Tabled K t w r → cleanForm K t ≡ a && all (λ j. agree K (setAt w j)) (counting 0 (r .individuals))
+  clean-form t s =
+      ap (λ (b : Bool). cleanNode K (t .node) && b) (sym (and-true (cleanSuccessors K (t .successors))))
+      ∙ clean-parts K w (successor 0 (t .node) (t .successors) none) 1
+      ∙ ap (λ (b : Bool). b && compatibleAll K w (successor 0 (t .node) (t .successors) none)) holds
+      ∙ ap (λ (b : Bool). a && b) (sym fit)
+    where
+      long : r .intervals ≡ length (heldIn t)
+      long = s .top ∙ sym (held-in t)
+
+      holds : filledAll (heldBelow (successor 0 (t .node) (t .successors) none) 1) ≡ a
+      holds = rw append-nil (sym (ea ∙ ap (λ (n : ℕ). all (filledAt w) (counting 0 n)) long ∙ filled-words w 0 (heldIn t) (s .held)))
+
+      fit : all (λ j. agree K (setAt w j)) (counting 0 (r .individuals)) ≡ compatibleAll K w (successor 0 (t .node) (t .successors) none)
+      fit =
+          let e : r .individuals ≡ 1 + size (t .successors) + 0 = let c = s .count in omega arith in
+          ap (λ (n : ℕ). all (λ j. agree K (setAt w j)) (counting 0 n)) e ∙ agree-rows K w (successor 0 (t .node) (t .successors) none) 0 0 (s .rows)
+
+  pub clean-not : a ≡ false → (t : Form) → Tabled K t w r → a ≡ cleanForm K t
+  clean-not h t s = sym (clean-form t s ∙ rw h)
+
+  pub clean-both : {b : Bool} → a ≡ true → b ≡ all (λ j. agree K (setAt w j)) (counting 0 (r .individuals)) → (t : Form) → Tabled K t w r → b ≡ cleanForm K t
+  clean-both h eb t s = eb ∙ sym (clean-form t s ∙ rw h)
+
+-- the test of an individual's set, once it is loaded
+pub row-agrees : (K : Vocabulary) (w : List ℕ) (i : ℕ) {s : List ℕ} {t : Bool} → s ≡ setAt w i → t ≡ agree K s → agree K (setAt w i) ≡ t
+row-agrees K w i e d = sym (d ∙ ap (agree K) e)
+
+-- ---- one set against the chain of disjoint classes
+
+-- record k parts the classes of the set, or not
+module _ (v : List ℕ) (k : ℕ) (ws : List ℕ) {kind : ℕ} (ek : kind ≡ axiomKind v k) where
+  pub parts-not : (kind ≡ 2 → ⊥) → false ≡ parted ws (axiomAt v k)
+  parts-not n = rw (← ek, ne-eqb kind 2 n) (
+      split P (eqb kind 1) (λ _. refl) (λ _. split P (eqb kind 3) (λ _. refl) (λ _. split P (eqb kind 4) (λ _. refl) (λ _. refl))))
+    where
+      P : Axiom → Type 0
+      P x = false ≡ parted ws x
+
+  module _ {a : ℕ} {s : Bool} (is : kind ≡ 2) (ea : a ≡ axiomLeft v k) (es : s ≡ inSet ws a) where
+    parts-two : parted ws (axiomAt v k) ≡ inSet ws (axiomLeft v k) && inSet ws (axiomRight v k)
+    parts-two = rw (sym ek ∙ is)
+
+    pub parts-none : s ≡ false → s ≡ parted ws (axiomAt v k)
+    parts-none h = sym (parts-two ∙ rw (← ea, ← es, h))
+
+    pub parts-both : {b : ℕ} {t : Bool} → s ≡ true → b ≡ axiomRight v k → t ≡ inSet ws b → t ≡ parted ws (axiomAt v k)
+    parts-both h eb et = et ∙ sym (parts-two ∙ rw (← ea, ← es, h, ← eb))
+
+-- the test so far, and with one axiom more
+abbrev pub agreeing : List ℕ → Bool → Axiom → Bool
+agreeing ws so x = so && not (parted ws x)
+
+fold-agree : (ws : List ℕ) (b : Bool) (K : Vocabulary) → foldl (agreeing ws) b K ≡ b && agree K ws
+unfolding agree
+fold-agree ws b [] = sym (and-true b)
+fold-agree ws b (x ∷ K) = fold-agree ws (b && not (parted ws x)) K ∙ and-assoc b (not (parted ws x)) (all (λ y. not (parted ws y)) K)
+
+module _ {v ws : List ℕ} {k : ℕ} (walk : Walking v (agreeing ws) true k true) where
+  pub agree-ends : k ≡ 0 → true ≡ agree (vocabularyOf v) ws
+  agree-ends z = walking-ends walk z ∙ fold-agree ws true (vocabularyOf v)
+
+  module _ (n : k ≡ 0 → ⊥) {d : Bool} (ed : d ≡ parted ws (axiomAt v k)) where
+    pub agree-stops : d ≡ true → false ≡ agree (vocabularyOf v) ws
+    agree-stops h = go (walking-on walk n {x = axiomNext v k} refl {t = false} (rw (← ed, h)))
+      where
+        go : Walking v (agreeing ws) true (axiomNext v k) false → false ≡ agree (vocabularyOf v) ws
+        go u = sym (fold-agree ws false (u .left)) ∙ u .same ∙ fold-agree ws true (vocabularyOf v)
+
+    pub agree-on : d ≡ false → {x : ℕ} → x ≡ axiomNext v k → Walking v (agreeing ws) true x true
+    agree-on h p = walking-on walk n p (rw (← ed, h))
