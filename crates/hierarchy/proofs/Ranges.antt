@@ -17,7 +17,7 @@ use Rattle.words.proofs.Laws.{in-zeros}
 use Rattle.words.proofs.Rows.{row-front}
 use Rattle.words.specs.Rows.{classWords}
 use Rattle.words.specs.Sets.{inSet}
-use Rattle.hierarchy.specs.Rows.{ClosedRows, Kept, RangeRows, Ranged, emptied, empty, joined, roleRow, rowOf, rowPlace, widened}
+use Rattle.hierarchy.specs.Rows.{ClosedRows, Kept, RangeRows, Ranged, emptied, empty, isRanged, joined, roleRow, rowOf, rowPlace, widened}
 use Rattle.hierarchy.proofs.Rows.{Fits, filled-drop, filled-length, filled-row, filled-take, joined-drop, joined-in, joined-length, joined-other, joined-take}
 
 -- ---- what writes behind the rows keeps them: u begins as w does, with the first e words
@@ -142,6 +142,6 @@ module _ (v w₀ : List ℕ) (r : vocabularyRefusal v ≡ 0) (closed : ClosedRow
               let none : inSet (rowOf u (roleRow q)) b ≡ false = ap (λ (l : List ℕ). inSet (rowOf l (roleRow q)) b) e ∙ starts-empty q b n in
               ap (λ (l : List ℕ). inSet (rowOf l (roleRow q)) b) d
               ∙ widened-all start (vocabularyOf v) (accepted-axioms v r) q b n
-              ∙ ap (λ (t : Bool). t || any (λ c. isBelow (vocabularyOf v) c b) (ranges (vocabularyOf v) q)) none;
+              ∙ ap (λ (t : Bool). t || isRanged (vocabularyOf v) q b) none;
         };
       }

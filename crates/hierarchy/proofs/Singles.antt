@@ -37,13 +37,16 @@ in-with : (ws : List ℕ) (c d : ℕ) → Name (capacity ws) c → inSet (includ
 in-with ws c d n = in-including ws c d ∙ go (eqb d c) refl
   where
     go : (b : Bool) → eqb d c ≡ b → cond b (named (capacity ws) d) (inSet ws d) ≡ inSet ws d || b
-    go true e = let same = eqb-true d c e in named-within (capacity ws) d (omega (arith, n .0)) (omega (arith, n .1)) ∙ sym (or-true (inSet ws d))
+    go true e =
+        let same = eqb-true d c e in
+        named-within (capacity ws) d (omega (arith, n .0)) (omega (arith, n .1)) ∙ sym (or-true (inSet ws d))
     go false e = sym (or-false (inSet ws d))
 
 -- one of the two sets, and what puts a name into it
 module _ (v : List ℕ) (set : Functional → List ℕ) (makes : ℕ → Axiom → Bool)
     (step : (s : Functional) (x : Axiom) → Sized s → AxiomOf v x → (d : ℕ) → inSet (set (marked s x)) d ≡ inSet (set s) d || makes d x) where
-  walked : (K : Vocabulary) → All (AxiomOf v) K → (s : Functional) → Sized s → (d : ℕ) → inSet (set (foldl marked s K)) d ≡ inSet (set s) d || any (makes d) K
+  walked : (K : Vocabulary) → All (AxiomOf v) K → (s : Functional) → Sized s → (d : ℕ) →
+      inSet (set (foldl marked s K)) d ≡ inSet (set s) d || any (makes d) K
   walked [] n s h d = sym (or-false (inSet (set s) d))
   walked (x ∷ K) n s h d =
       walked K (tail n) (marked s x) (marked-sized s x h) d
@@ -54,14 +57,16 @@ none-more : (b : Bool) → b ≡ b || false
 none-more b = sym (or-false b)
 
 module _ (v : List ℕ) (r : vocabularyRefusal v ≡ 0) where
-  role-step : (s : Functional) (x : Axiom) → Sized s → AxiomOf v x → (d : ℕ) → inSet (marked s x .roles) d ≡ inSet (s .roles) d || makesRoleSingle d x
+  role-step : (s : Functional) (x : Axiom) → Sized s → AxiomOf v x → (d : ℕ) →
+      inSet (marked s x .roles) d ≡ inSet (s .roles) d || makesRoleSingle d x
   role-step s (below a b) h n d = none-more (inSet (s .roles) d)
   role-step s (disjoint a b) h n d = none-more (inSet (s .roles) d)
   role-step s (functionalRole q) h n d = in-with (s .roles) q d (n .0, omega (arith, n .1, accepted-counts v r .1, h .0))
   role-step s (functionalFeature f) h n d = none-more (inSet (s .roles) d)
   role-step s (range q c) h n d = none-more (inSet (s .roles) d)
 
-  feature-step : (s : Functional) (x : Axiom) → Sized s → AxiomOf v x → (d : ℕ) → inSet (marked s x .features) d ≡ inSet (s .features) d || makesFeatureSingle d x
+  feature-step : (s : Functional) (x : Axiom) → Sized s → AxiomOf v x → (d : ℕ) →
+      inSet (marked s x .features) d ≡ inSet (s .features) d || makesFeatureSingle d x
   feature-step s (below a b) h n d = none-more (inSet (s .features) d)
   feature-step s (disjoint a b) h n d = none-more (inSet (s .features) d)
   feature-step s (functionalRole q) h n d = none-more (inSet (s .features) d)

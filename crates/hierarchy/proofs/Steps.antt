@@ -15,7 +15,7 @@ use Rattle.meaning.specs.Vocabulary.{Axiom, axiomAt, axiomFits, axiomKind, axio
 use Rattle.words.proofs.Growth.{sum-most}
 use Rattle.words.specs.Rows.{classWords, putAt}
 use Rattle.words.specs.Sets.{unionOf, wordSum}
-use Rattle.hierarchy.specs.Rows.{Closed, Grown, begun, emptied, empty, filled, joined, lifted, roleRow, rowOf, rowPlace, widened}
+use Rattle.hierarchy.specs.Rows.{Closed, Grown, RoleRoom, begun, emptied, empty, filled, joined, lifted, roleRow, rowOf, rowPlace, widened}
 use Rattle.hierarchy.proofs.Passes.{Held, held-closed, held-on, held-starts}
 use Rattle.hierarchy.proofs.Rows.{Fits, filled-length, joined-length, joined-more, joined-still}
 
@@ -70,7 +70,7 @@ module _ (v w : List ℕ) (k : ℕ) {kind : ℕ} (e : kind ≡ axiomKind v k) wh
 
 -- `widen`: record k is of another kind, or a is its role and b its class
 module _ (v w : List ℕ) (k : ℕ) {kind : ℕ} (e : kind ≡ axiomKind v k)
-    (h : (axiomFits v k ≡ true) × (roleCount v ≤ 64) × (classCount v ≤ mostClasses) × (roleRow (roleCount v) * classWords ≤ length w)) where
+    (h : (axiomFits v k ≡ true) × RoleRoom v w) where
   pub widen-other : (kind ≡ 5 → ⊥) → w ≡ widened w (axiomAt v k)
   widen-other n =
       choose So P (eqb (axiomKind v k) 1) (λ _ _. refl) (λ _.

@@ -7,7 +7,8 @@ use lib.ListN.{drop, length, replicate, take}
 use Rattle.meaning.proofs.Links.{Name}
 use Rattle.meaning.specs.Lists.{any}
 use Rattle.meaning.specs.NormalForm.{isBelow, ranges}
-use Rattle.meaning.specs.Vocabulary.{Axiom, below, classCount, disjoint, functionalFeature, functionalRole, mostClasses, range, roleCount, vocabularyOf}
+use Rattle.meaning.specs.Vocabulary.{Axiom, Vocabulary, below, classCount, disjoint, functionalFeature, functionalRole}
+use Rattle.meaning.specs.Vocabulary.{mostClasses, range, roleCount, vocabularyOf}
 use Rattle.words.specs.Rows.{classWords, putAt, rowAt}
 use Rattle.words.specs.Sets.{inSet, including, unionOf, wordSum}
 
@@ -28,6 +29,13 @@ pub record ClosedRows (v w : List ℕ) : Type 0 where
   pub fits : classCount v * classWords ≤ length w
   pub rows : (a b : ℕ) → Name (classCount v) a → inSet (rowOf w a) b ≡ isBelow (vocabularyOf v) a b
 
+-- what a test, and a row, tell of every vocabulary whose rows these are
+abbrev pub TellsBelow : List ℕ → ℕ → ℕ → Bool → Type 0
+TellsBelow w a b r = (v : List ℕ) → ClosedRows v w → Name (classCount v) a → r ≡ isBelow (vocabularyOf v) a b
+
+abbrev pub TellsAbove : List ℕ → ℕ → List ℕ → Type 0
+TellsAbove w a s = (v : List ℕ) → ClosedRows v w → Name (classCount v) a → (b : ℕ) → inSet s b ≡ isBelow (vocabularyOf v) a b
+
 -- w′ is w but for these rows
 pub record Closed (v w w′ : List ℕ) : Type 0 where
   pub size : length w′ ≡ length w
@@ -38,11 +46,21 @@ pub record Closed (v w w′ : List ℕ) : Type 0 where
 abbrev pub roleRow : ℕ → ℕ
 roleRow r = mostClasses + r
 
+-- b is above a range of r: every value of r is in it
+abbrev pub isRanged : Vocabulary → ℕ → ℕ → Bool
+isRanged K r b = any (λ c. isBelow K c b) (ranges K r)
+
 -- in w stand the classes above each role's ranges
 pub record RangeRows (v w : List ℕ) : Type 0 where
   pub fits : roleRow (roleCount v) * classWords ≤ length w
-  pub rows : (r b : ℕ) → Name (roleCount v) r →
-      inSet (rowOf w (roleRow r)) b ≡ any (λ c. isBelow (vocabularyOf v) c b) (ranges (vocabularyOf v) r)
+  pub rows : (r b : ℕ) → Name (roleCount v) r → inSet (rowOf w (roleRow r)) b ≡ isRanged (vocabularyOf v) r b
+
+abbrev pub TellsRanged : List ℕ → ℕ → List ℕ → Type 0
+TellsRanged w r s = (v : List ℕ) → RangeRows v w → Name (roleCount v) r → (b : ℕ) → inSet s b ≡ isRanged (vocabularyOf v) r b
+
+-- there is room for them
+abbrev pub RoleRoom : List ℕ → List ℕ → Type 0
+RoleRoom v w = (roleCount v ≤ 64) × (classCount v ≤ mostClasses) × (roleRow (roleCount v) * classWords ≤ length w)
 
 -- w′ is w but for the rows of v's roles
 pub record Kept (v w w′ : List ℕ) : Type 0 where

@@ -1,5 +1,6 @@
 // What an accepted vocabulary states, worked out once a call: nothing else looks through its records again.
-// The work slice begins with rows of ClassSet::WORDS words: row c is the set of the classes above c, c itself among them.
+// The work slice begins with rows of ClassSet::WORDS words, counted from 1: row c is the set of the classes above class c, itself
+// among them, and row ROLES + r that of the classes above the ranges of role r.
 use meaning::ClassNo;
 use meaning::FeatureNo;
 use meaning::RoleNo;
@@ -19,13 +20,12 @@ ghost use mathlib.Core.Path.{_≡_};
 ghost use mathlib.Core.List.{List, foldl};
 ghost use Prim.Native.Nat.{ℕ, _+_, _*_, _≤_};
 ghost use lib.ListN.{length};
-ghost use Rattle.meaning.proofs.Links.{Name};
-ghost use Rattle.meaning.specs.Lists.{any};
-ghost use Rattle.meaning.specs.NormalForm.{isBelow, ranges, single, singleFeature};
-ghost use Rattle.meaning.specs.Vocabulary.{axiomAt, axiomFits, classCount, mostClasses, roleCount, vocabularyOf, vocabularyRefusal};
+ghost use Rattle.meaning.specs.NormalForm.{single, singleFeature};
+ghost use Rattle.meaning.specs.Vocabulary.{axiomAt, axiomFits, classCount, roleCount, vocabularyOf, vocabularyRefusal};
 ghost use Rattle.words.specs.Rows.{classWords};
 ghost use Rattle.words.specs.Sets.{inSet};
-ghost use Rattle.hierarchy.specs.Rows.{begun, Closed, ClosedRows, emptied, Grown, joined, lifted, RangeRows, Ranged, roleRow, rowOf, rowPlace, widened};
+ghost use Rattle.hierarchy.specs.Rows.{begun, Closed, ClosedRows, emptied, Grown, joined, lifted, Ranged};
+ghost use Rattle.hierarchy.specs.Rows.{RoleRoom, roleRow, rowOf, rowPlace, TellsAbove, TellsBelow, TellsRanged, widened};
 ghost use Rattle.hierarchy.specs.Singles.{marked, Singles, withFeature, withRole};
 
 // Where row i starts.
@@ -101,8 +101,8 @@ fn pass(v: &[u32], work: &mut [u32]) -> bool
     grown
 }
 
-// Writes the rows of the classes, by passes until one changes nothing. A pass takes time in proportion to the records, and
-// there are as many as classes are stacked where records come in a bad order, two where the upper ones come first.
+// Writes the rows of the classes, by passes until one changes nothing. Time grows with passes, records and words of a set: two
+// passes where the upper records come first, at worst, in a chain from below, as many as classes.
 pub fn close(v: &[u32], work: &mut [u32])
     requires { ⌜ (vocabularyRefusal (now v) ≡ 0) × (classCount (now v) * classWords ≤ length (now work)) ⌝ }
     ensures { λ _. ⌜ Closed (now (v .entry)) (now (work .entry)) (now (work .exit)) ⌝ }
@@ -115,7 +115,7 @@ pub fn close(v: &[u32], work: &mut [u32])
 pub fn is_below(work: &[u32], a: ClassNo, b: ClassNo) -> bool
     requires { ⌜ (1 ≤ a .0) × (a .0 * classWords ≤ length (now work)) ⌝ }
     ensures { λ r. ⌜ r ≡ inSet (rowOf (now (work .entry)) (a .0)) (b .0) ⌝ }
-    ensures { λ r. ⌜ ((v : List ℕ) → ClosedRows v (now (work .entry)) → Name (classCount v) (a .0) → r ≡ isBelow (vocabularyOf v) (a .0) (b .0)) ⌝ }
+    ensures { λ r. ⌜ TellsBelow (now (work .entry)) (a .0) (b .0) r ⌝ }
 {
     ClassSet::has_at(work, row_at(a.0), b)
 }
@@ -124,13 +124,12 @@ pub fn is_below(work: &[u32], a: ClassNo, b: ClassNo) -> bool
 pub fn above(work: &[u32], c: ClassNo) -> ClassSet
     requires { ⌜ (1 ≤ c .0) × (c .0 * classWords ≤ length (now work)) ⌝ }
     ensures { λ r. ⌜ r .words ≡ rowOf (now (work .entry)) (c .0) ⌝ }
-    ensures { λ r. ⌜ ((v : List ℕ) → ClosedRows v (now (work .entry)) → Name (classCount v) (c .0) → (d : ℕ) → inSet (r .words) d ≡ isBelow (vocabularyOf v) (c .0) d) ⌝ }
+    ensures { λ r. ⌜ TellsAbove (now (work .entry)) (c .0) (r .words) ⌝ }
 {
     row(work, c.0)
 }
 
-// The rows of the roles stand behind room for those of the most classes: row ROLES + r is the set of the classes above the
-// ranges of r.
+// The rows of the roles stand behind room for those of the most classes.
 const ROLES: u32 = ClassSet::MOST;
 
 // No class is above a range.
@@ -145,7 +144,7 @@ fn empty_ranges(work: &mut [u32], n: u32)
 
 // What record k says, where it says that a class is a range of a role: what is above the class is above the range.
 fn widen(v: &[u32], work: &mut [u32], k: u32)
-    requires { ⌜ (axiomFits (now v) k ≡ true) × (roleCount (now v) ≤ 64) × (classCount (now v) ≤ mostClasses) × (roleRow (roleCount (now v)) * classWords ≤ length (now work)) ⌝ }
+    requires { ⌜ (axiomFits (now v) k ≡ true) × RoleRoom (now v) (now work) ⌝ }
     ensures { λ _. ⌜ now (work .exit) ≡ widened (now (work .entry)) (axiomAt (now (v .entry)) k) ⌝ }
 {
     if axiom_kind(v, k) != 5 {
@@ -158,7 +157,8 @@ fn widen(v: &[u32], work: &mut [u32], k: u32)
 
 // Writes the rows of the roles from those of the classes, by one walk over the records.
 pub fn close_ranges(v: &[u32], work: &mut [u32])
-    requires { ⌜ (vocabularyRefusal (now v) ≡ 0) × ClosedRows (now v) (now work) × (roleRow (roleCount (now v)) * classWords ≤ length (now work)) ⌝ }
+    requires { ⌜ vocabularyRefusal (now v) ≡ 0 ⌝ }
+    requires { ⌜ ClosedRows (now v) (now work) × (roleRow (roleCount (now v)) * classWords ≤ length (now work)) ⌝ }
     ensures { λ _. ⌜ Ranged (now (v .entry)) (now (work .entry)) (now (work .exit)) ⌝ }
 {
     empty_ranges(work, role_count(v));
@@ -173,7 +173,7 @@ pub fn close_ranges(v: &[u32], work: &mut [u32])
 pub fn range_above(work: &[u32], r: RoleNo) -> ClassSet
     requires { ⌜ (r .0 ≤ 64) × (roleRow (r .0) * classWords ≤ length (now work)) ⌝ }
     ensures { λ s. ⌜ s .words ≡ rowOf (now (work .entry)) (roleRow (r .0)) ⌝ }
-    ensures { λ s. ⌜ ((v : List ℕ) → RangeRows v (now (work .entry)) → Name (roleCount v) (r .0) → (b : ℕ) → inSet (s .words) b ≡ any (λ c. isBelow (vocabularyOf v) c b) (ranges (vocabularyOf v) (r .0))) ⌝ }
+    ensures { λ s. ⌜ TellsRanged (now (work .entry)) (r .0) (s .words) ⌝ }
 {
     row(work, ROLES + r.0)
 }

@@ -267,6 +267,7 @@ fn node(
     ensures { λ g. ⌜ Noded (inSet (f .features)) (now (p .entry)) (everyAt (inSet (f .roles)) (now (p .entry)) (now (work .entry)) j stop k) (othersAt (inSet (f .roles)) (now (p .entry)) (now (work .entry)) j stop k) (nameOf (now (p .entry)) k) j stop parent (t .individuals) (t .intervals) (t .blocked) (now (work .entry)) (now (work .exit)) g ⌝ }
 {
     let r = name_of(p, k);
+    let child = child_of(p, k);
     let x = t.individuals + 1;
     let first = t.intervals;
     let start = Got {
@@ -275,7 +276,7 @@ fn node(
         intervals: first,
         blocked: t.blocked,
     };
-    let own = chain(p, work, f, child_of(p, k), x, first, start);
+    let own = chain(p, work, f, child, x, first, start);
     let all = gather(p, work, f, r, j + 1, stop, x, first, own);
     let classes = all.classes;
     put_row(work, t.individuals, parent, r, classes);
@@ -347,10 +348,12 @@ fn parts(v: &[u32], k: u32, s: ClassSet) -> bool
     ensures { λ r. ⌜ r ≡ parted (s .words) (axiomAt (now (v .entry)) k) ⌝ }
 {
     let kind = axiom_kind(v, k);
+    let a = axiom_left(v, k);
+    let b = axiom_right(v, k);
     if kind != 2 {
         return false;
     }
-    s.has(ClassNo(axiom_left(v, k))) && s.has(ClassNo(axiom_right(v, k)))
+    s.has(ClassNo(a)) && s.has(ClassNo(b))
 }
 
 // Whether no record does. The set is closed upward, so one look at each record is enough.

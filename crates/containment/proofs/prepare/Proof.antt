@@ -9,7 +9,9 @@ close-requires c κs = (c .before .before .before .pre .0, classes-fit (c .befor
 
 close-ranges-requires : tie.Need-close-ranges-requires
 close-ranges-requires c κs =
-    (c .before .before .before .before .before .before .before .pre .0, c .before .before .before .close .ensures .closed, roles-fit (c .before .before .before .before .before .before .before .args .v .now) (c .before .before .before .before .before .before .before .args .work .now) (c .before .before .before .before .before .before .before .pre .0) (c .before .before .before .before .before .before .before .pre .1) _ (c .before .before .before .close .ensures))
+    let s = c .before .before .before .before .before .before .before in
+    let d = c .before .before .before .close .ensures in
+    (s .pre .0, (d .closed, roles-fit (s .args .v .now) (s .args .work .now) (s .pre .0) (s .pre .1) _ d))
 
 same-length : tie.Need-same-length
 same-length c = c .before .before .before .close-ranges .ensures .kept .size ∙ c .before .before .before .before .before .before .before .close .ensures .size

@@ -12,36 +12,49 @@ Inv-loop v work₀ work = Held v work₀ work
 abbrev μ-loop : tie.MeasureT-loop
 μ-loop v work₀ work = slack (length work₀) work
 
+-- in each, b is the place after `begin` and s the start
 loop-holds : tie.Need-loop-holds Inv-loop μ-loop
-loop-holds c = let s = c .before .before .before .before .before .before .before in close-starts _ _ _ (s .pre .0) (s .pre .1) (c .before .before .before .class-count .ensures) (c .before .before .begin .ensures)
+loop-holds c =
+    let b = c .before .before in
+    let s = b .before .before .before .before .before in
+    close-starts _ _ _ (s .pre .0) (s .pre .1) (b .before .class-count .ensures) (b .begin .ensures)
 
 pass-requires : tie.Need-pass-requires Inv-loop μ-loop
 pass-requires c κs =
-    let s = c .before .before .before .before .before .before .before .before .before in
-    (s .pre .0, close-fits _ _ _ (s .pre .0) (s .pre .1) (c .before .before .before .before .before .class-count .ensures) (c .before .before .before .before .begin .ensures) (c .before .loop .inv))
+    let b = c .before .before .before .before in
+    let s = b .before .before .before .before .before in
+    (s .pre .0, close-fits _ _ _ (s .pre .0) (s .pre .1) (b .before .class-count .ensures) (b .begin .ensures) (c .before .loop .inv))
 
 loop-less : tie.Need-loop-less Inv-loop μ-loop
 loop-less c =
-    let s = c .before .before .before .before .before .before .before .before .before .before .before .before .before in
+    let b = c .before .before .before .before .before .before .before .before in
+    let s = b .before .before .before .before .before in
+    let n = b .before .class-count .ensures in
     let p = c .before .before .before .pass .ensures in
-    close-less _ _ _ (s .pre .0) (s .pre .1) (c .before .before .before .before .before .before .before .before .before .class-count .ensures) (c .before .before .before .before .before .before .before .before .begin .ensures) (c .before .before .before .before .before .loop .inv) (p .0) (p .1) (c .if1 .taken)
+    close-less _ _ _ (s .pre .0) (s .pre .1) n (b .begin .ensures) (c .before .before .before .before .before .loop .inv) (p .0) (p .1) (c .if1 .taken)
     (λ k. omega (arith, c .before .slice-known3 .given k))
 
 loop-again : tie.Need-loop-again Inv-loop μ-loop
 loop-again c =
-    let s = c .before .before .before .before .before .before .before .before .before .before .before .before .before in
-    close-on _ _ _ (s .pre .0) (s .pre .1) (c .before .before .before .before .before .before .before .before .before .class-count .ensures) (c .before .before .before .before .before .before .before .before .begin .ensures) (c .before .before .before .before .before .loop .inv) (c .before .before .before .pass .ensures .0)
+    let b = c .before .before .before .before .before .before .before .before in
+    let s = b .before .before .before .before .before in
+    let n = b .before .class-count .ensures in
+    close-on _ _ _ (s .pre .0) (s .pre .1) n (b .begin .ensures) (c .before .before .before .before .before .loop .inv) (c .before .before .before .pass .ensures .0)
 
 same-length : tie.Need-same-length Inv-loop μ-loop
 same-length c =
-    let s = c .before .before .before .before .before .before .before .before .before .before .before .before .before in
-    close-length _ _ _ (s .pre .0) (s .pre .1) (c .before .before .before .before .before .before .before .before .before .class-count .ensures) (c .before .before .before .before .before .before .before .before .begin .ensures) (c .before .before .before .before .before .loop .inv) (c .before .before .before .pass .ensures .0)
+    let b = c .before .before .before .before .before .before .before .before in
+    let s = b .before .before .before .before .before in
+    let n = b .before .class-count .ensures in
+    close-length _ _ _ (s .pre .0) (s .pre .1) n (b .begin .ensures) (c .before .before .before .before .before .loop .inv) (c .before .before .before .pass .ensures .0)
 
 returns : tie.Need-returns Inv-loop μ-loop
 returns c =
-    let s = c .before .before .before .before .before .before .before .before .before .before .before .before .before in
+    let b = c .before .before .before .before .before .before .before .before in
+    let s = b .before .before .before .before .before in
+    let n = b .before .class-count .ensures in
     let p = c .before .before .before .pass .ensures in
-    close-ends _ _ _ (s .pre .0) (s .pre .1) (c .before .before .before .before .before .before .before .before .before .class-count .ensures) (c .before .before .before .before .before .before .before .before .begin .ensures) (c .before .before .before .before .before .loop .inv) (p .0) (p .1) (c .if1 .left)
+    close-ends _ _ _ (s .pre .0) (s .pre .1) n (b .begin .ensures) (c .before .before .before .before .before .loop .inv) (p .0) (p .1) (c .if1 .left)
 
 pub close-spec : {M : Type 1} → statement M
 close-spec =

@@ -6,24 +6,27 @@ use Rattle.hierarchy.proofs.widen.Tie as tie
 
 add-join : tie.Need-add-join
 add-join c =
-    let s = c .before .before .before .before .before .before .before in
+    let d = c .before in
+    let s = d .before .before .before .before .before .before in
     let a = s .args in
-    let small = widen-role (a .v .now) (a .work .now) (a .k) (c .before .before .before .before .axiom-kind .ensures) (s .pre) (c .before .before .before .if1 .left) (c .before .before .axiom-left .ensures) in
+    let small = widen-role (a .v .now) (a .work .now) (a .k) (d .before .before .before .axiom-kind .ensures) (s .pre) (d .before .before .if1 .left) (d .before .axiom-left .ensures) in
     omega arith
 
 join-requires : tie.Need-join-requires
 join-requires c κs =
-    let s = c .before .before .before .before .before .before .before in
+    let d = c .before in
+    let s = d .before .before .before .before .before .before in
     let a = s .args in
-    widen-fits (a .v .now) (a .work .now) (a .k) (c .before .before .before .before .axiom-kind .ensures) (s .pre) (c .before .before .before .if1 .left) (c .before .before .axiom-left .ensures)
-    (c .before .axiom-right .ensures)
+    widen-fits (a .v .now) (a .work .now) (a .k) (d .before .before .before .axiom-kind .ensures) (s .pre) (d .before .before .if1 .left) (d .before .axiom-left .ensures)
+    (d .axiom-right .ensures)
 
 same-length : tie.Need-same-length
 same-length c =
-    let s = c .before .before .before .before .before .before .before .before .before .before in
+    let d = c .before .before .before .before in
+    let s = d .before .before .before .before .before .before in
     let a = s .args in
-    widen-length (a .v .now) (a .work .now) (a .k) (c .before .before .before .before .before .before .before .axiom-kind .ensures) (s .pre) (c .before .before .before .before .before .before .if1 .left) (c .before .before .before .before .before .axiom-left .ensures)
-    (c .before .before .before .before .axiom-right .ensures) (c .before .before .join .ensures .0)
+    widen-length (a .v .now) (a .work .now) (a .k) (d .before .before .before .axiom-kind .ensures) (s .pre) (d .before .before .if1 .left) (d .before .axiom-left .ensures)
+    (d .axiom-right .ensures) (c .before .before .join .ensures .0)
 
 pub widen-spec : {M : Type 1} → statement M
 widen-spec =
