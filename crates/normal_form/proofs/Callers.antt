@@ -11,10 +11,10 @@ use Rattle.meaning.specs.Countermodel.{size}
 use Rattle.meaning.specs.NormalForm.{Form, Interval, Successors, none, successor}
 use Rattle.meaning.specs.Policy.{Chain, Policy, class, end, impossible, interval, some}
 use Rattle.meaning.specs.Splitting.{constraints, intervalsOf}
-use Rattle.meaning.specs.Vocabulary.{Vocabulary, mostClasses, vocabularyRefusal}
+use Rattle.meaning.specs.Vocabulary.{Vocabulary, vocabularyRefusal}
 use Rattle.normal_form.proofs.Laws.{intervals-same}
 use Rattle.normal_form.proofs.Nodes.{held-in, rows-kept}
-use Rattle.normal_form.specs.Tables.{Fit, Held, Tabled, heldBelow, heldBy, heldIn, intervalPlace, intervalsAt, mostEntries, rowsAt, tablesEnd, termAt}
+use Rattle.normal_form.specs.Tables.{Fit, Tabled, heldBelow, heldBy, heldIn, intervalPlace, intervalsAt, mostEntries, rowsAt, tablesEnd, termAt}
 use Rattle.normal_form.specs.declared.Tables.{Tables}
 
 -- ---- before: a term of an accepted policy

@@ -1,14 +1,14 @@
 -- A chain's first conjunct and the rest, and what adding conjuncts does to the tables.
 use Prim.Native.Nat.{_*_, _+_, _-_, _<_, _≤_, ℕ}
-use mathlib.Core.Bool.{Bool, _||_, and-false, and-true, false, or-assoc, or-false, or-true, true}
+use mathlib.Core.Bool.{Bool, _&&_, _||_, false, or-assoc, or-false, or-true, true}
 use mathlib.Core.List.{List, [], _++_, _∷_}
-use mathlib.Core.Logic.{inl, inr}
+use mathlib.Core.Logic.{inr}
 use mathlib.Core.Path.{_∙_, _≡_, ap, refl, subst, sym}
 use native.Mathlib.Omega.{arith}
 use lib.Dec.{eqb}
 use lib.ListN.{getD, length, length-append, length-set, set}
 use lib.Seq.{getD-set-other, getD-set-same}
-use borrow.Author.Tests.{eq-eqb, ne-eqb}
+use borrow.Author.Tests.{ne-eqb}
 use Rattle.hierarchy.specs.Rows.{rowOf, rowPlace}
 use Rattle.meaning.proofs.Links.{Name}
 use Rattle.meaning.proofs.Rules.{all-append}
@@ -20,9 +20,9 @@ use Rattle.meaning.specs.Vocabulary.{mostClasses}
 use Rattle.normal_form.proofs.Laws.{front-kept, front-row, intervals-kept, live-append, words-append, words-eq, words-kept}
 use Rattle.normal_form.specs.Parts.{Arm, armAt, barred, chainAt, classesIn, conjuncts, headAt, intervalCount, intervalsIn, joins, live, roles, wordsAt}
 use Rattle.normal_form.specs.Steps.{Adding, Adds, Entry, Good, Kept, Placed, ReadyFor, Sure, Told, front, intervalOf}
-use Rattle.normal_form.specs.Tables.{IntervalsStand, heldBy, pendingAt, rowsAt, tablesEnd}
+use Rattle.normal_form.specs.Tables.{heldBy, pendingAt, rowsAt, tablesEnd}
 use Rattle.normal_form.specs.declared.Got.{Got}
-use Rattle.words.specs.Rows.{classWords, rowAt}
+use Rattle.words.specs.Rows.{classWords}
 use Rattle.words.specs.Sets.{inSet}
 
 -- ---- the chain at a record
@@ -410,9 +410,5 @@ module _ (one : ℕ → Bool) (p : List ℕ) (x m k : ℕ) (w : List ℕ) (g : G
 
 -- ---- whether a record joins a role
 
-module _ (one : ℕ → Bool) (p : List ℕ) (k r : ℕ) {a : ℕ} (ea : a ≡ nameOf p k) where
-  pub join-yes : {t : Bool} → a ≡ r → t ≡ one a → t ≡ joins one r (armAt p k)
-  join-yes h e = rw (← ea, eq-eqb a r h, and-true (one a)) e
-
-  pub join-no : (a ≡ r → ⊥) → eqb a r ≡ joins one r (armAt p k)
-  join-no h = rw (← ea, ne-eqb a r h, and-false (one a))
+pub join-told : (one : ℕ → Bool) (p : List ℕ) (k r : ℕ) {a : ℕ} {t b : Bool} → a ≡ nameOf p k → t ≡ one a → b ≡ (t && eqb a r) → b ≡ joins one r (armAt p k)
+join-told one p k r ea et eb = rw (← ea, ← et) eb

@@ -1,17 +1,17 @@
 -- The tests of the tables are those of the form.
 use Prim.Native.Nat.{_+_, _-_, _<_, _≤_, suc, zero, ℕ}
-use mathlib.Core.Bool.{Bool, _&&_, and-assoc, and-false, and-true, cond, false, not, true}
+use mathlib.Core.Bool.{Bool, _&&_, and-assoc, and-false, and-true, false, not, true}
 use mathlib.Core.List.{List, [], _++_, _∷_, append-nil, foldl}
-use mathlib.Core.Path.{_∙_, _≡_, ap, refl, subst, sym}
+use mathlib.Core.Path.{_∙_, _≡_, ap, refl, sym}
 use native.Mathlib.Omega.{arith}
 use lib.Dec.{T, eqb, leb}
-use lib.ListN.{getD, length, length-append}
-use borrow.Author.Tests.{le-leb, lt-leb, ne-eqb}
+use lib.ListN.{length}
+use borrow.Author.Tests.{ne-eqb}
 use Rattle.meaning.proofs.Links.{split}
-use Rattle.meaning.proofs.Rules.{T-and, all-at, all-in, all-of, all-out, and-T, any-at, any-in, any-out, at-any, isFalse, not-all, notTrue, same-test}
+use Rattle.meaning.proofs.Rules.{T-and, all-at, all-in, all-of, all-out, and-T, any-at, any-in, any-out, at-any, same-test}
 use Rattle.meaning.specs.Countermodel.{size}
-use Rattle.meaning.specs.Lists.{All, Any, _∈_, all, any, counting}
-use Rattle.meaning.specs.NormalForm.{Form, Interval, Node, Successors, clash, cleanNode, cleanSuccessors, compatible, filled, isBelow, none, separates, successor}
+use Rattle.meaning.specs.Lists.{Any, _∈_, all, counting}
+use Rattle.meaning.specs.NormalForm.{Form, Interval, Successors, clash, cleanNode, cleanSuccessors, compatible, filled, isBelow, none, separates, successor}
 use Rattle.meaning.specs.Vocabulary.{Axiom, Vocabulary, axiomAt, axiomKind, axiomLeft, axiomNext, axiomRight, below, disjoint, functionalFeature, functionalRole, range, vocabularyOf}
 use Rattle.normal_form.proofs.Nodes.{held-in}
 use Rattle.normal_form.specs.Clean.{agree, cleanForm, filledAt, parted, setAt}

@@ -1,23 +1,22 @@
 -- The pending roles that join one: the ways of `gather`.
 use Prim.Native.Nat.{_+_, _-_, _<_, _≤_, ℕ}
 use mathlib.Core.Bool.{Bool, false, true}
-use mathlib.Core.List.{List, [], _++_, _∷_}
+use mathlib.Core.List.{List, [], _∷_}
 use mathlib.Core.Logic.{_⊎_, inl, inr}
 use mathlib.Core.Path.{_∙_, _≡_, ap, refl, subst, sym}
 use native.Mathlib.Omega.{arith}
-use lib.Dec.{eqb}
 use lib.ListN.{getD, length, length-append, length-set, set}
 use lib.Seq.{getD-set-other, getD-set-same}
 use borrow.Author.Tests.{eq-eqb, ne-eqb}
 use Rattle.meaning.proofs.Rules.{head, tail}
-use Rattle.meaning.specs.Lists.{All, cons, filter, nil}
+use Rattle.meaning.specs.Lists.{cons, filter}
 use Rattle.meaning.specs.NormalForm.{Interval}
 use Rattle.meaning.specs.Policy.{Chain, childOf}
-use Rattle.normal_form.proofs.Chains.{add-none, adds-then, front-same}
+use Rattle.normal_form.proofs.Chains.{add-none, adds-then}
 use Rattle.normal_form.proofs.Laws.{front-kept, intervals-kept, words-eq, words-kept, words-next}
 use Rattle.normal_form.specs.Parts.{Arm, armAt, barred, chainAt, classesIn, intervalCount, intervalsIn, joins, live, parts, roles, rolesAll, wordsAt}
-use Rattle.normal_form.specs.Steps.{Adding, Adds, Entry, Gathering, Good, ReadyFor, ReadyForAll, Struck, Sure, Told, front, restAt}
-use Rattle.normal_form.specs.Tables.{IntervalsStand, heldBy, pendingAt, rowsAt, tablesEnd}
+use Rattle.normal_form.specs.Steps.{Adding, Adds, Entry, Gathering, Good, ReadyFor, ReadyForAll, Struck, Sure, front, restAt}
+use Rattle.normal_form.specs.Tables.{IntervalsStand, heldBy, pendingAt, rowsAt}
 use Rattle.normal_form.specs.declared.Got.{Got}
 
 -- ---- the pending words

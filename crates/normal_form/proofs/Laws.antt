@@ -6,14 +6,14 @@ use mathlib.Core.Logic.{_⊎_, inl, inr}
 use mathlib.Core.Path.{_∙_, _≡_, ap, refl, subst, sym}
 use native.Mathlib.Omega.{arith}
 use lib.Dec.{eqb}
-use lib.ListN.{drop, getD, length, length-append, length-drop, length-set, length-take, replicate, set, take}
+use lib.ListN.{drop, getD, length, length-drop, length-set, length-take, replicate, set, take}
 use lib.Seq.{ext-getD, getD-drop, getD-set-other, getD-set-same, getD-take}
 use borrow.Author.Tests.{eqb-true, ne-eqb}
 use Rattle.hierarchy.specs.Rows.{roleRow, rowOf, rowPlace}
 use Rattle.meaning.specs.NormalForm.{Interval, placeInterval}
 use Rattle.normal_form.specs.Parts.{Arm, armAt, live, wordsAt}
-use Rattle.normal_form.specs.Steps.{Kept, Placed, RowPut, front, intervalOf, intervalPut, startOf}
-use Rattle.normal_form.specs.Tables.{Held, IntervalStands, IntervalsStand, heldBy, intervalPlace, pendingAt, individualPlace, rowWidth, tablesEnd}
+use Rattle.normal_form.specs.Steps.{Placed, RowPut, front, intervalOf, intervalPut, startOf}
+use Rattle.normal_form.specs.Tables.{Held, IntervalStands, IntervalsStand, heldBy, intervalPlace, pendingAt, individualPlace, tablesEnd}
 use Rattle.words.specs.Rows.{classWords, putAt, rowAt}
 use Rattle.words.proofs.Rows.{length-put, length-row, put-after, put-before, put-row}
 
@@ -131,9 +131,6 @@ held-length x [] = refl
 held-length x (s ∷ l) = ap suc (held-length x l)
 
 -- ---- a constraint put
-
-at-set : (l : List ℕ) (k j a : ℕ) → k ≡ j → k < length l → getD (set l j a) k 0 ≡ a
-at-set l k j a e h = subst (λ (n : ℕ). getD (set l n a) k 0 ≡ a) e (getD-set-same l k a 0 h)
 
 module _ (w : List ℕ) (i x f lo hi : ℕ) where
   abbrev s : ℕ

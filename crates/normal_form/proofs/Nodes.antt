@@ -1,5 +1,5 @@
 -- One individual with its row, the individuals of pending roles, and the whole form: the ways of `node`, `successors`, `normalise`.
-use Prim.Native.Nat.{_*_, _+_, _-_, _<_, _≤_, suc, ℕ}
+use Prim.Native.Nat.{_+_, _-_, _<_, _≤_, suc, ℕ}
 use mathlib.Core.Bool.{Bool, _||_, false, or-assoc, or-false}
 use mathlib.Core.List.{List, [], _++_, _∷_, append-nil}
 use mathlib.Core.Logic.{inr}
@@ -12,20 +12,20 @@ use Rattle.meaning.proofs.Terms.{ChainOf, count}
 use Rattle.meaning.specs.Countermodel.{size}
 use Rattle.meaning.specs.Lists.{All, cons, filter, nil}
 use Rattle.meaning.proofs.Rules.{head, tail}
-use Rattle.meaning.specs.NormalForm.{Form, Interval, Node, Successors, blocked, none, normalForm, ranges, single, singleFeature, successor}
+use Rattle.meaning.specs.NormalForm.{Form, Node, Successors, blocked, none, normalForm, ranges, successor}
 use Rattle.meaning.specs.Policy.{Chain, childOf, nameOf}
 use Rattle.meaning.specs.Splitting.{constraints, intervalsOf}
 use Rattle.meaning.specs.Vocabulary.{Vocabulary, vocabularyOf}
-use Rattle.normal_form.proofs.Chains.{adds-less, adds-then, front-same, kept-same}
+use Rattle.normal_form.proofs.Chains.{adds-less, adds-then, kept-same}
 use Rattle.normal_form.proofs.Groups.{all-blocked, all-count, filter-all, filter-blocked, filter-length, filter-weigh, named-below, prepared-kept, successors-cons, successors-root, told-above, unranged}
-use Rattle.normal_form.proofs.Joining.{picks, rest-arm, rest-none, rest-zero, sure-cons, sure-entry, sure-tail, words-same}
-use Rattle.normal_form.proofs.Laws.{front-kept, held-length, intervals-append, intervals-kept, row-kept, words-eq, words-kept}
-use Rattle.normal_form.specs.Parts.{Arm, armAt, barredAll, blockedAll, chainAt, classesAll, countAll, intervalCount, intervalsAll, joins, live, parts, roles, rolesAll, successorsOf, weigh, wordsAt}
-use Rattle.normal_form.specs.Steps.{Adding, Built, Entry, Gathering, Good, Grown, Kept, ArmOf, Noded, ReadyFor, ReadyForAll, Room, RowPut, Struck, Sure, Told, everyAt, front, othersAt, restAt, startOf}
-use Rattle.normal_form.specs.Tables.{Fit, Held, IntervalsStand, Normalised, Prepared, RowStands, RowsStand, Tabled, heldBelow, heldBy, heldIn, intervalPlace, pendingAt, individualPlace, rowsAt, tablesEnd, termAt}
+use Rattle.normal_form.proofs.Joining.{rest-arm, rest-none, rest-zero, sure-cons, sure-entry, sure-tail, words-same}
+use Rattle.normal_form.proofs.Laws.{held-length, intervals-append, intervals-kept, row-kept, words-eq, words-kept}
+use Rattle.normal_form.specs.Parts.{Arm, armAt, barredAll, blockedAll, chainAt, classesAll, countAll, intervalsAll, joins, live, parts, roles, rolesAll, successorsOf, weigh, wordsAt}
+use Rattle.normal_form.specs.Steps.{Adding, Built, Entry, Gathering, Good, Grown, Kept, ArmOf, Noded, ReadyFor, ReadyForAll, Room, RowPut, Struck, Sure, everyAt, front, othersAt, restAt, startOf}
+use Rattle.normal_form.specs.Tables.{Fit, IntervalsStand, Normalised, Prepared, RowStands, RowsStand, Tabled, heldBelow, heldBy, heldIn, pendingAt, individualPlace, rowsAt, tablesEnd, termAt}
 use Rattle.normal_form.specs.declared.Got.{Got}
 use Rattle.normal_form.specs.declared.Tables.{Tables}
-use Rattle.words.specs.Rows.{classWords, rowAt}
+use Rattle.words.specs.Rows.{classWords}
 use Rattle.words.specs.Sets.{inSet}
 
 -- ---- one individual; `one` tells the functional roles, `two` the functional features

@@ -1,7 +1,7 @@
 -- What each function of the crate asks, and what it does to the tables.
 use Prim.Native.Nat.{_+_, _-_, _<_, _≤_, ℕ}
 use mathlib.Core.Bool.{Bool, _||_, cond}
-use mathlib.Core.List.{List, [], _++_, _∷_}
+use mathlib.Core.List.{List, [], _∷_}
 use mathlib.Core.Logic.{_⊎_}
 use mathlib.Core.Path.{_≡_}
 use lib.Dec.{eqb}
@@ -16,7 +16,7 @@ use Rattle.meaning.specs.Policy.{Chain, childOf, nameOf}
 use Rattle.meaning.specs.Splitting.{intervalsOf}
 use Rattle.meaning.specs.Vocabulary.{Vocabulary, mostClasses, roleCount, vocabularyOf}
 use Rattle.normal_form.specs.Parts.{Arm, armAt, barred, barredAll, blockedAll, chainAt, classesAll, classesIn, countAll, intervalCount, intervalsAll, intervalsIn, joins, live, parts, roles, rolesAll, successorsOf, weigh, wordsAt}
-use Rattle.normal_form.specs.Tables.{Held, IntervalsStand, Prepared, RowsStand, heldBelow, heldBy, intervalPlace, intervalsAt, mostEntries, pendingAt, individualPlace, rowWidth, rowsAt, tablesEnd}
+use Rattle.normal_form.specs.Tables.{IntervalsStand, Prepared, RowsStand, heldBelow, heldBy, intervalPlace, intervalsAt, mostEntries, pendingAt, individualPlace, rowWidth, rowsAt, tablesEnd}
 use Rattle.normal_form.specs.declared.Got.{Got}
 use Rattle.normal_form.specs.declared.Tables.{Tables}
 use Rattle.words.specs.Rows.{classWords, rowAt}

@@ -18,9 +18,8 @@ use vocabulary::axiom_right;
 use vocabulary::first_axiom;
 use words::ClassSet;
 ghost use mathlib.Core.Bool.{_&&_};
-ghost use mathlib.Core.List.{[], _∷_};
 ghost use mathlib.Core.Path.{_≡_};
-ghost use Prim.Native.Nat.{ℕ, _+_, _-_, _<_, _≤_, max, min};
+ghost use Prim.Native.Nat.{_+_, _-_, _<_, _≤_, max, min};
 ghost use lib.Dec.{eqb};
 ghost use lib.ListN.{length, getD};
 ghost use Rattle.meaning.specs.Lists.{all, counting, filter};
@@ -37,7 +36,7 @@ ghost use Rattle.words.specs.Sets.{inSet};
 const MOST: usize = 512;
 
 // Behind the rows of hierarchy: the records of roles that are still to be followed, 0 for one that was merged away.
-pub const PENDING: usize = (ClassSet::MOST as usize + 64) * ClassSet::WORDS;
+const PENDING: usize = (ClassSet::MOST as usize + 64) * ClassSet::WORDS;
 
 // Individuals: parent, role, set of classes.
 pub const ROWS: usize = PENDING + MOST;
@@ -219,7 +218,8 @@ fn does_join(p: &[u32], f: Functional, k: u32, r: u32) -> bool
     ensures { λ b. ⌜ b ≡ joins (inSet (f .roles)) r (armAt (now (p .entry)) k) ⌝ }
 {
     let a = name_of(p, k);
-    a == r && f.has_role(RoleNo(a))
+    let one = f.has_role(RoleNo(a));
+    both(one, a, r)
 }
 
 // Of the pending roles from j to stop, those that join role r give their conjuncts to individual x and are struck out.
@@ -304,16 +304,16 @@ fn successors(
         return successors(p, work, f, j + 1, stop, parent, t);
     }
     let g = node(p, work, f, j, k, stop, parent, t);
-    let x = t.individuals + 1;
+    let here = t.individuals + 1;
     let u = successors(
         p,
         work,
         f,
         stop,
         g.pending,
-        x,
+        here,
         Tables {
-            individuals: x,
+            individuals: here,
             intervals: g.intervals,
             blocked: g.blocked,
         },

@@ -1,4 +1,3 @@
-use borrow.Author.Needs.{needs}
 use Prim.Native.Nat.{_<_, ℕ}
 use mathlib.Core.Path.{_∙_, refl}
 use native.Mathlib.Omega.{arith}

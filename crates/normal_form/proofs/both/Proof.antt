@@ -1,4 +1,3 @@
-use borrow.Author.Needs.{needs}
 use Rattle.normal_form.proofs.Laws.{and-no, and-yes}
 use Rattle.normal_form.proofs.both.Statement.{statement}
 use Rattle.normal_form.proofs.both.Tie as tie

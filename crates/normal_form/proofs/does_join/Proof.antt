@@ -1,5 +1,5 @@
 use borrow.Author.Needs.{needs}
-use Rattle.normal_form.proofs.Chains.{join-no, join-yes}
+use Rattle.normal_form.proofs.Chains.{join-told}
 use Rattle.normal_form.proofs.does_join.Statement.{statement}
 use Rattle.normal_form.proofs.does_join.Tie as tie
 use Rattle.words.specs.Sets.{inSet}
@@ -7,12 +7,7 @@ use Rattle.words.specs.Sets.{inSet}
 returns : tie.Need-returns
 returns c =
     let a = c .before .before .before .before .args in
-    join-yes (inSet (a .f .roles)) (a .p .now) (a .k) (a .r) (c .before .before .name-of .ensures) (c .before .if1 .taken) (c .has-role .ensures .0)
-
-returns-2 : tie.Need-returns-2
-returns-2 c =
-    let a = c .before .before .before .args in
-    join-no (inSet (a .f .roles)) (a .p .now) (a .k) (a .r) (c .before .name-of .ensures) (c .if1 .left)
+    join-told (inSet (a .f .roles)) (a .p .now) (a .k) (a .r) (c .before .before .name-of .ensures) (c .before .has-role .ensures .0) (c .both .ensures)
 
 pub does-join-spec : {M : Type 1} → statement M
-does-join-spec = tie.close (tie.spec (λ c κs. search needs) (λ c κs. search needs) returns returns-2)
+does-join-spec = tie.close (tie.spec (λ c κs. search needs) (λ c κs. search needs) (λ c κs. search needs) returns)

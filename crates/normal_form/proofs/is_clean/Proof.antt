@@ -1,5 +1,4 @@
 use borrow.Author.Needs.{needs}
-use Rattle.meaning.specs.Vocabulary.{vocabularyOf}
 use Rattle.normal_form.proofs.Cleanness.{clean-both, clean-not}
 use Rattle.normal_form.proofs.is_clean.Statement.{statement}
 use Rattle.normal_form.proofs.is_clean.Tie as tie

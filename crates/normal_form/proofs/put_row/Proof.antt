@@ -1,7 +1,7 @@
 use borrow.Author.Needs.{needs}
-use mathlib.Core.Path.{_∙_, ap}
+use mathlib.Core.Path.{_∙_}
 use native.Mathlib.Omega.{arith}
-use lib.ListN.{length, length-set}
+use lib.ListN.{length-set}
 use Rattle.normal_form.proofs.Laws.{row-put}
 use Rattle.normal_form.proofs.put_row.Statement.{statement}
 use Rattle.normal_form.proofs.put_row.Tie as tie
