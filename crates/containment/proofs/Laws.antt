@@ -1,6 +1,6 @@
 -- Laws of the work slice, and of the search for the first possible simple policy.
 use Prim.Native.Nat.{_*_, _+_, _-_, _<_, _≤_, suc, ℕ}
-use mathlib.Core.Bool.{Bool, _&&_, cond, false, true}
+use mathlib.Core.Bool.{Bool, cond, false, true}
 use mathlib.Core.List.{List, [], _++_, _∷_}
 use mathlib.Core.Path.{_∙_, _≡_, ap, refl, subst, sym}
 use lib.ListN.{drop, getD, length, length-drop, replicate, set}
@@ -9,20 +9,20 @@ use native.Mathlib.Omega.{arith}
 use borrow.Author.Fill.{fill-more}
 use borrow.Author.Tests.{le-ltb, lt-ltb, ne-eqb}
 use Rattle.containment.specs.Work.{Beyond}
-use Rattle.hierarchy.specs.Rows.{Closed, ClosedRows, RangeRows, Ranged, roleRow, rowOf, rowPlace}
+use Rattle.hierarchy.specs.Rows.{Closed, Ranged, roleRow, rowOf, rowPlace}
 use Rattle.hierarchy.specs.declared.Functional.{Functional}
-use Rattle.meaning.proofs.Links.{Enough, Name, falling, falling-le, falls}
+use Rattle.meaning.proofs.Links.{falling, falls}
 use Rattle.meaning.proofs.Refusals.{or-zero}
 use Rattle.meaning.proofs.Rules.{head, tail}
-use Rattle.meaning.proofs.Terms.{ChainOf, Here, NamedChain, Reads, ReadsTerms, chain-at, count, reads-none, reads-term, total}
+use Rattle.meaning.proofs.Terms.{ChainOf, Here, ReadsTerms, chain-at, reads-none, reads-term, total}
 use Rattle.meaning.proofs.Wellformed.{accepted, accepted-counts}
 use Rattle.meaning.specs.Answers.{Answer, firstPossible, nonePossible, refused}
 use Rattle.meaning.specs.Lists.{All}
-use Rattle.meaning.specs.NormalForm.{blocked, cleanNode, cleanSuccessors, normalForm, possible}
+use Rattle.meaning.specs.NormalForm.{normalForm, possible}
 use Rattle.meaning.specs.Operations.{comesLate, possibility, possibleFrom, unless, workAfter, workRefusal, workSize, zeroed}
-use Rattle.meaning.specs.Policy.{Chain, Policy, childOf, class, end, firstTerm, impossible, interval, nextOf, policyOf, policyRefusal, some}
+use Rattle.meaning.specs.Policy.{Chain, Policy, firstTerm, nextOf, policyOf, policyRefusal}
 use Rattle.meaning.specs.Records.{lastOf, orElse}
-use Rattle.meaning.specs.Vocabulary.{Vocabulary, classCount, featureCount, mostClasses, roleCount, vocabularyOf, vocabularyRefusal}
+use Rattle.meaning.specs.Vocabulary.{Vocabulary, classCount, mostClasses, roleCount, vocabularyOf, vocabularyRefusal}
 use Rattle.normal_form.proofs.Callers.{term-fits}
 use Rattle.normal_form.proofs.Laws.{row-kept}
 use Rattle.normal_form.specs.Clean.{cleanForm}

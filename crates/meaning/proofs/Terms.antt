@@ -1,5 +1,5 @@
 -- The words of a policy as its terms: what it is for the records from one on to be a chain, and that they are then read as that chain.
-use Prim.Native.Nat.{_*_, _+_, _<_, _≤_, max, suc, zero, ℕ}
+use Prim.Native.Nat.{_+_, _<_, _≤_, max, suc, zero, ℕ}
 use mathlib.Core.Bool.{false}
 use mathlib.Core.List.{List, [], _∷_}
 use mathlib.Core.Path.{_≡_, refl}
@@ -55,9 +55,6 @@ pub record Here (p : List ℕ) (k : ℕ) : Type 0 where
   pub inside : Name (lastOf 6 p) k
   pub child : Onward (lastOf 6 p) k (childOf p k)
   pub next : Onward (lastOf 6 p) k (nextOf p k)
-
-pub here-words : {p : List ℕ} {k : ℕ} → Here p k → 6 * k + 5 < length p
-here-words w = let i = w .inside in omega arith
 
 -- the words from record k on are the chain
 pub data Reads (p : List ℕ) : ℕ → Chain → Type 0 where

@@ -2,10 +2,12 @@
 use Prim.Native.Nat.{_%_, _/_, suc, zero, ℕ}
 use mathlib.Core.List.{List, [], _++_, _∷_, map}
 use mathlib.Core.Path.{_≡_}
-use Rattle.meaning.specs.Answers.{Answer, accepted, answeredNo, answeredYes, compliant, differs, equal, firstPossible, nonePossible, outside, refused}
+use Rattle.meaning.specs.Answers.{Answer, accepted, answeredNo, answeredYes, compliant, differs, equal, firstPossible}
+use Rattle.meaning.specs.Answers.{nonePossible, outside, refused}
 use Rattle.meaning.specs.Lists.{flatMap}
 use Rattle.meaning.specs.NormalForm.{normalForm}
-use Rattle.meaning.specs.Operations.{compliance, equality, modelCheck, possibility, readPolicy, readSecondPolicy, readVocabulary, workSize}
+use Rattle.meaning.specs.Operations.{compliance, equality, modelCheck, possibility, readPolicy, readSecondPolicy, readVocabulary}
+use Rattle.meaning.specs.Operations.{workSize}
 use Rattle.meaning.specs.Policy.{policyOf}
 use Rattle.meaning.specs.Program.{program}
 use Rattle.meaning.specs.Splitting.{combinationCount}

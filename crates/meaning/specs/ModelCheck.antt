@@ -8,7 +8,8 @@ use Rattle.meaning.specs.Countermodel.{Fact, edge, member, value}
 use Rattle.meaning.specs.Lists.{all, any}
 use Rattle.meaning.specs.Policy.{Chain, Policy, class, end, impossible, interval, some}
 use Rattle.meaning.specs.Records.{lastOf, linked, named, sized}
-use Rattle.meaning.specs.Vocabulary.{Axiom, Vocabulary, below, classCount, disjoint, featureCount, functionalFeature, functionalRole, range, roleCount}
+use Rattle.meaning.specs.Vocabulary.{Axiom, Vocabulary, below, classCount, disjoint, featureCount, functionalFeature}
+use Rattle.meaning.specs.Vocabulary.{functionalRole, range, roleCount}
 
 -- "Records have 5 words: kind, name, individual, other, next."
 abbrev pub factKind : List ℕ → ℕ → ℕ

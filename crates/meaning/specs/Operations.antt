@@ -5,7 +5,8 @@ use mathlib.Core.Bool.{Bool, _||_, cond, true}
 use mathlib.Core.List.{List, [], _++_, _∷_}
 use lib.Dec.{eqb, leb, ltb}
 use lib.ListN.{drop, length, replicate}
-use Rattle.meaning.specs.Answers.{Answer, accepted, answeredNo, answeredYes, compliant, differs, equal, firstPossible, nonePossible, outside, refused}
+use Rattle.meaning.specs.Answers.{Answer, accepted, answeredNo, answeredYes, compliant, differs, equal, firstPossible}
+use Rattle.meaning.specs.Answers.{nonePossible, outside, refused}
 use Rattle.meaning.specs.Containment.{Decision, contained, decide, escapes, tooMany}
 use Rattle.meaning.specs.Countermodel.{countermodel}
 use Rattle.meaning.specs.ModelCheck.{factsOf, modelRefusal, refutes}

@@ -4,7 +4,8 @@ use mathlib.Core.Bool.{_&&_, cond}
 use mathlib.Core.List.{List, [], _++_, _∷_, map}
 use lib.Dec.{eqb, leb, ltb}
 use lib.ListN.{drop, getD, length, take}
-use Rattle.meaning.specs.Answers.{Answer, accepted, answeredNo, answeredYes, compliant, differs, equal, firstPossible, nonePossible, outside, refused}
+use Rattle.meaning.specs.Answers.{Answer, accepted, answeredNo, answeredYes, compliant, differs, equal, firstPossible}
+use Rattle.meaning.specs.Answers.{nonePossible, outside, refused}
 use Rattle.meaning.specs.Countermodel.{Fact, edge, member, value}
 use Rattle.meaning.specs.Lists.{counting, flatMap}
 use Rattle.meaning.specs.ModelCheck.{factsOf}

@@ -5,7 +5,8 @@ use mathlib.Core.List.{List, _++_, _∷_}
 use mathlib.Core.Path.{_≡_}
 use lib.Dec.{T}
 use lib.ListN.{length}
-use Rattle.meaning.specs.Answers.{Answer, answeredNo, answeredYes, compliant, differs, equal, firstPossible, nonePossible, outside, refused}
+use Rattle.meaning.specs.Answers.{Answer, answeredNo, answeredYes, compliant, differs, equal, firstPossible, nonePossible}
+use Rattle.meaning.specs.Answers.{outside, refused}
 use Rattle.meaning.specs.Containment.{Contained, Indistinct, Refutes, passes}
 use Rattle.meaning.specs.Countermodel.{Fact, canonicalModel, countermodel, individuals, stands}
 use Rattle.meaning.specs.Interpretation.{Holds, In, Interpretation, Proper, Satisfies}

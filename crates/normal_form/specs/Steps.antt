@@ -15,8 +15,11 @@ use Rattle.meaning.specs.NormalForm.{Interval, Successors, placeInterval}
 use Rattle.meaning.specs.Policy.{Chain, childOf, nameOf}
 use Rattle.meaning.specs.Splitting.{intervalsOf}
 use Rattle.meaning.specs.Vocabulary.{Vocabulary, mostClasses, roleCount, vocabularyOf}
-use Rattle.normal_form.specs.Parts.{Arm, armAt, barred, barredAll, blockedAll, chainAt, classesAll, classesIn, countAll, intervalCount, intervalsAll, intervalsIn, joins, live, parts, roles, rolesAll, successorsOf, weigh, wordsAt}
-use Rattle.normal_form.specs.Tables.{IntervalsStand, Prepared, RowsStand, heldBelow, heldBy, intervalPlace, intervalsAt, mostEntries, pendingAt, individualPlace, rowWidth, rowsAt, tablesEnd}
+use Rattle.normal_form.specs.Parts.{Arm, armAt, barred, barredAll, blockedAll, chainAt, classesAll, classesIn, countAll}
+use Rattle.normal_form.specs.Parts.{intervalCount, intervalsAll, intervalsIn, joins, live, parts, roles, rolesAll, successorsOf}
+use Rattle.normal_form.specs.Parts.{weigh, wordsAt}
+use Rattle.normal_form.specs.Tables.{IntervalsStand, Prepared, RowsStand, heldBelow, heldBy, intervalPlace, intervalsAt}
+use Rattle.normal_form.specs.Tables.{mostEntries, pendingAt, individualPlace, rowWidth, rowsAt, tablesEnd}
 use Rattle.normal_form.specs.declared.Got.{Got}
 use Rattle.normal_form.specs.declared.Tables.{Tables}
 use Rattle.words.specs.Rows.{classWords, rowAt}
@@ -128,6 +131,17 @@ pub record Struck (one : ℕ → Bool) (p : List ℕ) (r j stop : ℕ) (w w′ :
   pub left : restAt p w′ j stop ≡ filter (parts one r) (restAt p w j stop)
   pub sure : Sure p (wordsAt w′ j (stop - j))
 
+-- arms pending from j to stop, with room for all that they hold
+abbrev pub Gatherable : List ℕ → List ℕ → ℕ → ℕ → ℕ → Got → Type 0
+Gatherable p w j stop m g =
+    (j ≤ stop) × (stop ≤ g .pending) × (pendingAt ≤ j) × Sure p (wordsAt w j (stop - j)) × ReadyForAll w m g (restAt p w j stop)
+
+-- those of them that join role r have gone to individual x, and are struck out
+abbrev pub Gathered : Functional → List ℕ → ℕ → ℕ → ℕ → ℕ → ℕ → List ℕ → List ℕ → Got → Got → Type 0
+Gathered f p r j stop x m w w′ g g′ =
+    Gathering (inSet (f .features)) p x j stop m (filter (joins (inSet (f .roles)) r) (restAt p w j stop)) w w′ g g′
+    × Struck (inSet (f .roles)) p r j stop w w′
+
 -- row n
 pub record RowPut (n i r : ℕ) (s w w′ : List ℕ) : Type 0 where
   pub parent : getD w′ (individualPlace n) 0 ≡ i
@@ -170,6 +184,12 @@ everyAt one p w j stop k = armAt p k ∷ filter (joins one (nameOf p k)) (restAt
 abbrev pub othersAt : (ℕ → Bool) → List ℕ → List ℕ → ℕ → ℕ → ℕ → List Arm
 othersAt one p w j stop k = filter (parts one (nameOf p k)) (restAt p w (j + 1) stop)
 
+-- so for record k, pending at j, behind what t counts
+abbrev pub NodedFrom : Functional → List ℕ → ℕ → ℕ → ℕ → ℕ → Tables → List ℕ → List ℕ → Got → Type 0
+NodedFrom f p j k stop i t w w′ g =
+    Noded (inSet (f .features)) p (everyAt (inSet (f .roles)) p w j stop k) (othersAt (inSet (f .roles)) p w j stop k) (nameOf p k) j stop i
+    (t .individuals) (t .intervals) (t .blocked) w w′ g
+
 -- the tables hold the individuals ks below individual i, behind n individuals and m constraints
 pub record Grown (K : Vocabulary) (ks : Successors) (i n m : ℕ) (w : List ℕ) (t : Tables) : Type 0 where
   pub count : t .individuals ≡ n + size ks
@@ -189,3 +209,7 @@ pub record Built (f : Functional) (l : List Arm) (j i n m : ℕ) (b : Bool) (w w
   pub fewer : t .intervals ≤ m + weigh l
   pub bars : t .blocked ≡ b || blockedAll l
   pub kept : Kept j j j n m w w′
+
+-- those of the arms pending from j to stop, behind what t counts
+abbrev pub BuiltFrom : Functional → List ℕ → ℕ → ℕ → ℕ → Tables → List ℕ → List ℕ → Tables → Type 0
+BuiltFrom f p j stop i t w w′ u = Built f (restAt p w j stop) j i (t .individuals) (t .intervals) (t .blocked) w w′ u

@@ -19,17 +19,17 @@ use vocabulary::first_axiom;
 use words::ClassSet;
 ghost use mathlib.Core.Bool.{_&&_};
 ghost use mathlib.Core.Path.{_≡_};
-ghost use Prim.Native.Nat.{_+_, _-_, _<_, _≤_, max, min};
+ghost use Prim.Native.Nat.{_+_, _<_, _≤_, max, min};
 ghost use lib.Dec.{eqb};
 ghost use lib.ListN.{length, getD};
-ghost use Rattle.meaning.specs.Lists.{all, counting, filter};
+ghost use Rattle.meaning.specs.Lists.{all, counting};
 ghost use Rattle.meaning.specs.NormalForm.{Form};
-ghost use Rattle.meaning.specs.Policy.{nameOf};
 ghost use Rattle.meaning.specs.Vocabulary.{axiomAt, vocabularyOf, vocabularyRefusal};
 ghost use Rattle.normal_form.specs.Clean.{agree, cleanForm, filledAt, parted, setAt};
-ghost use Rattle.normal_form.specs.Parts.{armAt, chainAt, headAt, joins, wordsAt};
-ghost use Rattle.normal_form.specs.Steps.{Adding, Built, Gathering, Good, Noded, Placed, ReadyFor, ReadyForAll, Room, RowPut, Struck, Sure, everyAt, front, intervalPut, othersAt, restAt, startOf};
-ghost use Rattle.normal_form.specs.Tables.{Fit, Normalised, Tabled, mostEntries, pendingAt, tablesEnd, termAt};
+ghost use Rattle.normal_form.specs.Parts.{armAt, chainAt, headAt, joins};
+ghost use Rattle.normal_form.specs.Steps.{Adding, BuiltFrom, Gatherable, Gathered, Good, NodedFrom, Placed, ReadyFor, Room, RowPut};
+ghost use Rattle.normal_form.specs.Steps.{front, intervalPut, startOf};
+ghost use Rattle.normal_form.specs.Tables.{Fit, Normalised, Tabled, mostEntries, tablesEnd, termAt};
 ghost use Rattle.words.specs.Sets.{inSet};
 
 // The most individuals, the most constraints and the most roles that wait: a policy has no more records.
@@ -234,8 +234,8 @@ fn gather(
     first: usize,
     g: Got,
 ) -> Got
-    requires { ⌜ (j ≤ stop) × (stop ≤ g .pending) × (pendingAt ≤ j) × Sure (now p) (wordsAt (now work) j (stop - j)) × ReadyForAll (now work) first g (restAt (now p) (now work) j stop) ⌝ }
-    ensures { λ s. ⌜ Gathering (inSet (f .features)) (now (p .entry)) x j stop first (filter (joins (inSet (f .roles)) r) (restAt (now (p .entry)) (now (work .entry)) j stop)) (now (work .entry)) (now (work .exit)) g s × Struck (inSet (f .roles)) (now (p .entry)) r j stop (now (work .entry)) (now (work .exit)) ⌝ }
+    requires { ⌜ Gatherable (now p) (now work) j stop first g ⌝ }
+    ensures { λ s. ⌜ Gathered f (now (p .entry)) r j stop x first (now (work .entry)) (now (work .exit)) g s ⌝ }
 {
     if j == stop {
         return g;
@@ -264,7 +264,7 @@ fn node(
     t: Tables,
 ) -> Got
     requires { ⌜ (j < stop) × (k ≡ getD (now work) j 0) × (k ≡ 0 → ⊥) × Room (now p) (now work) j stop (t .individuals) (t .intervals) ⌝ }
-    ensures { λ g. ⌜ Noded (inSet (f .features)) (now (p .entry)) (everyAt (inSet (f .roles)) (now (p .entry)) (now (work .entry)) j stop k) (othersAt (inSet (f .roles)) (now (p .entry)) (now (work .entry)) j stop k) (nameOf (now (p .entry)) k) j stop parent (t .individuals) (t .intervals) (t .blocked) (now (work .entry)) (now (work .exit)) g ⌝ }
+    ensures { λ g. ⌜ NodedFrom f (now (p .entry)) j k stop parent t (now (work .entry)) (now (work .exit)) g ⌝ }
 {
     let r = name_of(p, k);
     let child = child_of(p, k);
@@ -294,7 +294,7 @@ fn successors(
     t: Tables,
 ) -> Tables
     requires { ⌜ Room (now p) (now work) j stop (t .individuals) (t .intervals) ⌝ }
-    ensures { λ u. ⌜ Built f (restAt (now (p .entry)) (now (work .entry)) j stop) j parent (t .individuals) (t .intervals) (t .blocked) (now (work .entry)) (now (work .exit)) u ⌝ }
+    ensures { λ u. ⌜ BuiltFrom f (now (p .entry)) j stop parent t (now (work .entry)) (now (work .exit)) u ⌝ }
 {
     if j == stop {
         return t;

@@ -1,9 +1,9 @@
 // What the tables of records share: a word, a name, a link, a length, an answer.
 use meaning::Reading;
 ghost use mathlib.Core.Path.{_≡_};
-ghost use Prim.Native.Nat.{_≤_, _<_};
+ghost use Prim.Native.Nat.{_<_};
 ghost use lib.ListN.{getD, length};
-ghost use Rattle.meaning.specs.Records.{lastOf, linked, named, sized};
+ghost use Rattle.meaning.specs.Records.{linked, named, sized};
 ghost use Rattle.meaning.specs.Answers.{readingAnswer, refused, accepted};
 ghost use Rattle.meaning.specs.Operations.{unless};
 

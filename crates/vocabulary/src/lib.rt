@@ -9,9 +9,10 @@ use records::word;
 ghost use mathlib.Core.Path.{_≡_};
 ghost use mathlib.Core.Bool.{_&&_, cond};
 ghost use Prim.Native.Nat.{_≤_};
-ghost use lib.ListN.{getD, length};
-ghost use Rattle.meaning.specs.Records.{lastOf, linked, named, sized};
-ghost use Rattle.meaning.specs.Vocabulary.{axiomKind, axiomLeft, axiomNext, axiomRight, axiomsRefusal, classCount, featureCount, firstAxiom, headedVocabulary, roleCount, soundAxiom, vocabularyRefusal};
+ghost use lib.ListN.{length};
+ghost use Rattle.meaning.specs.Records.{lastOf, named};
+ghost use Rattle.meaning.specs.Vocabulary.{axiomKind, axiomLeft, axiomNext, axiomRight, axiomsRefusal, classCount, featureCount};
+ghost use Rattle.meaning.specs.Vocabulary.{firstAxiom, headedVocabulary, roleCount, soundAxiom, vocabularyRefusal};
 ghost use Rattle.meaning.specs.Answers.{readingAnswer};
 ghost use Rattle.meaning.specs.Operations.{readVocabulary};
 

@@ -6,8 +6,6 @@ use mathlib.Core.List.{List, [], _++_, _∷_}
 use mathlib.Core.Path.{_≡_, _∙_, ap, refl, sym}
 use native.Mathlib.Omega.{arith}
 use Rattle.words.specs.Rows.{putAt, rowAt}
-use Rattle.words.specs.Sets.{including}
-use Rattle.words.proofs.Laws.{length-including}
 
 pub length-row : (n : ℕ) (ws : List ℕ) (at : ℕ) → at + n ≤ length ws → length (rowAt n ws at) ≡ n
 length-row n ws at h = length-take n (drop at ws) ∙ omega (arith, length-drop at ws)
@@ -15,15 +13,6 @@ length-row n ws at h = length-take n (drop at ws) ∙ omega (arith, length-drop 
 -- the part `ws[at .. at + n]` of a slice
 pub row-part : (n : ℕ) (ws : List ℕ) (at : ℕ) → take ((at + n) - at) (drop at ws) ≡ rowAt n ws at
 row-part n ws at = let size : (at + n) - at ≡ n = omega arith in rw size
-
--- and the slice with the part back
-pub row-back : (n : ℕ) (ws : List ℕ) (at x : ℕ) (vs : List ℕ) → at + n ≤ length ws → vs ≡ including (take ((at + n) - at) (drop at ws)) x
-    → take at ws ++ (vs ++ drop ((at + n) - at) (drop at ws)) ≡ putAt ws at (including (rowAt n ws at) x)
-row-back n ws at x vs h e =
-    let size : (at + n) - at ≡ n = omega arith in
-    let whole : length (including (rowAt n ws at) x) ≡ n = length-including (rowAt n ws at) x ∙ length-row n ws at h in
-    let set : vs ≡ including (rowAt n ws at) x = e ∙ rw size in
-    rw (set, whole, size, drop-drop n at ws)
 
 -- what lies past the first of two lists
 back : (xs ys : List ℕ) (i : ℕ) → length xs ≤ i → drop i (xs ++ ys) ≡ drop (i - length xs) ys

@@ -185,13 +185,4 @@ impl ClassSet {
         let end = at + ClassSet::WORDS;
         has(&words[at..end], c.0)
     }
-
-    // Puts class c into the set at a place of a slice.
-    pub fn insert_at(words: &mut [u32], at: usize, c: ClassNo)
-        requires { ⌜ at + classWords ≤ length (now words) ⌝ }
-        ensures { λ _. ⌜ now (words .exit) ≡ putAt (now (words .entry)) at (including (rowAt classWords (now (words .entry)) at) (c .0)) ⌝ }
-    {
-        let end = at + ClassSet::WORDS;
-        insert(&mut words[at..end], c.0);
-    }
 }

@@ -1,5 +1,4 @@
 use native.Mathlib.Omega.{arith}
-use borrow.Author.Needs.{needs}
 use Rattle.containment.proofs.Laws.{term-blocked, term-clean, term-kept, term-tabled}
 use Rattle.containment.proofs.is_possible.Statement.{statement}
 use Rattle.containment.proofs.is_possible.Tie as tie

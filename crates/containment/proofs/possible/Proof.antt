@@ -1,5 +1,3 @@
-use mathlib.Core.Path.{_∙_, refl, subst, sym}
-use Prim.Native.Nat.{_≤_, ℕ}
 use native.Mathlib.Omega.{arith}
 use lib.ListN.{length}
 use borrow.Author.Needs.{needs}

@@ -1,4 +1,3 @@
-use borrow.Author.Needs.{needs}
 use mathlib.Core.Path.{_∙_}
 use Rattle.containment.proofs.Laws.{classes-fit, prepared-beyond, roles-fit}
 use Rattle.containment.proofs.prepare.Statement.{statement}
