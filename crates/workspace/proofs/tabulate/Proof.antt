@@ -1,13 +1,13 @@
 use native.Mathlib.Omega.{arith}
-use Rattle.containment.proofs.Laws.{term-blocked, term-clean, term-kept, term-tabled}
-use Rattle.containment.proofs.is_possible.Statement.{statement}
-use Rattle.containment.proofs.is_possible.Tie as tie
+use Rattle.workspace.proofs.Laws.{term-blocked, term-clean, term-tabled}
+use Rattle.workspace.proofs.tabulate.Statement.{statement}
+use Rattle.workspace.proofs.tabulate.Tie as tie
 
 returns : tie.Need-returns
 returns c =
     let q = c .before .before .before .before .before .before .before .before .pre in
     let n = c .before .before .before .normalise .ensures in
-    (term-blocked (q .0) (q .1) n (c .if1 .taken), term-kept (q .0) (q .1) n)
+    term-blocked (q .0) (q .1) (q .3) n (c .if1 .taken)
 
 is-clean-requires : tie.Need-is-clean-requires
 is-clean-requires c κs =
@@ -21,9 +21,9 @@ returns-2 : tie.Need-returns-2
 returns-2 c =
     let q = c .before .before .before .before .before .before .before .before .before .before .pre in
     let n = c .before .before .before .before .before .normalise .ensures in
-    (term-clean (q .0) (q .1) n (c .before .before .if1 .left) (c .is-clean .ensures _ (term-tabled (q .0) (q .1) n (q .3))), term-kept (q .0) (q .1) n)
+    term-clean (q .0) (q .1) (q .3) n (c .before .before .if1 .left) (c .is-clean .ensures _ (term-tabled (q .0) (q .1) (q .3) n))
 
-pub is-possible-spec : {M : Type 1} → statement M
-is-possible-spec =
+pub tabulate-spec : {M : Type 1} → statement M
+tabulate-spec =
     tie.close
     (tie.spec (λ c κs. c .before .before .before .before .pre .2) (λ c. c .before .before .before .normalise .ensures .same) returns is-clean-requires (λ c. c .before .before .before .before .before .normalise .ensures .same) returns-2)

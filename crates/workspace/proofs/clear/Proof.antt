@@ -5,9 +5,9 @@ use mathlib.Core.Path.{_∙_, _≡_, ap, refl}
 use lib.ListN.{length, length-set, set}
 use native.Mathlib.Omega.{arith}
 use borrow.Author.Needs.{needs}
-use Rattle.containment.proofs.Laws.{zeroed-more, zeroed-none}
-use Rattle.containment.proofs.clear.Statement.{statement}
-use Rattle.containment.proofs.clear.Tie as tie
+use Rattle.workspace.proofs.Laws.{zeroed-more, zeroed-none}
+use Rattle.workspace.proofs.clear.Statement.{statement}
+use Rattle.workspace.proofs.clear.Tie as tie
 use Rattle.meaning.specs.Operations.{workSize, zeroed}
 
 abbrev Inv-loop : tie.InvT-loop

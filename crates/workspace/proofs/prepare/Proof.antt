@@ -1,7 +1,7 @@
 use mathlib.Core.Path.{_∙_}
-use Rattle.containment.proofs.Laws.{classes-fit, prepared-beyond, roles-fit}
-use Rattle.containment.proofs.prepare.Statement.{statement}
-use Rattle.containment.proofs.prepare.Tie as tie
+use Rattle.workspace.proofs.Laws.{classes-fit, prepared-beyond, roles-fit}
+use Rattle.workspace.proofs.prepare.Statement.{statement}
+use Rattle.workspace.proofs.prepare.Tie as tie
 
 close-requires : tie.Need-close-requires
 close-requires c κs = (c .before .before .before .pre .0, classes-fit (c .before .before .before .args .v .now) (c .before .before .before .args .work .now) (c .before .before .before .pre .0) (c .before .before .before .pre .1))

@@ -1,2 +1,0 @@
--- What the operations carry through the work slice.
-pub mod Work

@@ -1,0 +1,131 @@
+-- Laws of the work slice: words that are 0, and what is kept while a simple policy is worked on.
+use Prim.Native.Nat.{_*_, _+_, _-_, _<_, _≤_, ℕ}
+use mathlib.Core.Bool.{Bool, false, not, true}
+use mathlib.Core.List.{List, _++_}
+use mathlib.Core.Path.{_∙_, _≡_, ap, refl, subst, sym}
+use lib.ListN.{drop, getD, length, length-drop, replicate, set}
+use lib.Seq.{ext-getD, getD-drop}
+use native.Mathlib.Omega.{arith}
+use borrow.Author.Fill.{fill-more}
+use Rattle.hierarchy.specs.Rows.{Closed, Ranged, roleRow, rowOf, rowPlace}
+use Rattle.hierarchy.specs.declared.Functional.{Functional}
+use Rattle.meaning.proofs.Terms.{ChainOf}
+use Rattle.meaning.proofs.Wellformed.{accepted-counts}
+use Rattle.meaning.specs.NormalForm.{normalForm, possible}
+use Rattle.meaning.specs.Operations.{workSize, zeroed}
+use Rattle.meaning.specs.Policy.{Chain}
+use Rattle.meaning.specs.Vocabulary.{classCount, mostClasses, roleCount, vocabularyOf, vocabularyRefusal}
+use Rattle.normal_form.proofs.Laws.{row-kept}
+use Rattle.normal_form.specs.Clean.{cleanForm}
+use Rattle.normal_form.specs.Tables.{Normalised, Prepared, Tabled, pendingAt}
+use Rattle.normal_form.specs.declared.Tables.{Tables}
+use Rattle.words.specs.Rows.{classWords}
+use Rattle.words.specs.Sets.{inSet}
+use Rattle.workspace.specs.Work.{Beyond, Tabulated}
+
+-- ---- words that are 0
+
+pub zeroed-none : (w : List ℕ) → w ≡ zeroed 0 w
+unfolding zeroed
+zeroed-none w = refl
+
+pub zeroed-more : (n : ℕ) (w : List ℕ) → n < length w → set (zeroed n w) n 0 ≡ zeroed (n + 1) w
+unfolding zeroed
+zeroed-more n w h = fill-more n 0 w h
+
+-- zeroing forgets the first n words
+zeroed-rest : (n : ℕ) (w w′ : List ℕ) → length w′ ≡ length w → ((i : ℕ) → n ≤ i → getD w′ i 0 ≡ getD w i 0) → zeroed n w′ ≡ zeroed n w
+unfolding zeroed
+zeroed-rest n w w′ e f = ap (λ (l : List ℕ). replicate n 0 ++ l) (ext-getD 0 (drop n w′) (drop n w) lengths (λ i h. same i))
+  where
+    lengths : length (drop n w′) ≡ length (drop n w)
+    lengths = length-drop n w′ ∙ (ap (λ (k : ℕ). k - n) e ∙ sym (length-drop n w))
+
+    same : (i : ℕ) → getD (drop n w′) i 0 ≡ getD (drop n w) i 0
+    same i = getD-drop n w′ i 0 ∙ (f (n + i) (omega arith) ∙ sym (getD-drop n w i 0))
+
+pub zeroed-beyond : {w w′ : List ℕ} → Beyond w w′ → zeroed workSize w′ ≡ zeroed workSize w
+zeroed-beyond {w} {w′} b = zeroed-rest workSize w w′ (b .size) (b .rest)
+
+pub beyond-same : {w : List ℕ} → Beyond w w
+beyond-same = record { size = refl; rest = λ i h. refl }
+
+pub beyond-then : {w w′ w″ : List ℕ} → Beyond w w′ → Beyond w′ w″ → Beyond w w″
+beyond-then a b = record { size = b .size ∙ a .size; rest = λ i h. b .rest i h ∙ a .rest i h }
+
+-- ---- what is prepared
+
+behind : (n : ℕ) (w w′ : List ℕ) → drop n w′ ≡ drop n w → (i : ℕ) → n ≤ i → getD w′ i 0 ≡ getD w i 0
+behind n w w′ e i h =
+    let k : n + (i - n) ≡ i = omega arith in
+    subst (λ (j : ℕ). getD w′ j 0 ≡ getD w j 0) k
+    (sym (getD-drop n w′ (i - n) 0) ∙ (ap (λ (l : List ℕ). getD l (i - n) 0) e ∙ getD-drop n w (i - n) 0))
+
+module _ (v w : List ℕ) (a : vocabularyRefusal v ≡ 0) (full : workSize ≤ length w) where
+  pub classes-fit : classCount v * classWords ≤ length w
+  classes-fit = let c = accepted-counts v a in omega arith
+
+  module _ (w₁ : List ℕ) (c : Closed v w w₁) where
+    pub roles-fit : roleRow (roleCount v) * classWords ≤ length w₁
+    roles-fit = let n = accepted-counts v a in let s = c .size in omega arith
+
+    pub prepared-beyond : (w₂ : List ℕ) → Ranged v w₁ w₂ → Beyond w w₂
+    prepared-beyond w₂ r =
+        let n = accepted-counts v a in record {
+          size = r .kept .size ∙ c .size;
+          rest = λ i h. behind (roleRow (roleCount v) * classWords) w₁ w₂ (r .kept .rest) i (omega arith) ∙ behind (classCount v * classWords) w w₁ (c .rest) i (omega arith);
+        }
+
+-- what stands in front of the tables is kept, and so what is prepared
+pub prepared-kept : {v w w′ : List ℕ} {f : Functional} → workSize ≤ length w → length w′ ≡ length w → ((i : ℕ) → i < pendingAt → getD w′ i 0 ≡ getD w i 0) → Prepared v w f → Prepared v w′ f
+prepared-kept {v} {w} {w′} full e f g =
+    let n = accepted-counts v (g .accepted) in record {
+      accepted = g .accepted;
+      closed = record {
+        fits = let h = g .closed .fits in omega arith;
+        rows = λ a b h. ap (λ (s : List ℕ). inSet s b) (row a (omega arith) (omega arith)) ∙ g .closed .rows a b h;
+      };
+      ranged = record {
+        fits = let h = g .ranged .fits in omega arith;
+        rows = λ r b h. ap (λ (s : List ℕ). inSet s b) (row (roleRow r) (omega arith) (omega arith)) ∙ g .ranged .rows r b h;
+      };
+      singles = g .singles;
+    }
+  where
+    row : (i : ℕ) → 1 ≤ i → i ≤ mostClasses + 64 → rowOf w′ i ≡ rowOf w i
+    row i a b = row-kept classWords w w′ (rowPlace i) e (λ j p q. f j (omega arith))
+
+-- ---- one simple policy
+
+module _ {v w : List ℕ} {f : Functional} {d : Chain} (g : Prepared v w f) (full : workSize ≤ length w) (o : ChainOf v d) where
+  module _ {w′ : List ℕ} {r : Tables} (n : Normalised f d w w′ r) where
+    blocked-is : r .blocked ≡ true → possible (vocabularyOf v) d ≡ false
+    unfolding possible
+    blocked-is e = rw (sym (n .bars) ∙ e)
+
+    clean-is : r .blocked ≡ false → possible (vocabularyOf v) d ≡ cleanForm (vocabularyOf v) (normalForm (vocabularyOf v) d)
+    unfolding possible
+    clean-is e = rw (sym (n .bars) ∙ e)
+
+    -- with whatever is known of the term
+    told : (u : Tables) → u .individuals ≡ r .individuals → u .intervals ≡ r .intervals → u .blocked ≡ not (possible (vocabularyOf v) d) → Tabulated v d f w w′ u
+    told u a b e =
+        let s = n .tabled v g o in
+        let m = n .most in
+        record {
+          impossible = e;
+          tabled = record { count = a ∙ s .count; top = b ∙ s .top; rows = s .rows; held = s .held };
+          most = (omega arith, omega arith);
+          prepared = prepared-kept full (n .same) (n .before) g;
+          beyond = record { size = n .same; rest = λ i h. n .behind i (omega arith) };
+        }
+
+    pub term-blocked : r .blocked ≡ true → Tabulated v d f w w′ r
+    term-blocked e = told r refl refl (e ∙ ap not (sym (blocked-is e)))
+
+    pub term-tabled : Tabled (vocabularyOf v) (normalForm (vocabularyOf v) d) w′ r
+    term-tabled = n .tabled v g o
+
+    pub term-clean : {b : Bool} → r .blocked ≡ false → b ≡ cleanForm (vocabularyOf v) (normalForm (vocabularyOf v) d) →
+        Tabulated v d f w w′ (record { individuals = r .individuals; intervals = r .intervals; blocked = not b })
+    term-clean e h = told (record { individuals = r .individuals; intervals = r .intervals; blocked = _ }) refl refl (ap not (h ∙ sym (clean-is e)))

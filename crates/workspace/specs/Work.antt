@@ -1,0 +1,26 @@
+-- What a call may do to the work slice, and what the slice holds of one simple policy.
+use Prim.Native.Nat.{_≤_, ℕ}
+use mathlib.Core.Bool.{not}
+use mathlib.Core.List.{List}
+use mathlib.Core.Path.{_≡_}
+use lib.ListN.{getD, length}
+use Rattle.hierarchy.specs.declared.Functional.{Functional}
+use Rattle.meaning.specs.NormalForm.{normalForm, possible}
+use Rattle.meaning.specs.Operations.{workSize}
+use Rattle.meaning.specs.Policy.{Chain}
+use Rattle.meaning.specs.Vocabulary.{vocabularyOf}
+use Rattle.normal_form.specs.Tables.{Prepared, Tabled, mostEntries}
+use Rattle.normal_form.specs.declared.Tables.{Tables}
+
+-- the words behind the first 16,384 are as they were
+pub record Beyond (w w′ : List ℕ) : Type 0 where
+  pub size : length w′ ≡ length w
+  pub rest : (i : ℕ) → workSize ≤ i → getD w′ i 0 ≡ getD w i 0
+
+-- the tables hold the normal form of the term c by the vocabulary v, which is still prepared; whether the term is impossible
+pub record Tabulated (v : List ℕ) (c : Chain) (f : Functional) (w w′ : List ℕ) (r : Tables) : Type 0 where
+  pub impossible : r .blocked ≡ not (possible (vocabularyOf v) c)
+  pub tabled : Tabled (vocabularyOf v) (normalForm (vocabularyOf v) c) w′ r
+  pub most : (r .individuals ≤ mostEntries) × (r .intervals ≤ mostEntries)
+  pub prepared : Prepared v w′ f
+  pub beyond : Beyond w w′

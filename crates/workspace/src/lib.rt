@@ -1,0 +1,53 @@
+// The work slice through a call: what is prepared once, one simple policy's tables, and the words that are left 0.
+use hierarchy::Functional;
+use normal_form::Tables;
+use normal_form::is_clean;
+use normal_form::normalise;
+ghost use mathlib.Core.Path.{_≡_};
+ghost use Prim.Native.Nat.{_≤_};
+ghost use lib.ListN.{length};
+ghost use Rattle.meaning.proofs.Terms.{ChainOf};
+ghost use Rattle.meaning.specs.Operations.{workSize, zeroed};
+ghost use Rattle.meaning.specs.Vocabulary.{vocabularyRefusal};
+ghost use Rattle.normal_form.specs.Tables.{Fit, Prepared, termAt};
+ghost use Rattle.workspace.specs.Work.{Beyond, Tabulated};
+
+// A work slice is full from so many words on.
+pub const WORK: usize = 16384;
+
+// An operation leaves the words that it worked in 0.
+pub fn clear(work: &mut [u32])
+    requires { ⌜ workSize ≤ length (now work) ⌝ }
+    ensures { λ _. ⌜ now (work .exit) ≡ zeroed workSize (now (work .entry)) ⌝ }
+{
+    for i in 0..WORK {
+        work[i] = 0;
+    }
+}
+
+// What does not change inside a call: the closed rows of classes and roles, and the functional names.
+pub fn prepare(v: &[u32], work: &mut [u32]) -> Functional
+    requires { ⌜ (vocabularyRefusal (now v) ≡ 0) × (workSize ≤ length (now work)) ⌝ }
+    ensures { λ f. ⌜ Prepared (now (v .entry)) (now (work .exit)) f × Beyond (now (work .entry)) (now (work .exit)) ⌝ }
+{
+    hierarchy::close(v, work);
+    hierarchy::close_ranges(v, work);
+    Functional::of(v)
+}
+
+// The normal form of the simple policy at record k in the tables, and whether it is impossible.
+pub fn tabulate(v: &[u32], p: &[u32], work: &mut [u32], f: Functional, k: u32) -> Tables
+    requires { ⌜ Prepared (now v) (now work) f × (workSize ≤ length (now work)) × Fit (now p) (now work) k × ChainOf (now v) (termAt (now p) k) ⌝ }
+    ensures { λ r. ⌜ Tabulated (now (v .entry)) (termAt (now (p .entry)) k) f (now (work .entry)) (now (work .exit)) r ⌝ }
+{
+    let t = normalise(p, work, f, k);
+    if t.blocked {
+        return t;
+    }
+    let clean = is_clean(v, work, t);
+    Tables {
+        individuals: t.individuals,
+        intervals: t.intervals,
+        blocked: !clean,
+    }
+}
