@@ -1,7 +1,7 @@
 -- The walk over the simple policies of an accepted policy, for whatever is asked of them one after another.
 use Prim.Native.Nat.{_+_, _<_, _≤_, suc, ℕ}
 use mathlib.Core.List.{List, [], _∷_}
-use mathlib.Core.Path.{_∙_, _≡_, ap, refl, subst, sym}
+use mathlib.Core.Path.{_≡_, subst, sym}
 use lib.ListN.{length}
 use native.Mathlib.Omega.{arith}
 use Rattle.meaning.proofs.Links.{falling, falls}
@@ -16,18 +16,18 @@ use Rattle.meaning.specs.Vocabulary.{vocabularyRefusal}
 use Rattle.normal_form.proofs.Callers.{term-fits}
 use Rattle.normal_form.specs.Tables.{Fit, mostEntries, termAt}
 
--- the simple policies from record k on, the first of them at the place s, are still to be asked: what they tell is what all tell
-pub record Asking {A : Type 0} (told : ℕ → Policy → A) (v p : List ℕ) (s k : ℕ) : Type 0 where
+-- the simple policies from record k on, the first of them at the place s, are still to be asked, and T holds of them
+pub record Asking (T : ℕ → Policy → Type 0) (v p : List ℕ) (s k : ℕ) : Type 0 where
   pub left : Policy
   pub reads : ReadsTerms p k left
   pub named : All (ChainOf v) left
   pub from1 : 1 ≤ s
   pub room : s + total left ≤ 513
-  pub same : told s left ≡ told 1 (policyOf p)
+  pub holds : T s left
 
-module _ {A : Type 0} {told : ℕ → Policy → A} {v p : List ℕ} where
-  pub asking-starts : {k : ℕ} → policyRefusal v p ≡ 0 → k ≡ firstTerm p → Asking told v p 1 k
-  asking-starts a e =
+module _ {T : ℕ → Policy → Type 0} {v p : List ℕ} where
+  pub asking-starts : {k : ℕ} → policyRefusal v p ≡ 0 → k ≡ firstTerm p → T 1 (policyOf p) → Asking T v p 1 k
+  asking-starts a e h =
       let b = accepted v p a in
       let c = b .few in
       let d = b .small in
@@ -37,14 +37,14 @@ module _ {A : Type 0} {told : ℕ → Policy → A} {v p : List ℕ} where
         named = b .named;
         from1 = omega arith;
         room = omega arith;
-        same = refl;
+        holds = h;
       }
 
-  module _ {s k : ℕ} (t : Asking told v p s k) where
-    pub asking-ends : k ≡ 0 → told s [] ≡ told 1 (policyOf p)
-    asking-ends z = go (t .left) (t .reads) (t .same)
+  module _ {s k : ℕ} (t : Asking T v p s k) where
+    pub asking-ends : k ≡ 0 → T s []
+    asking-ends z = go (t .left) (t .reads) (t .holds)
       where
-        go : (l : Policy) → ReadsTerms p k l → told s l ≡ told 1 (policyOf p) → told s [] ≡ told 1 (policyOf p)
+        go : (l : Policy) → ReadsTerms p k l → T s l → T s []
         go l (reads-none e) q = q
         go l (reads-term h e r m) q = absurd (let i = h .inside in omega arith)
 
@@ -59,13 +59,13 @@ module _ {A : Type 0} {told : ℕ → Policy → A} {v p : List ℕ} where
       named : All (ChainOf v) after
       few : total (termAt p k ∷ after) ≤ mostEntries
       room : suc s + total after ≤ 513
-      same : told s (termAt p k ∷ after) ≡ told 1 (policyOf p)
+      holds : T s (termAt p k ∷ after)
 
     module _ (n : k ≡ 0 → ⊥) where
       next : Next
-      next = go (t .reads) (t .named) (t .room) (t .same)
+      next = go (t .reads) (t .named) (t .room) (t .holds)
         where
-          go : {l : Policy} → ReadsTerms p k l → All (ChainOf v) l → s + total l ≤ 513 → told s l ≡ told 1 (policyOf p) → Next
+          go : {l : Policy} → ReadsTerms p k l → All (ChainOf v) l → s + total l ≤ 513 → T s l → Next
           go (reads-none e) a b q = absurd (n e)
           go (reads-term {c = c} {P = P} h e r m) a b q =
               let i : termAt p k ≡ c = chain-at r in
@@ -80,7 +80,7 @@ module _ {A : Type 0} {told : ℕ → Policy → A} {v p : List ℕ} where
                 named = tail a;
                 few = subst (λ (x : Chain). total (x ∷ P) ≤ mostEntries) (sym i) (omega arith);
                 room = omega arith;
-                same = ap (λ (x : Chain). told s (x ∷ P)) i ∙ q;
+                holds = subst (λ (x : Chain). T s (x ∷ P)) (sym i) q;
               }
 
       pub asking-named : ChainOf v (termAt p k)
@@ -96,11 +96,11 @@ module _ {A : Type 0} {told : ℕ → Policy → A} {v p : List ℕ} where
       asking-room = let r = next .room in omega arith
 
       -- what this one settles, whatever follows
-      pub asking-found : {a : A} → ((l : Policy) → told s (termAt p k ∷ l) ≡ a) → a ≡ told 1 (policyOf p)
-      asking-found f = sym (f (next .after)) ∙ next .same
+      pub asking-found : {B : Type 0} → ((l : Policy) → T s (termAt p k ∷ l) → B) → B
+      asking-found f = f (next .after) (next .holds)
 
       module _ {x : ℕ} (z : x ≡ nextOf p k) where
-        pub asking-on : ((l : Policy) → told s (termAt p k ∷ l) ≡ told (s + 1) l) → Asking told v p (s + 1) x
+        pub asking-on : ((l : Policy) → T s (termAt p k ∷ l) → T (s + 1) l) → Asking T v p (s + 1) x
         asking-on f =
             let o = t .from1 in record {
               left = next .after;
@@ -108,7 +108,7 @@ module _ {A : Type 0} {told : ℕ → Policy → A} {v p : List ℕ} where
               named = next .named;
               from1 = omega arith;
               room = let r = next .room in omega arith;
-              same = sym (f (next .after)) ∙ next .same;
+              holds = f (next .after) (next .holds);
             }
 
         pub asking-falls : falling (lastOf 6 p) x < falling (lastOf 6 p) k

@@ -1,0 +1,4 @@
+pub mod Pieces
+pub mod Conjuncts
+pub mod Walks
+pub mod Callers
