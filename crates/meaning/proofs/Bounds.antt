@@ -15,7 +15,7 @@ use Rattle.meaning.specs.Vocabulary.{classCount, featureCount, roleCount
 pub bounded : (v : List ℕ) → vocabularyRefusal v ≡ 0 → Bounded (classCount v) (vocabularyOf v)
 bounded v e = record { above = λ a b m. all-at (accepted-axioms v e) m .1; ranged = λ r c m. all-at (accepted-axioms v e) m .1 }
 
-chain-bounded : (N R F : ℕ) (c : Chain) → NamedChain N R F c → BoundedChain N c
+pub chain-bounded : (N R F : ℕ) (c : Chain) → NamedChain N R F c → BoundedChain N c
 chain-bounded N R F end h = tt
 chain-bounded N R F (class a next) h = (h .0, chain-bounded N R F next (h .1))
 chain-bounded N R F (impossible next) h = chain-bounded N R F next h

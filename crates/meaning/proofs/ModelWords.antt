@@ -44,7 +44,7 @@ NamedFact N R Fc n (value f i v) = Name Fc f × Name n i
 -- ---- record k of the words m
 
 -- it states a fact and links to another, in front of other words
-record Stated (m : List ℕ) (k : ℕ) (x : Fact) (next : ℕ) (l : List ℕ) : Type 0 where
+pub record Stated (m : List ℕ) (k : ℕ) (x : Fact) (next : ℕ) (l : List ℕ) : Type 0 where
   pub fact : factAt m k ≡ x
   pub link : factNext m k ≡ next
   pub rest : drop (5 * suc k) m ≡ l
@@ -61,7 +61,7 @@ module _ (m : List ℕ) (k : ℕ) where
   after : {l : List ℕ} → drop (5 * k) m ≡ l → drop (5 * suc k) m ≡ drop 5 l
   after e = rw (mul-suc, ← drop-drop 5 (5 * k) m, e)
 
-  stated : (x : Fact) (next : ℕ) (l : List ℕ) → drop (5 * k) m ≡ factWords x next ++ l → Stated m k x next l
+  pub stated : (x : Fact) (next : ℕ) (l : List ℕ) → drop (5 * k) m ≡ factWords x next ++ l → Stated m k x next l
   stated (member a i) next l e =
       record { fact = simp (kind e, word e); link = word e 4; rest = after e; fits = λ v h. simp (kind e, word e, tests) (omega arith) }
   stated (edge r i j) next l e =

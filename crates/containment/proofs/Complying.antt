@@ -1,0 +1,108 @@
+-- Laws of Compliance as an operation: the refusals in their order, the work slice afterwards, and demand 2.
+use Prim.Native.Nat.{_<_, _≤_, suc, zero, ℕ}
+use mathlib.Core.Bool.{Bool, cond, false, true}
+use mathlib.Core.List.{List, [], _++_}
+use mathlib.Core.Path.{_∙_, _≡_, ap, refl, subst₂, sym}
+use lib.Dec.{leb}
+use lib.ListN.{drop, length, take}
+use lib.Seq.{take-at}
+use native.Mathlib.Omega.{arith}
+use borrow.Author.Tests.{le-ltb, lt-ltb}
+use Rattle.containment.specs.Verdicts.{Delivers, Right}
+use Rattle.meaning.proofs.Compliance.{compliance-told, no-escape}
+use Rattle.meaning.proofs.Interpretations.{tested-finite}
+use Rattle.meaning.proofs.Refusals.{AcceptedInput, accepted-input, or-few, policy-few, vocabulary-few}
+use Rattle.meaning.specs.Answers.{Answer, compliant, outside, refused, verdictAnswer}
+use Rattle.meaning.specs.Containment.{Decision, Refutes, contained, decide, escapes, tooMany}
+use Rattle.meaning.specs.Countermodel.{Fact, countermodel}
+use Rattle.meaning.specs.ModelCheck.{factsOf, individualCount}
+use Rattle.meaning.specs.Operations.{Outcome, comesLate, compliance, complianceOf, inputRefusal, outputAfter, refuses, reported, says, unless, workAfter, workRefusal, workSize, zeroed}
+use Rattle.meaning.specs.Policy.{Policy, policyOf, policyRefusal, second}
+use Rattle.meaning.specs.Promises.{Told, agreed, escaped, unsaidVerdict}
+use Rattle.meaning.specs.Records.{orElse}
+use Rattle.meaning.specs.Vocabulary.{Vocabulary, classCount, vocabularyOf, vocabularyRefusal}
+use Rattle.meaning.specs.declared.Verdict.the-variants as verdict
+use Rattle.meaning.specs.declared.Verdict.{Verdict}
+use Rattle.workspace.proofs.Laws.{beyond-then, zeroed-beyond}
+use Rattle.workspace.specs.Work.{Beyond}
+
+-- ---- the refusals in their order
+
+outputs-none : (o : List ℕ) → o ≡ outputAfter [] o
+unfolding outputAfter
+outputs-none o = refl
+
+module _ (v p q : List ℕ) (w : ℕ) (o : List ℕ) {r : ℕ} (e : r ≡ inputRefusal v p q) where
+  pub complies-early : (r ≡ 0 → ⊥) → Delivers (compliance v p q w (length o)) o o (verdict.Refused r)
+  unfolding compliance
+  complies-early n = go (inputRefusal v p q) e
+    where
+      go : (x : ℕ) → r ≡ x → Delivers (unless refuses (orElse x (workRefusal w)) (complianceOf (classCount v) (vocabularyOf v) (policyOf p) (policyOf q) (length o))) o o (verdict.Refused r)
+      go zero h = absurd (n h)
+      go (suc x) h = record { answer = ap refused h; output = outputs-none o }
+
+  module _ (z : r ≡ 0) where
+    pub complies-accepted : AcceptedInput v p q
+    complies-accepted = accepted-input v p q (sym e ∙ z)
+
+    pub complies-21 : w < workSize → Delivers (compliance v p q w (length o)) o o (verdict.Refused 21)
+    unfolding compliance
+    complies-21 h = rw (sym e ∙ z, lt-ltb w workSize h) (record { answer = refl; output = outputs-none o })
+
+    pub complies : {o′ : List ℕ} {d : Verdict} → workSize ≤ w → Delivers (complianceOf (classCount v) (vocabularyOf v) (policyOf p) (policyOf q) (length o)) o o′ d →
+        Delivers (compliance v p q w (length o)) o o′ d
+    unfolding compliance
+    complies h d = rw (sym e ∙ z, le-ltb w workSize h) d
+
+-- ---- the work slice afterwards
+
+pub input-few : (v p q : List ℕ) → inputRefusal v p q ≤ 18
+unfolding inputRefusal
+input-few v p q =
+    or-few 18 (vocabularyRefusal v) (orElse (policyRefusal v p) (second (policyRefusal v q))) (let a = vocabulary-few v in omega arith)
+    (or-few 18 (policyRefusal v p) (second (policyRefusal v q)) (let a = policy-few v p in omega arith) (go (policyRefusal v q) (policy-few v q)))
+  where
+    go : (n : ℕ) → n ≤ 8 → second n ≤ 18
+    go zero h = omega arith
+    go (suc n) h = omega arith
+
+module _ (N : ℕ) (K : Vocabulary) (P Q : Policy) (o : ℕ) where
+  settled-late : comesLate (complianceOf N K P Q o .answer) ≡ true
+  unfolding complianceOf
+  settled-late = go (tooMany K P Q) (decide K P Q)
+    where
+      fits : (b : Bool) (s q : ℕ) (words : List ℕ) → comesLate ((cond b (record { answer = outside s q (length words); words = words }) (refuses 23)) .answer) ≡ true
+      fits true s q words = refl
+      fits false s q words = refl
+
+      go : (b : Bool) (d : Decision) → comesLate (cond b (refuses 22) (reported N K o outside d (says compliant)) .answer) ≡ true
+      go true d = refl
+      go false contained = refl
+      go false (escapes s q u) = fits (leb (length (countermodel N K u)) o) s q (countermodel N K u)
+
+  pub complied-work : {w w₁ w₂ w₃ : List ℕ} {a : Answer} → Beyond w w₁ → Beyond w₁ w₂ → w₃ ≡ zeroed workSize w₂ → a ≡ complianceOf N K P Q o .answer → w₃ ≡ workAfter a w
+  unfolding workAfter
+  complied-work b c z e = rw (ap comesLate e ∙ settled-late) (z ∙ zeroed-beyond (beyond-then b c))
+
+-- ---- demand 2
+
+module _ (v p q o o′ : List ℕ) where
+  taken : (words : List ℕ) (n : ℕ) → n ≡ length words → o′ ≡ outputAfter words o → words ≡ take n o′
+  unfolding outputAfter
+  taken words n e d = sym (ap (take n) d ∙ take-at words (drop (length words) o) n (sym e))
+
+  told : (r : Verdict) (x : Outcome) → Told (classCount v) (vocabularyOf v) (policyOf p) (policyOf q) (length o) x → verdictAnswer r ≡ x .answer → o′ ≡ outputAfter (x .words) o →
+      Right v p q o′ r
+  told verdict.Compliant x (agreed c) a d = λ M. c _
+  told verdict.Compliant x (unsaidVerdict n) a d = absurd (let z : _≡_ {A = ℕ} 0 1 = cc in omega arith)
+  told verdict.Compliant x (escaped s k words h l) a d = absurd (let z : _≡_ {A = ℕ} 0 1 = cc in omega arith)
+  told (verdict.Outside s c n) x (agreed m) a d = absurd (let z : _≡_ {A = ℕ} 0 1 = cc in omega arith)
+  told (verdict.Outside s c n) x (unsaidVerdict m) a d = absurd (let z : _≡_ {A = ℕ} 0 1 = cc in omega arith)
+  told (verdict.Outside s c n) x (escaped i k words h l) a d =
+      let m : n ≡ length words = cc in
+      let t = taken words n m d in
+      (subst₂ (λ (j : ℕ) (F : List Fact). Refutes (vocabularyOf v) (policyOf p) (policyOf q) j F) (ap individualCount t) (ap factsOf t) (h .refutes), λ y. no-escape (tested-finite (vocabularyOf v) (policyOf p) (policyOf q) y) h)
+  told (verdict.Refused m) x t a d = tt
+
+  pub complies-right : (w : ℕ) {r : Verdict} → Delivers (compliance v p q w (length o)) o o′ r → Right v p q o′ r
+  complies-right w {r} d = told r (compliance v p q w (length o)) (compliance-told v p q w (length o)) (d .answer) (d .output)

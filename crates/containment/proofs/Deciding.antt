@@ -1,0 +1,276 @@
+-- Laws of Compliance: the combinations counted, the first failure, the report.
+use Prim.Native.Nat.{_*_, _+_, _<_, _≤_, min, suc, zero, ℕ}
+use mathlib.Core.Bool.{Bool, _&&_, _||_, cond, false, not, true}
+use mathlib.Core.List.{List, [], _∷_}
+use mathlib.Core.Logic.{_⊎_, inl, inr}
+use mathlib.Core.Path.{_∙_, _≡_, ap, refl, subst, sym}
+use lib.Dec.{ltb}
+use lib.ListN.{length}
+use native.Mathlib.Omega.{arith}
+use borrow.Author.Tests.{le-leb, le-ltb, lt-leb, lt-ltb, ltb-false}
+use Rattle.combination.specs.Combination.{Combined}
+use Rattle.containment.specs.Verdicts.{Delivers, Failed, Failure, Reports, decision, exceeds}
+use Rattle.countermodel.specs.Facts.{Standing}
+use Rattle.meaning.proofs.Bounds.{bounded, chain-bounded}
+use Rattle.meaning.proofs.Containment.{witness}
+use Rattle.meaning.proofs.Links.{Name}
+use Rattle.meaning.proofs.ModelWords.{model-length}
+use Rattle.meaning.proofs.Neat.{BoundedChain, NeatForm}
+use Rattle.meaning.proofs.Rules.{isTrue, order}
+use Rattle.meaning.proofs.Stated.{Bounded}
+use Rattle.meaning.proofs.Wellformed.{accepted-counts}
+use Rattle.meaning.specs.Answers.{outside}
+use Rattle.meaning.specs.Containment.{Decision, contained, decide, decideFrom, escapes, firstFailure, mostCombinations, orEscape, passes, tooMany}
+use Rattle.meaning.specs.Countermodel.{canonicalModel, countermodel, individuals}
+use Rattle.meaning.specs.Lists.{Found, _∈_, any, firstFailing, found, here, nowhere, there}
+use Rattle.meaning.specs.NormalForm.{Form, blocked, normalForm, possible}
+use Rattle.meaning.specs.Operations.{Outcome, complianceOf, outputAfter, reported, says, workSize, written}
+use Rattle.meaning.specs.Policy.{Chain, Policy, nextOf, policyOf, policyRefusal}
+use Rattle.meaning.specs.Splitting.{combinationCount, combinations, product}
+use Rattle.meaning.specs.Vocabulary.{Vocabulary, classCount, vocabularyOf}
+use Rattle.meaning.specs.declared.Verdict.the-variants as verdict
+use Rattle.meaning.specs.declared.Verdict.{Verdict}
+use Rattle.hierarchy.specs.declared.Functional.{Functional}
+use Rattle.normal_form.specs.Clean.{cleanForm}
+use Rattle.normal_form.specs.Tables.{Prepared, mostEntries, termAt}
+use Rattle.normal_form.specs.declared.Tables.{Tables}
+use Rattle.splitting.proofs.Callers.{full-clean, kept-refl, product-at}
+use Rattle.splitting.specs.Ends.{Ends}
+use Rattle.splitting.specs.Odometer.{Kept, Splittable, constraintsAt}
+use Rattle.trial.specs.Trials as Tries
+use Rattle.trial.specs.Trials.{Triable, Tried}
+use Rattle.workspace.proofs.Laws.{beyond-then, prepared-kept}
+use Rattle.workspace.proofs.Walk.{Asking, asking-found, asking-named, asking-on}
+use Rattle.workspace.specs.Work.{Beyond, Tabulated}
+
+-- ---- 22: too many combinations
+
+-- a count that stops behind the limit tells as much
+capped : (n m : ℕ) → n ≡ min m (suc mostCombinations) → ltb mostCombinations n ≡ ltb mostCombinations m
+capped n m e = go (order mostCombinations m)
+  where
+    go : (mostCombinations < m) ⊎ (m ≤ mostCombinations) → ltb mostCombinations n ≡ ltb mostCombinations m
+    go (inl h) = lt-ltb mostCombinations n (omega arith) ∙ sym (lt-ltb mostCombinations m h)
+    go (inr h) = le-ltb mostCombinations n (omega arith) ∙ sym (le-ltb mostCombinations m h)
+
+-- of whatever policy's ends they are, what the rest counts is what all count
+abbrev pub Uncounted : List ℕ → List ℕ → List ℕ → ℕ → Policy → Type 0
+Uncounted v p e s l = (Q : Policy) → Ends Q e → any (exceeds (vocabularyOf v) Q) l ≡ tooMany (vocabularyOf v) (policyOf p) Q
+
+module _ (v p e : List ℕ) where
+  pub uncounted-starts : Uncounted v p e 1 (policyOf p)
+  unfolding tooMany
+  uncounted-starts Q n = refl
+
+  pub uncounted-ends : Uncounted v p e 1 [] → (Q : Policy) → Ends Q e → false ≡ tooMany (vocabularyOf v) (policyOf p) Q
+  uncounted-ends u Q n = u Q n
+
+  module _ (c : Chain) (l : Policy) {b : Bool} (u : Uncounted v p e 1 (c ∷ l)) (f : (Q : Policy) → Ends Q e → b ≡ exceeds (vocabularyOf v) Q c) where
+    pub uncounted-found : b ≡ true → (Q : Policy) → Ends Q e → true ≡ tooMany (vocabularyOf v) (policyOf p) Q
+    uncounted-found h Q n = ap (λ (x : Bool). x || any (exceeds (vocabularyOf v) Q) l) (sym h ∙ f Q n) ∙ u Q n
+
+    pub uncounted-on : b ≡ false → Uncounted v p e 1 l
+    uncounted-on h Q n = ap (λ (x : Bool). x || any (exceeds (vocabularyOf v) Q) l) (sym h ∙ f Q n) ∙ u Q n
+
+-- ---- the term that the tables hold
+
+is-true : (t : Bool) {b : Bool} → b ≡ not t → b ≡ false → t ≡ true
+is-true true e h = refl
+is-true false e h = cc
+
+is-false : (t : Bool) {b : Bool} → b ≡ not t → b ≡ true → t ≡ false
+is-false true e h = cc
+is-false false e h = refl
+
+clean-is : (K : Vocabulary) (c : Chain) → possible K c ≡ true → cleanForm K (normalForm K c) ≡ true
+unfolding possible
+clean-is K c h = go (not (blocked c)) h
+  where
+    go : (t : Bool) → (t && cleanForm K (normalForm K c)) ≡ true → cleanForm K (normalForm K c) ≡ true
+    go true h = h
+    go false h = cc
+
+module _ {v : List ℕ} {c : Chain} {f : Functional} {w w′ : List ℕ} {t : Tables} (d : Tabulated v c f w w′ t) where
+  abbrev K : Vocabulary
+  K = vocabularyOf v
+
+  pub term-impossible : (Q : Policy) → t .blocked ≡ true → false ≡ exceeds K Q c
+  term-impossible Q h = rw (is-false (possible K c) (d .impossible) h)
+
+  module _ (full : workSize ≤ length w) (h : t .blocked ≡ false) where
+    pub term-splittable : Splittable w′ (t .intervals)
+    term-splittable =
+        let s = d .beyond .size in
+        record { few = d .most .1; long = omega arith; full = full-clean (d .tabled) (clean-is K c (is-true (possible K c) (d .impossible) h)) }
+
+    pub term-exceeds : (Q : Policy) {n : ℕ} → n ≡ min (product Q (constraintsAt w′ (t .intervals))) (suc mostCombinations) → ltb mostCombinations n ≡ exceeds K Q c
+    term-exceeds Q {n} e = rw (is-true (possible K c) (d .impossible) h) (capped n (combinationCount Q (normalForm K c)) (e ∙ ap (λ (m : ℕ). min m (suc mostCombinations)) (product-at (d .tabled) Q)))
+
+    pub term-triable : {q e : List ℕ} → policyRefusal v q ≡ 0 → Ends (policyOf q) e → exceeds K (policyOf q) c ≡ false → Triable q e w′ t
+    term-triable {q} a n x =
+        let s = d .beyond .size in
+        let i = d .tabled .count in
+        record {
+          askable = record { long = omega arith; some = omega arith; individuals = d .most .0; intervals = d .most .1; vocabulary = v; accepted = a };
+          splittable = term-splittable;
+          ends = n;
+          few = rw (product-at (d .tabled) (policyOf q)) (le-of (combinationCount (policyOf q) (normalForm K c)) (rw (is-true (possible K c) (d .impossible) h) at x));
+        }
+      where
+        le-of : (m : ℕ) → ltb mostCombinations m ≡ false → m ≤ mostCombinations
+        le-of m e = ltb-false mostCombinations m e
+
+-- ---- the first combination to fail, where the term is possible
+
+module _ (Q : Policy) {w : List ℕ} {t : Tables} where
+  pub failed-impossible : t .blocked ≡ true → Failed Q w w t 0
+  unfolding firstFailure
+  failed-impossible h = record { told = λ v c e s. rw (is-false (possible (vocabularyOf v) c) e h); kept = kept-refl (t .intervals) w }
+
+  pub failed-tried : {w′ : List ℕ} {r : ℕ} → t .blocked ≡ false → Tried Q w w′ t r → Failed Q w w′ t r
+  unfolding firstFailure
+  failed-tried {w′} {r} h y = record { told = λ v c e s. go r (vocabularyOf v) c (is-true (possible (vocabularyOf v) c) e h) (y .told (vocabularyOf v) (normalForm (vocabularyOf v) c) s); kept = y .kept }
+    where
+      go : (r : ℕ) (K : Vocabulary) (c : Chain) → possible K c ≡ true → Tries.Failure K Q (normalForm K c) w′ t r → Failure K Q c w′ t r
+      go zero K c e y = rw e y
+      go (suc k) K c e y = (y .0, rw e (y .1), y .2)
+
+-- a piece put beside a constraint leaves what was prepared, and what stands behind
+module _ {n : ℕ} {w w′ : List ℕ} (k : Kept n w w′) (few : n ≤ mostEntries) where
+  pub pieces-prepared : {v : List ℕ} {f : Functional} → workSize ≤ length w → Prepared v w f → Prepared v w′ f
+  pieces-prepared full g = prepared-kept full (k .same) (λ i h. k .others i (λ m l. (λ z. omega arith, λ z. omega arith))) g
+
+  pub pieces-beyond : Beyond w w′
+  pieces-beyond = record { size = k .same; rest = λ i h. k .others i (λ m l. (λ z. omega arith, λ z. omega arith)) }
+
+-- ---- the first term to fail
+
+module _ (K : Vocabulary) (Q : Policy) (c : Chain) (w : List ℕ) (t : Tables) where
+  pub fails-none : {r : ℕ} → r ≡ 0 → Failure K Q c w t r → firstFailure K Q c ≡ nowhere
+  fails-none {r} z h = go r z h
+    where
+      go : (r : ℕ) → r ≡ 0 → Failure K Q c w t r → firstFailure K Q c ≡ nowhere
+      go zero z h = h
+      go (suc k) z h = absurd (omega arith)
+
+  pub fails-some : {r : ℕ} → (r ≡ 0 → ⊥) → Failure K Q c w t r → (u : Form) × (firstFailure K Q c ≡ found r u) × Combined K u w t
+  fails-some {r} z h = go r z h
+    where
+      go : (r : ℕ) → (r ≡ 0 → ⊥) → Failure K Q c w t r → (u : Form) × (firstFailure K Q c ≡ found r u) × Combined K u w t
+      go zero z h = absurd (z refl)
+      go (suc k) z h = h
+
+found-in : {A : Type 0} (f : A → Bool) (s : ℕ) (l : List A) {k : ℕ} {x : A} → firstFailing f s l ≡ found k x → x ∈ l
+found-in f s [] e = absurd (let z : _≡_ {A = ℕ} 0 1 = cc in omega arith)
+found-in f s (y ∷ l) {k} {x} e = go (f y) (λ h. found-in f (suc s) l h) e
+  where
+    go : (b : Bool) → (firstFailing f (suc s) l ≡ found k x → x ∈ l) → cond b (firstFailing f (suc s) l) (found s y) ≡ found k x → x ∈ (y ∷ l)
+    go true r e = there (r e)
+    go false r e = here (let z : x ≡ y = cc in z)
+
+-- the combination that fails is as neat as the term's normal form
+pub fails-neat : (N : ℕ) (K : Vocabulary) → Bounded N K → (Q : Policy) (c : Chain) (r : ℕ) (u : Form) → BoundedChain N c → firstFailure K Q c ≡ found r u → NeatForm (Name N) K u
+unfolding firstFailure
+fails-neat N K b Q c r u f e = go (possible K c) refl e
+  where
+    go : (t : Bool) → possible K c ≡ t → cond t (firstFailing (passes K Q) 1 (combinations Q (normalForm K c))) nowhere ≡ found r u → NeatForm (Name N) K u
+    go true p e = witness N K b Q c f (isTrue p) u (found-in (passes K Q) 1 (combinations Q (normalForm K c)) e) .ready .neat
+    go false p e = absurd (let z : _≡_ {A = ℕ} 0 1 = cc in omega arith)
+
+-- what the rest decides is what all decide, and none of the rest has too many combinations
+abbrev pub Undecided : List ℕ → List ℕ → List ℕ → ℕ → Policy → Type 0
+Undecided v p q s l =
+    (decideFrom (vocabularyOf v) (policyOf q) s l ≡ decide (vocabularyOf v) (policyOf p) (policyOf q)) × (any (exceeds (vocabularyOf v) (policyOf q)) l ≡ false)
+
+module _ (v p q : List ℕ) where
+  pub undecided-starts : tooMany (vocabularyOf v) (policyOf p) (policyOf q) ≡ false → Undecided v p q 1 (policyOf p)
+  unfolding tooMany decide
+  undecided-starts h = (refl, h)
+
+  module _ (s : ℕ) (c : Chain) (l : Policy) (u : Undecided v p q s (c ∷ l)) where
+    pub undecided-few : exceeds (vocabularyOf v) (policyOf q) c ≡ false
+    undecided-few = go (exceeds (vocabularyOf v) (policyOf q) c) (u .1)
+      where
+        go : (b : Bool) → (b || any (exceeds (vocabularyOf v) (policyOf q)) l) ≡ false → b ≡ false
+        go true h = h
+        go false h = refl
+
+    pub undecided-found : {r : ℕ} {x : Form} → firstFailure (vocabularyOf v) (policyOf q) c ≡ found r x → escapes s r x ≡ decide (vocabularyOf v) (policyOf p) (policyOf q)
+    undecided-found e = sym (ap (λ y. orEscape s y (decideFrom (vocabularyOf v) (policyOf q) (suc s) l)) e) ∙ u .0
+
+    pub undecided-on : firstFailure (vocabularyOf v) (policyOf q) c ≡ nowhere → Undecided v p q (s + 1) l
+    undecided-on e =
+        let i : suc s ≡ s + 1 = omega arith in (
+          sym (ap (λ (j : ℕ). decideFrom (vocabularyOf v) (policyOf q) j l) i) ∙ sym (ap (λ y. orEscape s y (decideFrom (vocabularyOf v) (policyOf q) (suc s) l)) e) ∙ u .0,
+          ap (λ (b : Bool). b || any (exceeds (vocabularyOf v) (policyOf q)) l) (sym undecided-few) ∙ u .1,
+        )
+
+-- ---- the report
+
+pub countermodel-length : (N : ℕ) (K : Vocabulary) (u : Form) → length (countermodel N K u) ≡ 5 * (length (canonicalModel N K u) + 1)
+unfolding countermodel
+countermodel-length N K u = model-length (individuals u) (canonicalModel N K u)
+
+outputs-none : (o : List ℕ) → o ≡ outputAfter [] o
+unfolding outputAfter
+outputs-none o = refl
+
+module _ (s q : ℕ) (words o : List ℕ) where
+  pub reports-23 : length o < length words → Delivers (written (length o) (outside s q) words) o o (verdict.Refused 23)
+  reports-23 h = rw (lt-leb (length words) (length o) h) (record { answer = refl; output = outputs-none o })
+
+  pub reports-words : {o′ : List ℕ} {n : ℕ} → length words ≤ length o → n ≡ length words → o′ ≡ outputAfter words o →
+      Delivers (written (length o) (outside s q) words) o o′ (verdict.Outside s q n)
+  reports-words h e d = rw (le-leb (length words) (length o) h) (record { answer = ap (outside s q) e; output = d })
+
+-- ---- what is settled behind 21
+
+module _ (N : ℕ) (K : Vocabulary) (P Q : Policy) (o : List ℕ) where
+  abbrev told : Outcome
+  told = reported N K (length o) outside (decide K P Q) (says Rattle.meaning.specs.Answers.compliant)
+
+  pub delivers-compliant : {o′ : List ℕ} → o′ ≡ o → contained ≡ decide K P Q → Delivers told o o′ verdict.Compliant
+  delivers-compliant h e = rw (sym e) (record { answer = refl; output = h ∙ outputs-none o })
+
+  pub delivers-report : {s q : ℕ} {u : Form} {o′ : List ℕ} {r : Verdict} → escapes s q u ≡ decide K P Q → Delivers (written (length o) (outside s q) (countermodel N K u)) o o′ r →
+      Delivers told o o′ r
+  delivers-report e d = rw (sym e) d
+
+  pub settles-22 : {b : Bool} → b ≡ tooMany K P Q → b ≡ true → Delivers (complianceOf N K P Q (length o)) o o (verdict.Refused 22)
+  unfolding complianceOf
+  settles-22 e h = rw (sym e ∙ h) (record { answer = refl; output = outputs-none o })
+
+  pub settles : {b : Bool} {o′ : List ℕ} {r : Verdict} → b ≡ tooMany K P Q → b ≡ false → Delivers told o o′ r → Delivers (complianceOf N K P Q (length o)) o o′ r
+  unfolding complianceOf
+  settles e h d = rw (sym e ∙ h) d
+
+-- ---- one term of the loop
+
+module _ {v p : List ℕ} (q : List ℕ) {s k : ℕ} (a : Asking (Undecided v p q) v p s k) (n : k ≡ 0 → ⊥) where
+  pub term-few : exceeds (vocabularyOf v) (policyOf q) (termAt p k) ≡ false
+  term-few = asking-found a n (λ l u. undecided-few v p q s (termAt p k) l u)
+
+  module _ {f : Functional} {w w′ w″ : List ℕ} {t : Tables} {r : ℕ} (d : Tabulated v (termAt p k) f w w′ t) (g : Failed (policyOf q) w′ w″ t r) where
+    abbrev failure : Failure (vocabularyOf v) (policyOf q) (termAt p k) w″ t r
+    failure = g .told v (termAt p k) (d .impossible) (d .tabled)
+
+    pub term-standing : workSize ≤ length w → Standing w″ t
+    term-standing h = let x = d .beyond .size in let y = g .kept .same in record { long = omega arith; individuals = d .most .0; intervals = d .most .1 }
+
+    pub term-prepared : workSize ≤ length w → Prepared v w″ f
+    term-prepared h = let x = d .beyond .size in pieces-prepared (g .kept) (d .most .1) (omega arith) (d .prepared)
+
+    pub term-beyond : Beyond w w″
+    term-beyond = beyond-then (d .beyond) (pieces-beyond (g .kept) (d .most .1))
+
+    pub term-fails : {o o₀ o′ : List ℕ} {x : Verdict} → (r ≡ 0 → ⊥) → o ≡ o₀ → Reports s r w″ t o o′ x → Delivers (decision v p q (length o₀)) o₀ o′ x
+    term-fails {o} {o₀} {o′} {x} z e y =
+        let i = fails-some (vocabularyOf v) (policyOf q) (termAt p k) w″ t z failure in
+        let b = bounded v (d .prepared .accepted) in
+        let m = fails-neat (classCount v) (vocabularyOf v) b (policyOf q) (termAt p k) r (i .0) (chain-bounded _ _ _ (termAt p k) (asking-named a n)) (i .1) in
+        delivers-report (classCount v) (vocabularyOf v) (policyOf p) (policyOf q) o₀ (asking-found a n (λ l u. undecided-found v p q s (termAt p k) l u (i .1)))
+        (subst (λ (l : List ℕ). Delivers (written (length l) (outside s r) (countermodel (classCount v) (vocabularyOf v) (i .0))) l o′ x) e
+        (y (classCount v) (vocabularyOf v) (i .0) (accepted-counts v (d .prepared .accepted) .0 .1) b m (i .2)))
+
+    pub term-passes : {j : ℕ} → r ≡ 0 → j ≡ nextOf p k → Asking (Undecided v p q) v p (s + 1) j
+    term-passes z e = asking-on a n e (λ l u. undecided-on v p q s (termAt p k) l u (fails-none (vocabularyOf v) (policyOf q) (termAt p k) w″ t z failure))

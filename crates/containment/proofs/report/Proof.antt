@@ -1,0 +1,34 @@
+use mathlib.Core.Path.{refl}
+use native.Mathlib.Omega.{arith}
+use Rattle.containment.proofs.Deciding.{countermodel-length, reports-23, reports-words}
+use Rattle.containment.proofs.report.Statement.{statement}
+use Rattle.containment.proofs.report.Tie as tie
+use Rattle.countermodel.proofs.Sizes.{records-most}
+use Rattle.meaning.specs.Countermodel.{countermodel}
+
+returns : tie.Need-returns
+returns c = (λ N K u a b n d. reports-23 _ _ (countermodel N K u) (c .before .before .before .before .args .out .now) (omega (arith, c .if1 .taken, c .before .size .ensures .1 N K u a b n d, countermodel-length N K u)), refl)
+
+write-requires : tie.Need-write-requires
+write-requires c κs = (c .before .before .before .before .before .pre, c .before .before .size .ensures .0, omega (arith, c .before .if1 .left))
+
+returns-2 : tie.Need-returns-2
+returns-2 c = (
+  λ N K u a b n d.
+      let e = c .before .before .before .before .before .size .ensures .1 N K u a b n d in
+      let l = countermodel-length N K u in
+      reports-words _ _ (countermodel N K u) (c .before .before .before .before .before .before .before .before .args .out .now) (omega (arith, c .before .before .before .before .if1 .left)) (omega arith) (c .before .before .write .ensures .1 N K u a b n d),
+  c .before .before .write .ensures .0,
+)
+
+pub report-spec : {M : Type 1} → statement M
+report-spec =
+    tie.close
+    (tie.spec
+    (λ c κs. c .before .before .pre)
+    (λ c. omega (arith, records-most _ _ (c .before .before .before .pre), c .size .ensures .0))
+    (λ c. omega (arith, records-most _ _ (c .before .before .before .pre), c .size .ensures .0))
+    returns
+    write-requires
+    (λ c. c .before .before .write .ensures .0)
+    returns-2)

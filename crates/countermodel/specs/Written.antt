@@ -1,0 +1,32 @@
+-- Records written one behind another into the output, the number of the last one known.
+use Prim.Native.Nat.{_*_, _+_, _<_, _^_, _≤_, suc, ℕ}
+use mathlib.Core.Bool.{cond}
+use mathlib.Core.List.{List, [], _++_, _∷_}
+use mathlib.Core.Path.{_≡_}
+use lib.Dec.{eqb}
+use lib.ListN.{length}
+use Rattle.meaning.specs.Countermodel.{Fact, factWords}
+use Rattle.words.specs.Rows.{putAt}
+
+-- the header and so many records have room in the output, and a word holds each link
+pub record Room (last : ℕ) (o : List ℕ) : Type 0 where
+  pub long : 5 * (last + 1) ≤ length o
+  pub few : last < 2 ^ 32
+
+-- record k's link
+abbrev pub linkAt : ℕ → ℕ → ℕ
+linkAt last k = cond (eqb k last) 0 (k + 1)
+
+abbrev pub linkedWords : ℕ → ℕ → List Fact → List ℕ
+linkedWords last k [] = []
+linkedWords last k (x ∷ F) = factWords x (linkAt last k) ++ linkedWords last (suc k) F
+
+-- the output with the facts at the records from k on
+unfoldable pub recorded : ℕ → ℕ → List Fact → List ℕ → List ℕ
+recorded last k F o = putAt o (5 * k) (linkedWords last k F)
+
+-- the facts stand at the records from k on, in the place of what stood there, and r is the record behind them
+pub record Written (last k : ℕ) (F : List Fact) (o o′ : List ℕ) (r : ℕ) : Type 0 where
+  pub words : o′ ≡ recorded last k F o
+  pub count : r ≡ k + length F
+  pub same : length o′ ≡ length o

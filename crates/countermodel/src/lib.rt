@@ -1,0 +1,244 @@
+// The canonical model of the combination that the tables of the work slice hold: how many records it has, and its words.
+use combination::next_successor;
+use meaning::ClassNo;
+use normal_form::INTERVAL;
+use normal_form::INTERVALS;
+use normal_form::ROW;
+use normal_form::ROWS;
+use normal_form::Tables;
+use words::ClassSet;
+use words::place;
+ghost use mathlib.Core.List.{_∷_, [], map};
+ghost use mathlib.Core.Path.{_≡_};
+ghost use Prim.Native.Nat.{ℕ, _+_, _*_, _<_, _≤_, _^_};
+ghost use lib.ListN.{length};
+ghost use Rattle.combination.specs.Combination.{Combined, pieceAt};
+ghost use Rattle.countermodel.specs.Facts.{Standing, edgeFacts, factsAt, isAbove, isBetter, memberFacts, pairsAbove, recordCount, tableFacts, valueFact, valueFacts, valuesFrom};
+ghost use Rattle.countermodel.specs.Written.{Room, Written, linkAt, recorded};
+ghost use Rattle.meaning.proofs.Links.{Name};
+ghost use Rattle.meaning.proofs.Neat.{NeatForm};
+ghost use Rattle.meaning.proofs.Stated.{Bounded};
+ghost use Rattle.meaning.specs.Countermodel.{canonicalModel, countermodel, pairBefore};
+ghost use Rattle.meaning.specs.NormalForm.{Form};
+ghost use Rattle.meaning.specs.Operations.{outputAfter};
+ghost use Rattle.meaning.specs.Vocabulary.{Vocabulary, mostClasses};
+ghost use Rattle.normal_form.specs.Tables.{mostEntries, tablesEnd};
+ghost use Rattle.words.specs.Rows.{putAt};
+
+// ---- the pairs of an individual, rising
+
+// Whether constraint a's pair stands before constraint b's: by feature, then by upper end.
+fn is_before(work: &[u32], a: usize, b: usize) -> bool
+    requires { ⌜ (a < mostEntries) × (b < mostEntries) × (tablesEnd ≤ length (now work)) ⌝ }
+    ensures { λ r. ⌜ r ≡ pairBefore (pieceAt (now (work .entry)) a) (pieceAt (now (work .entry)) b) ⌝ }
+{
+    let f = work[INTERVALS + INTERVAL * a + 1];
+    let g = work[INTERVALS + INTERVAL * b + 1];
+    if f == g {
+        return work[INTERVALS + INTERVAL * a + 5] < work[INTERVALS + INTERVAL * b + 5];
+    }
+    f < g
+}
+
+// Whether constraint i's pair stands above constraint m's, or m is n and no constraint.
+fn is_above(work: &[u32], n: usize, m: usize, i: usize) -> bool
+    requires { ⌜ (i < n) × (n ≤ mostEntries) × (tablesEnd ≤ length (now work)) ⌝ }
+    ensures { λ r. ⌜ r ≡ isAbove (now (work .entry)) n m (pieceAt (now (work .entry)) i) ⌝ }
+{
+    if m < n {
+        return is_before(work, m, i);
+    }
+    true
+}
+
+// Whether constraint i is individual x's and its pair stands above constraint m's and before that of the best so far.
+fn is_better(work: &[u32], n: usize, x: u32, m: usize, best: usize, i: usize) -> bool
+    requires { ⌜ (i < n) × (n ≤ mostEntries) × (tablesEnd ≤ length (now work)) ⌝ }
+    ensures { λ r. ⌜ r ≡ isBetter (now (work .entry)) n x m best i ⌝ }
+{
+    if work[INTERVALS + INTERVAL * i] != x {
+        return false;
+    }
+    if !is_above(work, n, m, i) {
+        return false;
+    }
+    if best < n {
+        return is_before(work, i, best);
+    }
+    true
+}
+
+// Of n constraints, one of individual x whose pair is the least above constraint m's, or n; from n on, the least of all.
+fn next_pair(work: &[u32], n: usize, x: u32, m: usize) -> usize
+    requires { ⌜ (n ≤ mostEntries) × (tablesEnd ≤ length (now work)) ⌝ }
+    ensures { λ r. ⌜ (r ≤ n) × (valuesFrom (now (work .entry)) n x r ≡ map (valueFact x) (pairsAbove (now (work .entry)) n x m)) ⌝ }
+{
+    let mut best = n;
+    for i in 0..n {
+        if is_better(work, n, x, m, best, i) {
+            best = i;
+        }
+    }
+    best
+}
+
+// ---- how many records
+
+fn count_values(work: &[u32], n: usize, x: u32) -> usize
+    requires { ⌜ (n ≤ mostEntries) × (tablesEnd ≤ length (now work)) ⌝ }
+    ensures { λ r. ⌜ r ≡ length (valueFacts (now (work .entry)) n x) ⌝ }
+{
+    let mut found = 0;
+    let mut m = next_pair(work, n, x, n);
+    while m < n {
+        found += 1;
+        m = next_pair(work, n, x, m);
+    }
+    found
+}
+
+fn count_edges(work: &[u32], n: usize, x: u32) -> usize
+    requires { ⌜ (x ≤ n) × (n ≤ mostEntries) × (tablesEnd ≤ length (now work)) ⌝ }
+    ensures { λ r. ⌜ r ≡ length (edgeFacts (now (work .entry)) n x) ⌝ }
+{
+    let mut found = 0;
+    let mut j = next_successor(work, n, x, place(x));
+    while j < n {
+        found += 1;
+        j = next_successor(work, n, x, j + 1);
+    }
+    found
+}
+
+// The records of row i, individual i + 1.
+fn count_row(work: &[u32], t: Tables, i: u32) -> usize
+    requires { ⌜ Standing (now work) t × (i < t .individuals) ⌝ }
+    ensures { λ r. ⌜ r ≡ length (factsAt (now (work .entry)) t i) ⌝ }
+{
+    let classes = ClassSet::load(work, ROWS + ROW * place(i) + 2).count();
+    let values = count_values(work, t.intervals, i + 1);
+    let edges = count_edges(work, place(t.individuals), i + 1);
+    place(classes) + values + edges
+}
+
+// How many records the model has.
+pub fn size(work: &[u32], t: Tables) -> usize
+    requires { ⌜ Standing (now work) t ⌝ }
+    ensures { λ r. ⌜ r ≡ recordCount (now (work .entry)) t ⌝ }
+    ensures { λ r. ⌜ ((N : ℕ) (K : Vocabulary) (u : Form) → N ≤ mostClasses → Bounded N K → NeatForm (Name N) K u → Combined K u (now (work .entry)) t → r ≡ length (canonicalModel N K u)) ⌝ }
+{
+    let n = t.individuals;
+    let mut records = 0;
+    for i in 0..n {
+        records += count_row(work, t, i);
+    }
+    records
+}
+
+// ---- their words
+
+// Record k links to the one behind it; the last record, and the header of no record, to none.
+fn link(k: usize, last: usize) -> u32
+    requires { ⌜ (k ≤ last) × (last < 2 ^ 32) ⌝ }
+    ensures { λ r. ⌜ r ≡ linkAt last k ⌝ }
+{
+    if k == last { 0 } else { k as u32 + 1 }
+}
+
+// Record k: kind, name, individual, other, next.
+fn put(out: &mut [u32], k: usize, last: usize, kind: u32, name: u32, x: u32, other: u32)
+    requires { ⌜ (k ≤ last) × Room last (now out) ⌝ }
+    ensures { λ _. ⌜ now (out .exit) ≡ putAt (now (out .entry)) (5 * k) (kind ∷ (name ∷ (x ∷ (other ∷ (linkAt last k ∷ []))))) ⌝ }
+{
+    let at = 5 * k;
+    out[at] = kind;
+    out[at + 1] = name;
+    out[at + 2] = x;
+    out[at + 3] = other;
+    out[at + 4] = link(k, last);
+}
+
+// The classes of row i, individual i + 1, rising.
+fn write_classes(work: &[u32], i: u32, out: &mut [u32], k: usize, last: usize) -> usize
+    requires { ⌜ (i < mostEntries) × (tablesEnd ≤ length (now work)) × Room last (now out) × (k + length (memberFacts (now work) i) ≤ last + 1) ⌝ }
+    ensures { λ r. ⌜ Written last k (memberFacts (now (work .entry)) i) (now (out .entry)) (now (out .exit)) r ⌝ }
+{
+    let classes = ClassSet::load(work, ROWS + ROW * place(i) + 2);
+    let mut at = k;
+    let mut c = classes.next(ClassNo(0));
+    while c.0 != 0 {
+        put(out, at, last, 1, c.0, i + 1, 0);
+        at += 1;
+        c = classes.next(c);
+    }
+    at
+}
+
+// The pairs of individual x, rising.
+fn write_values(work: &[u32], n: usize, x: u32, out: &mut [u32], k: usize, last: usize) -> usize
+    requires { ⌜ (n ≤ mostEntries) × (tablesEnd ≤ length (now work)) × Room last (now out) × (k + length (valueFacts (now work) n x) ≤ last + 1) ⌝ }
+    ensures { λ r. ⌜ Written last k (valueFacts (now (work .entry)) n x) (now (out .entry)) (now (out .exit)) r ⌝ }
+{
+    let mut at = k;
+    let mut m = next_pair(work, n, x, n);
+    while m < n {
+        let f = work[INTERVALS + INTERVAL * m + 1];
+        let v = work[INTERVALS + INTERVAL * m + 5];
+        put(out, at, last, 3, f, x, v);
+        at += 1;
+        m = next_pair(work, n, x, m);
+    }
+    at
+}
+
+// The edges of individual x, by target.
+fn write_edges(work: &[u32], n: usize, x: u32, out: &mut [u32], k: usize, last: usize) -> usize
+    requires { ⌜ (x ≤ n) × (n ≤ mostEntries) × (tablesEnd ≤ length (now work)) × Room last (now out) × (k + length (edgeFacts (now work) n x) ≤ last + 1) ⌝ }
+    ensures { λ r. ⌜ Written last k (edgeFacts (now (work .entry)) n x) (now (out .entry)) (now (out .exit)) r ⌝ }
+{
+    let mut at = k;
+    let mut j = next_successor(work, n, x, place(x));
+    while j < n {
+        let role = work[ROWS + ROW * j + 1];
+        put(out, at, last, 2, role, x, j as u32 + 1);
+        at += 1;
+        j = next_successor(work, n, x, j + 1);
+    }
+    at
+}
+
+// The records of row i, individual i + 1, from record k on.
+fn write_row(work: &[u32], t: Tables, i: u32, out: &mut [u32], k: usize, last: usize) -> usize
+    requires { ⌜ Standing (now work) t × (i < t .individuals) × Room last (now out) × (k + length (factsAt (now work) t i) ≤ last + 1) ⌝ }
+    ensures { λ r. ⌜ Written last k (factsAt (now (work .entry)) t i) (now (out .entry)) (now (out .exit)) r ⌝ }
+{
+    let a = write_classes(work, i, out, k, last);
+    let b = write_values(work, t.intervals, i + 1, out, a, last);
+    write_edges(work, place(t.individuals), i + 1, out, b, last)
+}
+
+// All records: "For each individual in turn: classes rising; (feature, value) pairs rising, no repeats; edges by target."
+fn write_rows(work: &[u32], t: Tables, last: usize, out: &mut [u32])
+    requires { ⌜ Standing (now work) t × Room last (now out) × (last ≡ recordCount (now work) t) ⌝ }
+    ensures { λ _. ⌜ now (out .exit) ≡ recorded last 1 (tableFacts (now (work .entry)) t) (now (out .entry)) ⌝ }
+{
+    let n = t.individuals;
+    let mut k = 1;
+    for i in 0..n {
+        k = write_row(work, t, i, out, k, last);
+    }
+}
+
+// Writes the model: the header, and as many records as `size` tells.
+pub fn write(work: &[u32], t: Tables, records: usize, out: &mut [u32])
+    requires { ⌜ Standing (now work) t × (records ≡ recordCount (now work) t) × (5 * (records + 1) ≤ length (now out)) ⌝ }
+    ensures { λ _. ⌜ length (now (out .exit)) ≡ length (now (out .entry)) ⌝ }
+    ensures { λ _. ⌜ ((N : ℕ) (K : Vocabulary) (u : Form) → N ≤ mostClasses → Bounded N K → NeatForm (Name N) K u → Combined K u (now (work .entry)) t → now (out .exit) ≡ outputAfter (countermodel N K u) (now (out .entry))) ⌝ }
+{
+    out[0] = link(0, records);
+    out[1] = t.individuals;
+    out[2] = 0;
+    out[3] = 0;
+    out[4] = 0;
+    write_rows(work, t, records, out);
+}

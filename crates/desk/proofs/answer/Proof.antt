@@ -1,0 +1,20 @@
+-- `answer`: what is decided, printed.
+use borrow.Author.Needs.{needs}
+use Rattle.text.proofs.Outcomes.{answer-printed}
+use Rattle.text.proofs.Printing.{put-within}
+use Rattle.desk.proofs.answer.Statement.{statement}
+use Rattle.desk.proofs.answer.Tie as tie
+
+pub answer-spec : {M : Type 1} → statement M
+answer-spec =
+    tie.close
+    (tie.spec
+    (λ c κs. search needs)
+    (λ c κs. search needs)
+    (λ c. search needs)
+    (λ c. search needs)
+    (λ c. search needs)
+    (λ c. search needs)
+    (λ c.
+    let put = c .before .before .put-verdict .ensures in
+    (put-within put, answer-printed _ (c .before .before .before .before .before .before .before .before .before .before .before .decide-input .ensures) put)))

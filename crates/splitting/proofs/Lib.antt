@@ -1,0 +1,10 @@
+-- The laws that the functions' proofs cite.
+pub mod Collecting
+pub mod Policies
+pub mod Scanning
+pub mod Pieces
+pub mod Storing
+pub mod Ways
+pub mod Turning
+pub mod Places
+pub mod Callers

@@ -1,0 +1,86 @@
+-- The number of combinations, one constraint after another.
+use Prim.Native.Nat.{_*_, _+_, _-_, _<_, _≤_, min, suc, zero, ℕ}
+use mathlib.Core.List.{List, [], _++_, _∷_, map}
+use mathlib.Core.Path.{_∙_, _≡_, ap, ap₂, refl, subst, sym}
+use native.Mathlib.Nat.{mul-le-mul-left, mul-le-mul-right, mul-one, suc-add, zero-add}
+use native.Mathlib.Numerals.{add-one}
+use native.Mathlib.Omega.{arith}
+use lib.ListN.{getD, length}
+use Rattle.meaning.proofs.Count.{pieces-some, product-append}
+use Rattle.meaning.specs.Containment.{mostCombinations}
+use Rattle.meaning.specs.Lists.{counting}
+use Rattle.meaning.specs.NormalForm.{Interval}
+use Rattle.meaning.specs.Policy.{Policy}
+use Rattle.meaning.specs.Splitting.{pieces, product}
+use Rattle.normal_form.specs.Steps.{intervalOf}
+use Rattle.normal_form.specs.Tables.{intervalPlace}
+use Rattle.splitting.specs.Odometer.{Full, constraintAt, constraintsAt, pieceCount}
+
+-- how many combinations the first i constraints have
+abbrev pub ways : Policy → List ℕ → ℕ → ℕ
+ways Q w zero = 1
+ways Q w (suc i) = ways Q w i * pieceCount Q w i
+
+pub ways-same : (Q : Policy) (w v : List ℕ) (i : ℕ) → ((j : ℕ) → constraintAt v j ≡ constraintAt w j) → ways Q v i ≡ ways Q w i
+ways-same Q w v zero h = refl
+ways-same Q w v (suc i) h = ap₂ (λ (x : ℕ) (s : Interval). x * length (pieces Q s)) (ways-same Q w v i h) (h i)
+
+-- one constraint more, behind the others
+pub counted-more : (w : List ℕ) (n : ℕ) → constraintsAt w (suc n) ≡ constraintsAt w n ++ (constraintAt w n ∷ [])
+counted-more w n = go 0 n ∙ ap (λ (x : ℕ). constraintsAt w n ++ (constraintAt w x ∷ [])) (zero-add n)
+  where
+    go : (o n : ℕ) → map (constraintAt w) (counting o (suc n)) ≡ map (constraintAt w) (counting o n) ++ (constraintAt w (o + n) ∷ [])
+    go o zero = ap (λ (x : ℕ). constraintAt w x ∷ []) (omega arith)
+    go o (suc n) =
+        ap (λ l. constraintAt w o ∷ l)
+        (go (suc o) n ∙ ap (λ (x : ℕ). map (constraintAt w) (counting (suc o) n) ++ (constraintAt w x ∷ [])) (omega arith))
+
+pub ways-product : (Q : Policy) (w : List ℕ) (i : ℕ) → ways Q w i ≡ product Q (constraintsAt w i)
+ways-product Q w zero = refl
+ways-product Q w (suc i) =
+    ap₂ (λ (x y : ℕ). x * y) (ways-product Q w i) (sym (mul-one _))
+    ∙ (sym (product-append Q (constraintsAt w i) (constraintAt w i ∷ [])) ∙ ap (product Q) (sym (counted-more w i)))
+
+-- ---- the loop's turns
+
+pub full-at : (w : List ℕ) (n i : ℕ) → Full w n → i < n → getD w (intervalPlace i + 2) 0 ≤ getD w (intervalPlace i + 3) 0
+unfolding constraintAt
+full-at w n i f h = f i h
+
+-- constraint i as it is read
+abbrev wordsAt : List ℕ → ℕ → Interval
+wordsAt w i = intervalOf (getD w (intervalPlace i + 1) 0) (getD w (intervalPlace i + 2) 0) (getD w (intervalPlace i + 3) 0)
+
+-- a product that was not too large, times the pieces of one constraint, fits
+pub product-fits : (a b : ℕ) → a ≤ mostCombinations → b ≤ 4294967296 → a * b ≤ 281474976710656
+product-fits a b p q = let x = mul-le-mul-right b p in omega arith
+
+module _ (Q : Policy) (w : List ℕ) where
+  module _ (i a c : ℕ) (p : a ≡ ways Q w i) where
+    ways-suc : c ≡ length (pieces Q (wordsAt w i)) → a * c ≡ ways Q w (suc i)
+    unfolding constraintAt
+    ways-suc q = ap₂ (λ (x y : ℕ). x * y) p q
+
+    pub ways-more : c ≡ length (pieces Q (wordsAt w i)) → a * c ≡ ways Q w (i + 1)
+    ways-more q = ways-suc q ∙ ap (ways Q w) (sym (add-one i))
+
+  ways-le : (i m : ℕ) → ways Q w i ≤ ways Q w (m + i)
+  ways-le i zero = rw (zero-add i) (omega arith)
+  ways-le i (suc m) = rw (suc-add m i) (grow (ways-le i m) (pieces-some Q (constraintAt w (m + i))))
+    where
+      grow : {x y c : ℕ} → x ≤ y → 1 ≤ c → x ≤ y * c
+      grow {x} {y} {c} p q = omega (arith, mul-le-mul-left y q, mul-one y)
+
+  pub ways-past : (n i a : ℕ) → i < n → a ≡ ways Q w (i + 1) → mostCombinations < a →
+      suc mostCombinations ≡ min (product Q (constraintsAt w n)) (suc mostCombinations)
+  ways-past n i a h p g =
+      let e : n - (i + 1) + (i + 1) ≡ n = omega arith in
+      let b : ways Q w (i + 1) ≤ ways Q w n = subst (λ (x : ℕ). ways Q w (i + 1) ≤ ways Q w x) e (ways-le (i + 1) (n - (i + 1))) in
+      omega (arith, ways-product Q w n, p)
+
+  pub ways-end : (n i a : ℕ) → i ≤ n → n ≤ i → a ≡ ways Q w i → a ≤ mostCombinations →
+      a ≡ min (product Q (constraintsAt w n)) (suc mostCombinations)
+  ways-end n i a h k p g =
+      let e : i ≡ n = omega arith in
+      let b : a ≡ product Q (constraintsAt w n) = p ∙ (ap (ways Q w) e ∙ ways-product Q w n) in
+      omega arith

@@ -1,0 +1,188 @@
+// Splitting: the ends of the second policy, the pieces of a constraint between them, and the odometer over the combinations.
+// A piece needs no more than its two ends: the one behind it starts at the next number, and one look over the ends tells where it
+// stops.
+use normal_form::INTERVAL;
+use normal_form::INTERVALS;
+use policy::child_of;
+use policy::first_term;
+use policy::hi_of;
+use policy::kind_of;
+use policy::lo_of;
+use policy::name_of;
+use policy::next_of;
+ghost use mathlib.Core.Path.{_≡_};
+ghost use Prim.Native.Nat.{_+_, _<_, _≤_, min, suc};
+ghost use lib.ListN.{length};
+ghost use Rattle.meaning.specs.Containment.{mostCombinations};
+ghost use Rattle.meaning.specs.Policy.{Policy, policyOf};
+ghost use Rattle.meaning.specs.Splitting.{pieces, product};
+ghost use Rattle.normal_form.specs.Parts.{chainAt};
+ghost use Rattle.normal_form.specs.Steps.{intervalOf};
+ghost use Rattle.normal_form.specs.Tables.{mostEntries, tablesEnd};
+ghost use Rattle.splitting.specs.Ends.{Chained, Collectable, Collected, Ends, Paired, endsIn, least, nearer, pairsPut, upper};
+ghost use Rattle.splitting.specs.Odometer.{Splittable, Started, Stepped, constraintsAt, piecePut};
+
+// The most combinations that a call tries.
+const MOST: usize = 65536;
+
+// Two pairs of a feature and an end.
+fn put_pairs(ends: &mut [u32], n: usize, f: u32, lo: u32, hi: u32)
+    requires { ⌜ n + 4 ≤ length (now ends) ⌝ }
+    ensures { λ _. ⌜ now (ends .exit) ≡ pairsPut (now (ends .entry)) n f lo hi ⌝ }
+{
+    ends[n] = f;
+    ends[n + 1] = lo;
+    ends[n + 2] = f;
+    ends[n + 3] = hi;
+}
+
+// The pairs of the chain from record k on, behind n words: a record, its child chain, its next.
+fn collect_from(q: &[u32], ends: &mut [u32], k: u32, n: usize) -> usize
+    requires { ⌜ Chained (now q) (now ends) k n ⌝ }
+    ensures { λ r. ⌜ Paired (chainAt (now (q .entry)) k) n (now (ends .entry)) (now (ends .exit)) r ⌝ }
+{
+    if k == 0 {
+        return n;
+    }
+    let kind = kind_of(q, k);
+    let next = next_of(q, k);
+    if kind == 3 {
+        let m = collect_from(q, ends, child_of(q, k), n);
+        return collect_from(q, ends, next, m);
+    }
+    if kind == 4 {
+        put_pairs(ends, n, name_of(q, k), lo_of(q, k), hi_of(q, k));
+        return collect_from(q, ends, next, n + 4);
+    }
+    collect_from(q, ends, next, n)
+}
+
+// The ends of every constraint that the policy reaches, as given: pairs of a feature and an end. The answer counts the words.
+pub fn collect(q: &[u32], ends: &mut [u32]) -> usize
+    requires { ⌜ Collectable (now q) (now ends) ⌝ }
+    ensures { λ r. ⌜ Collected (policyOf (now (q .entry))) (now (ends .entry)) (now (ends .exit)) r ⌝ }
+{
+    let mut n: usize = 0;
+    let mut k = first_term(q);
+    while k != 0 {
+        n = collect_from(q, ends, child_of(q, k), n);
+        k = next_of(q, k);
+    }
+    n
+}
+
+// y, where it is an end on f, above x and below best; else best.
+fn closer(g: u32, f: u32, y: u32, x: u32, best: u32) -> u32
+    ensures { λ r. ⌜ r ≡ nearer g f y x best ⌝ }
+{
+    if g != f {
+        return best;
+    }
+    if y <= x {
+        return best;
+    }
+    if y < best {
+        return y;
+    }
+    best
+}
+
+// The least end on f above x and below hi, else hi.
+fn next_end(ends: &[u32], f: u32, x: u32, hi: u32) -> u32
+    ensures { λ r. ⌜ r ≡ least (endsIn (now (ends .entry)) f) x hi ⌝ }
+{
+    let mut best = hi;
+    let mut i = 0;
+    while i + 1 < ends.len() {
+        best = closer(ends[i], f, ends[i + 1], x, best);
+        i += 2;
+    }
+    best
+}
+
+// The upper end of the piece behind the one that ends at p: the next end itself, or the gap in front of it.
+fn next_upper(ends: &[u32], f: u32, hi: u32, p: u32) -> u32
+    requires { ⌜ p < hi ⌝ }
+    ensures { λ r. ⌜ r ≡ upper (endsIn (now (ends .entry)) f) hi p ⌝ }
+{
+    let y = next_end(ends, f, p, hi);
+    if y == p + 1 {
+        return y;
+    }
+    y - 1
+}
+
+// How many pieces the constraint lo..hi on f has.
+fn count(ends: &[u32], f: u32, lo: u32, hi: u32) -> usize
+    requires { ⌜ lo ≤ hi ⌝ }
+    ensures { λ r. ⌜ (1 ≤ r) × (r ≤ 4294967296) ⌝ }
+    ensures { λ r. ⌜ ((Q : Policy) → Ends Q (now (ends .entry)) → r ≡ length (pieces Q (intervalOf f lo hi))) ⌝ }
+{
+    let mut c: usize = 1;
+    let mut x = lo;
+    while x < hi {
+        x = next_upper(ends, f, hi, x);
+        c += 1;
+    }
+    c
+}
+
+// How many combinations the first n constraints have, 65,537 where they are more than 65,536.
+pub fn combinations(ends: &[u32], work: &[u32], n: usize) -> usize
+    requires { ⌜ Splittable (now work) n ⌝ }
+    ensures { λ r. ⌜ ((Q : Policy) → Ends Q (now (ends .entry)) → r ≡ min (product Q (constraintsAt (now (work .entry)) n)) (suc mostCombinations)) ⌝ }
+{
+    let mut all: usize = 1;
+    for i in 0..n {
+        let at = INTERVALS + INTERVAL * i;
+        all = all * count(ends, work[at + 1], work[at + 2], work[at + 3]);
+        if MOST < all {
+            return MOST + 1;
+        }
+    }
+    all
+}
+
+// Constraint i's piece.
+fn put_piece(work: &mut [u32], i: usize, lo: u32, hi: u32)
+    requires { ⌜ (i < mostEntries) × (tablesEnd ≤ length (now work)) ⌝ }
+    ensures { λ _. ⌜ now (work .exit) ≡ piecePut (now (work .entry)) i lo hi ⌝ }
+{
+    let at = INTERVALS + INTERVAL * i;
+    work[at + 4] = lo;
+    work[at + 5] = hi;
+}
+
+// The first combination: each of the first n constraints at its first piece.
+pub fn start(work: &mut [u32], n: usize)
+    requires { ⌜ Splittable (now work) n ⌝ }
+    ensures { λ _. ⌜ Started n (now (work .entry)) (now (work .exit)) ⌝ }
+{
+    for i in 0..n {
+        let lo = work[INTERVALS + INTERVAL * i + 2];
+        put_piece(work, i, lo, lo);
+    }
+}
+
+// From combination q, counted from 1, to the next, whose number is told, or 0 after the last: the last constraint that has a next
+// piece takes it, and those behind it start again.
+pub fn step(ends: &[u32], work: &mut [u32], n: usize, q: u32) -> u32
+    requires { ⌜ Splittable (now work) n × (q < 4294967295) ⌝ }
+    ensures { λ r. ⌜ Stepped (now (ends .entry)) n q (now (work .entry)) (now (work .exit)) r ⌝ }
+{
+    let mut i = n;
+    while 0 < i {
+        i -= 1;
+        let at = INTERVALS + INTERVAL * i;
+        let hi = work[at + 3];
+        let p = work[at + 5];
+        if p < hi {
+            let up = next_upper(ends, work[at + 1], hi, p);
+            put_piece(work, i, p + 1, up);
+            return q + 1;
+        }
+        let lo = work[at + 2];
+        put_piece(work, i, lo, lo);
+    }
+    0
+}

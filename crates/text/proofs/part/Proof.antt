@@ -1,0 +1,17 @@
+-- `part`: from behind the word count to the next part.
+use borrow.Author.Needs.{needs}
+use Rattle.text.proofs.Words.{part-taken}
+use Rattle.text.proofs.part.Statement.{statement}
+use Rattle.text.proofs.part.Tie as tie
+
+pub part-spec : {M : Type 1} → statement M
+part-spec =
+    tie.close
+    (tie.spec
+    (λ c. search needs)
+    (λ c κs. search needs)
+    (λ c. search needs)
+    (λ c. search needs)
+    (λ c. search needs)
+    (λ c. search needs)
+    (λ c. part-taken _ _ _ (c .before .next-part .ensures .0)))

@@ -1,0 +1,3 @@
+-- The program's input as words, and its output as text.
+pub mod Input
+pub mod Text

@@ -1,0 +1,226 @@
+// The program's work on bytes: the words and the parts of its input, and the lines that it prints.
+use meaning::Verdict;
+use records::word;
+ghost use mathlib.Core.List.{[], _∷_};
+ghost use mathlib.Core.Path.{_≡_};
+ghost use Prim.Native.Nat.{_*_, _+_, _/_, _≤_, _<_};
+ghost use lib.Dec.{leb};
+ghost use lib.ListN.{length, take};
+ghost use Rattle.meaning.specs.Lists.{flatMap};
+ghost use Rattle.meaning.specs.ModelCheck.{factAt};
+ghost use Rattle.meaning.specs.Program.{compliant-text, decimal, factLine, line, nextPart, partAt, printed, refused-text, wordAt, wordsOf};
+ghost use Rattle.text.specs.Input.{exact, mostBytes};
+ghost use Rattle.text.specs.Text.{Put, Reported, mostLine, recordsTo, shown, textSize};
+
+// An input that is longer is refused unread.
+pub const INPUT: usize = 65536;
+
+// The bytes of a text that every answer fits in.
+pub const TEXT: usize = 41 * 3277;
+
+fn wide(x: u8) -> u32
+    ensures { λ r. ⌜ (r ≡ x) × (r < 256) ⌝ }
+{
+    x as u32
+}
+
+fn place(x: u32) -> usize
+    ensures { λ r. ⌜ r ≡ x ⌝ }
+{
+    x as usize
+}
+
+// Word i, its lowest byte first.
+fn word_at(input: &[u8], i: usize) -> u32
+    requires { ⌜ 4 * i + 3 < length (now input) ⌝ }
+    ensures { λ r. ⌜ r ≡ wordAt (now (input .entry)) i ⌝ }
+{
+    let a = wide(input[4 * i]);
+    let b = wide(input[4 * i + 1]);
+    let c = wide(input[4 * i + 2]);
+    let d = wide(input[4 * i + 3]);
+    a + 256 * b + 65536 * c + 16777216 * d
+}
+
+// The words of the input; bytes behind the last whole word are left.
+pub fn decode(input: &[u8], words: &mut [u32])
+    requires { ⌜ length (now input) / 4 ≤ length (now words) ⌝ }
+    ensures { λ _. ⌜ take (length (now (input .entry)) / 4) (now (words .exit)) ≡ wordsOf (now (input .entry)) ⌝ }
+{
+    for i in 0..input.len() / 4 {
+        words[i] = word_at(input, i);
+    }
+}
+
+pub fn is_short(bytes: usize) -> bool
+    ensures { λ r. ⌜ r ≡ leb bytes mostBytes ⌝ }
+{
+    bytes <= INPUT
+}
+
+// Where the part behind the one at word i begins: past the end of the words, perhaps.
+pub fn next_part(words: &[u32], i: usize) -> usize
+    requires { ⌜ i ≤ 8589934592 ⌝ }
+    ensures { λ r. ⌜ r ≡ nextPart (now (words .entry)) i ⌝ }
+    ensures { λ r. ⌜ r ≤ i + 4294967296 ⌝ }
+{
+    i + 1 + place(word(words, i))
+}
+
+// Whether an input of so many bytes is exactly as long as its three parts.
+pub fn is_exact(bytes: usize, words: &[u32]) -> bool
+    ensures { λ r. ⌜ r ≡ exact bytes (now (words .entry)) ⌝ }
+{
+    let p = next_part(words, 0);
+    let q = next_part(words, p);
+    bytes == 4 * next_part(words, q)
+}
+
+// The part at word i: a word count and its words.
+pub fn part(words: &[u32], i: usize) -> &[u32]
+    requires { ⌜ (nextPart (now words) i ≤ length (now words)) × (i ≤ 8589934592) ⌝ }
+    ensures { λ r. ⌜ now r ≡ partAt (now (words .entry)) i ⌝ }
+{
+    let from = i + 1;
+    let to = next_part(words, i);
+    &words[from..to]
+}
+
+// One byte, and the place behind it.
+fn put_byte(text: &mut [u8], at: usize, x: u8) -> usize
+    requires { ⌜ at < length (now text) ⌝ }
+    ensures { λ r. ⌜ Put (now (text .entry)) at (x ∷ []) (now (text .exit)) r ⌝ }
+{
+    text[at] = x;
+    at + 1
+}
+
+fn put_name(text: &mut [u8], at: usize, name: &[u8]) -> usize
+    requires { ⌜ at + length (now name) ≤ length (now text) ⌝ }
+    ensures { λ r. ⌜ Put (now (text .entry)) at (now (name .entry)) (now (text .exit)) r ⌝ }
+{
+    for i in 0..name.len() {
+        text[at + i] = name[i];
+    }
+    at + name.len()
+}
+
+fn digit(d: u32) -> u8
+    requires { ⌜ d < 10 ⌝ }
+    ensures { λ r. ⌜ r ≡ 48 + d ⌝ }
+{
+    (48 + d) as u8
+}
+
+// A number in base ten: the tens and above, then the last digit. At most ten calls deep.
+fn put_decimal(text: &mut [u8], at: usize, n: u32) -> usize
+    requires { ⌜ at + length (decimal n) ≤ length (now text) ⌝ }
+    ensures { λ r. ⌜ Put (now (text .entry)) at (decimal n) (now (text .exit)) r ⌝ }
+{
+    if n < 10 {
+        return put_byte(text, at, digit(n));
+    }
+    let next = put_decimal(text, at, n / 10);
+    put_byte(text, next, digit(n % 10))
+}
+
+// A space and a number.
+fn put_number(text: &mut [u8], at: usize, n: u32) -> usize
+    requires { ⌜ at + 11 ≤ length (now text) ⌝ }
+    ensures { λ r. ⌜ Put (now (text .entry)) at (32 ∷ decimal n) (now (text .exit)) r ⌝ }
+    ensures { λ r. ⌜ r ≤ at + 11 ⌝ }
+{
+    let next = put_byte(text, at, b' ');
+    put_decimal(text, next, n)
+}
+
+fn put_pair(text: &mut [u8], at: usize, name: &[u8], a: u32, b: u32) -> usize
+    requires { ⌜ (at + mostLine ≤ length (now text)) × (length (now name) ≤ 7) ⌝ }
+    ensures { λ r. ⌜ Put (now (text .entry)) at (line (now (name .entry)) (a ∷ (b ∷ []))) (now (text .exit)) r ⌝ }
+    ensures { λ r. ⌜ r ≤ at + mostLine ⌝ }
+{
+    let first = put_name(text, at, name);
+    let second = put_number(text, first, a);
+    let third = put_number(text, second, b);
+    put_byte(text, third, b'\n')
+}
+
+fn put_triple(text: &mut [u8], at: usize, name: &[u8], a: u32, b: u32, c: u32) -> usize
+    requires { ⌜ (at + mostLine ≤ length (now text)) × (length (now name) ≤ 7) ⌝ }
+    ensures { λ r. ⌜ Put (now (text .entry)) at (line (now (name .entry)) (a ∷ (b ∷ (c ∷ [])))) (now (text .exit)) r ⌝ }
+    ensures { λ r. ⌜ r ≤ at + mostLine ⌝ }
+{
+    let first = put_name(text, at, name);
+    let second = put_number(text, first, a);
+    let third = put_number(text, second, b);
+    let fourth = put_number(text, third, c);
+    put_byte(text, fourth, b'\n')
+}
+
+// Record k of a model's words.
+fn put_fact(text: &mut [u8], at: usize, out: &[u32], k: usize) -> usize
+    requires { ⌜ (at + mostLine ≤ length (now text)) × (k ≤ 4294967296) ⌝ }
+    ensures { λ r. ⌜ Put (now (text .entry)) at (factLine (factAt (now (out .entry)) k)) (now (text .exit)) r ⌝ }
+    ensures { λ r. ⌜ r ≤ at + mostLine ⌝ }
+{
+    let kind = word(out, 5 * k);
+    let name = word(out, 5 * k + 1);
+    let owner = word(out, 5 * k + 2);
+    let other = word(out, 5 * k + 3);
+    if kind == 1 {
+        return put_pair(text, at, b"member", name, owner);
+    }
+    if kind == 2 {
+        return put_triple(text, at, b"edge", name, owner, other);
+    }
+    put_triple(text, at, b"value", name, owner, other)
+}
+
+// Records 1 to n.
+fn put_facts(text: &mut [u8], at: usize, out: &[u32], n: usize) -> usize
+    requires { ⌜ (at + mostLine * n ≤ length (now text)) × (n < 4294967296) ⌝ }
+    ensures { λ r. ⌜ Put (now (text .entry)) at (flatMap factLine (recordsTo (now (out .entry)) n)) (now (text .exit)) r ⌝ }
+{
+    let mut next = at;
+    for k in 0..n {
+        next = put_fact(text, next, out, k + 1);
+    }
+    next
+}
+
+fn put_compliant(text: &mut [u8]) -> usize
+    requires { ⌜ mostLine ≤ length (now text) ⌝ }
+    ensures { λ r. ⌜ Put (now (text .entry)) 0 (line compliant-text []) (now (text .exit)) r ⌝ }
+{
+    let next = put_name(text, 0, b"compliant");
+    put_byte(text, next, b'\n')
+}
+
+fn put_refused(text: &mut [u8], n: u32) -> usize
+    requires { ⌜ mostLine ≤ length (now text) ⌝ }
+    ensures { λ r. ⌜ Put (now (text .entry)) 0 (line refused-text (n ∷ [])) (now (text .exit)) r ⌝ }
+{
+    let first = put_name(text, 0, b"refused");
+    let second = put_number(text, first, n);
+    put_byte(text, second, b'\n')
+}
+
+fn put_outside(text: &mut [u8], out: &[u32], s: u32, q: u32, n: usize) -> usize
+    requires { ⌜ (textSize ≤ length (now text)) × Reported (Verdict.Outside s q n) (now out) ⌝ }
+    ensures { λ r. ⌜ Put (now (text .entry)) 0 (printed (shown (Verdict.Outside s q n) (now (out .entry)))) (now (text .exit)) r ⌝ }
+{
+    let next = put_pair(text, 0, b"outside", s, q);
+    put_facts(text, next, out, n / 5 - 1)
+}
+
+// The answer's line and, where it reports a countermodel, a line for each of its records.
+pub fn put_verdict(text: &mut [u8], out: &[u32], verdict: Verdict) -> usize
+    requires { ⌜ (textSize ≤ length (now text)) × Reported verdict (now out) ⌝ }
+    ensures { λ r. ⌜ Put (now (text .entry)) 0 (printed (shown verdict (now (out .entry)))) (now (text .exit)) r ⌝ }
+{
+    match verdict {
+        Verdict::Compliant => put_compliant(text),
+        Verdict::Outside(s, q, n) => put_outside(text, out, s, q, n),
+        Verdict::Refused(n) => put_refused(text, n),
+    }
+}
