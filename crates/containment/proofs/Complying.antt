@@ -7,7 +7,7 @@ use lib.Dec.{leb}
 use lib.ListN.{drop, length, take}
 use lib.Seq.{take-at}
 use native.Mathlib.Omega.{arith}
-use borrow.Author.Tests.{le-ltb, lt-ltb}
+use Rattle.containment.proofs.Deciding.{outputs-none}
 use Rattle.containment.specs.Verdicts.{Delivers, Right}
 use Rattle.meaning.proofs.Compliance.{compliance-told, no-escape}
 use Rattle.meaning.proofs.Interpretations.{tested-finite}
@@ -23,40 +23,12 @@ use Rattle.meaning.specs.Records.{orElse}
 use Rattle.meaning.specs.Vocabulary.{Vocabulary, classCount, vocabularyOf, vocabularyRefusal}
 use Rattle.meaning.specs.declared.Verdict.the-variants as verdict
 use Rattle.meaning.specs.declared.Verdict.{Verdict}
-use Rattle.workspace.proofs.Laws.{beyond-then, zeroed-beyond}
+use Rattle.workspace.proofs.Laws.{beyond-then, none-before, none-full, work-few, zeroed-beyond}
 use Rattle.workspace.specs.Work.{Beyond}
 
 -- ---- the refusals in their order
 
-outputs-none : (o : List ℕ) → o ≡ outputAfter [] o
-unfolding outputAfter
-outputs-none o = refl
-
-module _ (v p q : List ℕ) (w : ℕ) (o : List ℕ) {r : ℕ} (e : r ≡ inputRefusal v p q) where
-  pub complies-early : (r ≡ 0 → ⊥) → Delivers (compliance v p q w (length o)) o o (verdict.Refused r)
-  unfolding compliance
-  complies-early n = go (inputRefusal v p q) e
-    where
-      go : (x : ℕ) → r ≡ x → Delivers (unless refuses (orElse x (workRefusal w)) (complianceOf (classCount v) (vocabularyOf v) (policyOf p) (policyOf q) (length o))) o o (verdict.Refused r)
-      go zero h = absurd (n h)
-      go (suc x) h = record { answer = ap refused h; output = outputs-none o }
-
-  module _ (z : r ≡ 0) where
-    pub complies-accepted : AcceptedInput v p q
-    complies-accepted = accepted-input v p q (sym e ∙ z)
-
-    pub complies-21 : w < workSize → Delivers (compliance v p q w (length o)) o o (verdict.Refused 21)
-    unfolding compliance
-    complies-21 h = rw (sym e ∙ z, lt-ltb w workSize h) (record { answer = refl; output = outputs-none o })
-
-    pub complies : {o′ : List ℕ} {d : Verdict} → workSize ≤ w → Delivers (complianceOf (classCount v) (vocabularyOf v) (policyOf p) (policyOf q) (length o)) o o′ d →
-        Delivers (compliance v p q w (length o)) o o′ d
-    unfolding compliance
-    complies h d = rw (sym e ∙ z, le-ltb w workSize h) d
-
--- ---- the work slice afterwards
-
-pub input-few : (v p q : List ℕ) → inputRefusal v p q ≤ 18
+input-few : (v p q : List ℕ) → inputRefusal v p q ≤ 18
 unfolding inputRefusal
 input-few v p q =
     or-few 18 (vocabularyRefusal v) (orElse (policyRefusal v p) (second (policyRefusal v q))) (let a = vocabulary-few v in omega arith)
@@ -65,6 +37,35 @@ input-few v p q =
     go : (n : ℕ) → n ≤ 8 → second n ≤ 18
     go zero h = omega arith
     go (suc n) h = omega arith
+
+module _ (v p q : List ℕ) (w : ℕ) (o : List ℕ) {m r : ℕ} (e : m ≡ inputRefusal v p q) (f : r ≡ orElse m (workRefusal w)) where
+  in-order : r ≡ orElse (inputRefusal v p q) (workRefusal w)
+  in-order = f ∙ ap (λ (n : ℕ). orElse n (workRefusal w)) e
+
+  pub complies-refused : (r ≡ 0 → ⊥) → Delivers (compliance v p q w (length o)) o o (verdict.Refused r)
+  unfolding compliance
+  complies-refused n = rw (sym in-order) (go r n (complianceOf (classCount v) (vocabularyOf v) (policyOf p) (policyOf q) (length o)))
+    where
+      go : (r : ℕ) → (r ≡ 0 → ⊥) → (x : Outcome) → Delivers (unless refuses r x) o o (verdict.Refused r)
+      go zero n x = absurd (n refl)
+      go (suc r) n x = record { answer = refl; output = outputs-none o }
+
+  pub complies-few : r ≤ 21
+  complies-few = rw in-order (or-few 21 (inputRefusal v p q) (workRefusal w) (let a = input-few v p q in omega arith) (work-few w))
+
+  module _ (z : r ≡ 0) where
+    pub complies-accepted : AcceptedInput v p q
+    complies-accepted = accepted-input v p q (none-before (inputRefusal v p q) w (sym in-order ∙ z))
+
+    pub complies-full : workSize ≤ w
+    complies-full = none-full (inputRefusal v p q) w (sym in-order ∙ z)
+
+    pub complies : {o′ : List ℕ} {d : Verdict} → Delivers (complianceOf (classCount v) (vocabularyOf v) (policyOf p) (policyOf q) (length o)) o o′ d →
+        Delivers (compliance v p q w (length o)) o o′ d
+    unfolding compliance
+    complies d = rw (sym in-order ∙ z) d
+
+-- ---- the work slice afterwards
 
 module _ (N : ℕ) (K : Vocabulary) (P Q : Policy) (o : ℕ) where
   settled-late : comesLate (complianceOf N K P Q o .answer) ≡ true

@@ -211,7 +211,7 @@ pub countermodel-length : (N : ℕ) (K : Vocabulary) (u : Form) → length (coun
 unfolding countermodel
 countermodel-length N K u = model-length (individuals u) (canonicalModel N K u)
 
-outputs-none : (o : List ℕ) → o ≡ outputAfter [] o
+pub outputs-none : (o : List ℕ) → o ≡ outputAfter [] o
 unfolding outputAfter
 outputs-none o = refl
 

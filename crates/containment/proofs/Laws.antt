@@ -4,15 +4,15 @@ use mathlib.Core.Bool.{Bool, cond, false, not, true}
 use mathlib.Core.List.{List, [], _∷_}
 use mathlib.Core.Path.{_∙_, _≡_, ap, refl, sym}
 use native.Mathlib.Omega.{arith}
-use borrow.Author.Tests.{le-ltb, lt-ltb, ne-eqb}
-use Rattle.meaning.proofs.Refusals.{or-zero}
+use borrow.Author.Tests.{ne-eqb}
+use Rattle.meaning.proofs.Refusals.{or-assoc, or-few, or-zero, policy-few, unless-some, vocabulary-few}
 use Rattle.meaning.specs.Answers.{Answer, firstPossible, refused}
 use Rattle.meaning.specs.NormalForm.{possible}
 use Rattle.meaning.specs.Operations.{comesLate, possibility, possibleFrom, unless, workAfter, workRefusal, workSize, zeroed}
 use Rattle.meaning.specs.Policy.{Chain, Policy, policyOf, policyRefusal}
 use Rattle.meaning.specs.Records.{orElse}
 use Rattle.meaning.specs.Vocabulary.{Vocabulary, vocabularyOf, vocabularyRefusal}
-use Rattle.workspace.proofs.Laws.{beyond-then, zeroed-beyond}
+use Rattle.workspace.proofs.Laws.{beyond-then, none-before, none-full, work-few, zeroed-beyond}
 use Rattle.workspace.specs.Work.{Beyond}
 
 -- ---- the first that is possible
@@ -34,19 +34,21 @@ module _ (K : Vocabulary) (s : ℕ) (c : Chain) {b : Bool} (e : b ≡ not (possi
 
 -- ---- the operation
 
-module _ (v p : List ℕ) (w : ℕ) {r : ℕ} (e : r ≡ orElse (vocabularyRefusal v) (policyRefusal v p)) where
-  pub refuses-early : (r ≡ 0 → ⊥) → refused r ≡ possibility v p w
+module _ (v p : List ℕ) (w : ℕ) {m r : ℕ} (e : m ≡ orElse (vocabularyRefusal v) (policyRefusal v p)) (f : r ≡ orElse m (workRefusal w)) where
+  in-order : possibility v p w ≡ unless refused r (possibleFrom (vocabularyOf v) 1 (policyOf p))
   unfolding possibility
-  refuses-early n = go (vocabularyRefusal v) (policyRefusal v p) r e n
-    where
-      go : (a b r : ℕ) → r ≡ orElse a b → (r ≡ 0 → ⊥) → refused r ≡ unless refused (orElse a (orElse b (workRefusal w))) (possibleFrom (vocabularyOf v) 1 (policyOf p))
-      go ℕ.zero ℕ.zero r e n = absurd (n e)
-      go ℕ.zero (suc b) r e n = ap refused e
-      go (suc a) b r e n = ap refused e
+  in-order = ap (λ (n : ℕ). unless refused n (possibleFrom (vocabularyOf v) 1 (policyOf p)))
+      (or-assoc (vocabularyRefusal v) (policyRefusal v p) (workRefusal w) ∙ sym (f ∙ ap (λ (n : ℕ). orElse n (workRefusal w)) e))
+
+  pub refuses : (r ≡ 0 → ⊥) → refused r ≡ possibility v p w
+  refuses n = unless-some refused r _ n ∙ sym in-order
+
+  pub refuses-few : r ≤ 21
+  refuses-few = rw f (or-few 21 m (workRefusal w) (rw e (or-few 21 (vocabularyRefusal v) (policyRefusal v p) (let a = vocabulary-few v in omega arith) (let a = policy-few v p in omega arith))) (work-few w))
 
   module _ (z : r ≡ 0) where
     both-accepted : (vocabularyRefusal v ≡ 0) × (policyRefusal v p ≡ 0)
-    both-accepted = or-zero (vocabularyRefusal v) (policyRefusal v p) (sym e ∙ z)
+    both-accepted = or-zero (vocabularyRefusal v) (policyRefusal v p) (sym e ∙ none-before m w (sym f ∙ z))
 
     pub vocabulary-accepted : vocabularyRefusal v ≡ 0
     vocabulary-accepted = both-accepted .0
@@ -54,13 +56,11 @@ module _ (v p : List ℕ) (w : ℕ) {r : ℕ} (e : r ≡ orElse (vocabularyRefus
     pub policy-accepted : policyRefusal v p ≡ 0
     policy-accepted = both-accepted .1
 
-    pub refuses-21 : w < workSize → refused 21 ≡ possibility v p w
-    unfolding possibility
-    refuses-21 h = rw (vocabulary-accepted, policy-accepted, lt-ltb w workSize h)
+    pub work-full : workSize ≤ w
+    work-full = none-full m w (sym f ∙ z)
 
-    pub answers : {a : Answer} → workSize ≤ w → a ≡ possibleFrom (vocabularyOf v) 1 (policyOf p) → a ≡ possibility v p w
-    unfolding possibility
-    answers h q = rw (vocabulary-accepted, policy-accepted, le-ltb w workSize h) q
+    pub answers : {a : Answer} → a ≡ possibleFrom (vocabularyOf v) 1 (policyOf p) → a ≡ possibility v p w
+    answers q = q ∙ sym (in-order ∙ ap (λ (n : ℕ). unless refused n (possibleFrom (vocabularyOf v) 1 (policyOf p))) z)
 
 -- ---- the work slice afterwards
 

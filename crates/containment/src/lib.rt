@@ -8,10 +8,10 @@ use policy::next_of;
 use splitting::collect;
 use splitting::combinations;
 use trial::first_failure;
-use workspace::WORK;
 use workspace::clear;
 use workspace::prepare;
 use workspace::tabulate;
+use workspace::work_refusal;
 ghost use mathlib.Core.Bool.{false};
 ghost use mathlib.Core.Path.{_≡_};
 ghost use Prim.Native.Nat.{_≤_};
@@ -70,7 +70,8 @@ fn has_too_many(v: &[u32], p: &[u32], work: &mut [u32], f: Functional, ends: &[u
     ensures { λ r. ⌜ ((Q : Policy) → Ends Q (now (ends .entry)) → r ≡ tooMany (vocabularyOf (now (v .entry))) (policyOf (now (p .entry))) Q) ⌝ }
     ensures { λ _. ⌜ Prepared (now (v .entry)) (now (work .exit)) f × Beyond (now (work .entry)) (now (work .exit)) ⌝ }
 {
-    let mut k = first_term(p);
+    let first = first_term(p);
+    let mut k = first;
     while k != 0 {
         if is_too_many(v, p, work, f, ends, k) {
             return true;
@@ -154,7 +155,8 @@ fn settle(
     let mut space = [0; ENDS];
     let n = collect(q, &mut space);
     let ends = &space[..n];
-    if has_too_many(v, p, work, f, ends) {
+    let many = has_too_many(v, p, work, f, ends);
+    if many {
         return Verdict::Refused(22);
     }
     decide(v, p, q, work, f, ends, out)
@@ -166,12 +168,9 @@ pub fn possible(v: &[u32], p: &[u32], work: &mut [u32]) -> Possibility
     ensures { λ r. ⌜ possibilityAnswer r ≡ possibility (now (v .entry)) (now (p .entry)) (length (now (work .entry))) ⌝ }
     ensures { λ r. ⌜ now (work .exit) ≡ workAfter (possibilityAnswer r) (now (work .entry)) ⌝ }
 {
-    let refusal = policy::first_refusal(v, p);
+    let refusal = work_refusal(policy::first_refusal(v, p), work);
     if refusal != 0 {
         return Possibility::Refused(refusal);
-    }
-    if work.len() < WORK {
-        return Possibility::Refused(21);
     }
     let f = prepare(v, work);
     let answer = first_possible(v, p, work, f);
@@ -187,12 +186,9 @@ pub fn compliance(v: &[u32], p: &[u32], q: &[u32], work: &mut [u32], out: &mut [
     ensures { λ r. ⌜ now (work .exit) ≡ workAfter (verdictAnswer r) (now (work .entry)) ⌝ }
     ensures { λ r. ⌜ Right (now (v .entry)) (now (p .entry)) (now (q .entry)) (now (out .exit)) r ⌝ }
 {
-    let refusal = policy::input_refusal(v, p, q);
+    let refusal = work_refusal(policy::input_refusal(v, p, q), work);
     if refusal != 0 {
         return Verdict::Refused(refusal);
-    }
-    if work.len() < WORK {
-        return Verdict::Refused(21);
     }
     let f = prepare(v, work);
     let verdict = settle(v, p, q, work, f, out);

@@ -2,18 +2,24 @@
 use Prim.Native.Nat.{_*_, _+_, _-_, _<_, _≤_, ℕ}
 use mathlib.Core.Bool.{Bool, false, not, true}
 use mathlib.Core.List.{List, _++_}
+use mathlib.Core.Logic.{_⊎_, inl, inr}
 use mathlib.Core.Path.{_∙_, _≡_, ap, refl, subst, sym}
+use lib.Dec.{ltb}
 use lib.ListN.{drop, getD, length, length-drop, replicate, set}
 use lib.Seq.{ext-getD, getD-drop}
 use native.Mathlib.Omega.{arith}
 use borrow.Author.Fill.{fill-more}
+use borrow.Author.Tests.{le-ltb, lt-ltb}
 use Rattle.hierarchy.specs.Rows.{Closed, Ranged, roleRow, rowOf, rowPlace}
 use Rattle.hierarchy.specs.declared.Functional.{Functional}
+use Rattle.meaning.proofs.Refusals.{cond-all, or-first, or-zero}
+use Rattle.meaning.proofs.Rules.{order}
 use Rattle.meaning.proofs.Terms.{ChainOf}
 use Rattle.meaning.proofs.Wellformed.{accepted-counts}
 use Rattle.meaning.specs.NormalForm.{normalForm, possible}
-use Rattle.meaning.specs.Operations.{workSize, zeroed}
+use Rattle.meaning.specs.Operations.{workRefusal, workSize, zeroed}
 use Rattle.meaning.specs.Policy.{Chain}
+use Rattle.meaning.specs.Records.{orElse}
 use Rattle.meaning.specs.Vocabulary.{classCount, mostClasses, roleCount, vocabularyOf, vocabularyRefusal}
 use Rattle.normal_form.proofs.Laws.{row-kept}
 use Rattle.normal_form.specs.Clean.{cleanForm}
@@ -22,6 +28,32 @@ use Rattle.normal_form.specs.declared.Tables.{Tables}
 use Rattle.words.specs.Rows.{classWords}
 use Rattle.words.specs.Sets.{inSet}
 use Rattle.workspace.specs.Work.{Beyond, Tabulated}
+
+-- ---- 21
+
+module _ (n w : ℕ) where
+  pub refused-before : (n ≡ 0 → ⊥) → n ≡ orElse n (workRefusal w)
+  refused-before h = or-first n (workRefusal w) h
+
+  pub refused-21 : n ≡ 0 → w < workSize → 21 ≡ orElse n (workRefusal w)
+  refused-21 e h = rw (e, lt-ltb w workSize h)
+
+  pub refused-none : n ≡ 0 → workSize ≤ w → 0 ≡ orElse n (workRefusal w)
+  refused-none e h = rw (e, le-ltb w workSize h)
+
+  -- where nothing is refused, the slice is full
+  pub none-before : orElse n (workRefusal w) ≡ 0 → n ≡ 0
+  none-before e = or-zero n (workRefusal w) e .0
+
+  pub none-full : orElse n (workRefusal w) ≡ 0 → workSize ≤ w
+  none-full e = go (order w workSize) (or-zero n (workRefusal w) e .1)
+    where
+      go : (w < workSize) ⊎ (workSize ≤ w) → workRefusal w ≡ 0 → workSize ≤ w
+      go (inl h) z = absurd (let y = lt-ltb w workSize h in let x : _≡_ {A = ℕ} 21 0 = rw y at z in omega arith)
+      go (inr h) z = h
+
+pub work-few : (w : ℕ) → workRefusal w ≤ 21
+work-few w = cond-all (λ n. n ≤ 21) (ltb w workSize) (omega arith) (omega arith)
 
 -- ---- words that are 0
 

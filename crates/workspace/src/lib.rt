@@ -7,13 +7,27 @@ ghost use mathlib.Core.Path.{_≡_};
 ghost use Prim.Native.Nat.{_≤_};
 ghost use lib.ListN.{length};
 ghost use Rattle.meaning.proofs.Terms.{ChainOf};
-ghost use Rattle.meaning.specs.Operations.{workSize, zeroed};
+ghost use Rattle.meaning.specs.Operations.{workRefusal, workSize, zeroed};
+ghost use Rattle.meaning.specs.Records.{orElse};
 ghost use Rattle.meaning.specs.Vocabulary.{vocabularyRefusal};
 ghost use Rattle.normal_form.specs.Tables.{Fit, Prepared, termAt};
 ghost use Rattle.workspace.specs.Work.{Beyond, Tabulated};
 
 // A work slice is full from so many words on.
 pub const WORK: usize = 16384;
+
+// The refusal before, else 21 where the work slice is not full; 0 for none.
+pub fn work_refusal(before: u32, work: &[u32]) -> u32
+    ensures { λ r. ⌜ r ≡ orElse before (workRefusal (length (now (work .entry)))) ⌝ }
+{
+    if before != 0 {
+        return before;
+    }
+    if work.len() < WORK {
+        return 21;
+    }
+    0
+}
 
 // An operation leaves the words that it worked in 0.
 pub fn clear(work: &mut [u32])

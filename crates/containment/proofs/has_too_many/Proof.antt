@@ -15,10 +15,10 @@ use Rattle.workspace.proofs.Walk.{Asking, asking-ends, asking-falls, asking-fit
 use Rattle.workspace.specs.Work.{Beyond}
 
 abbrev Inv-loop : tie.InvT-loop
-Inv-loop v p work₀ f ends k₀ work k = ((s : ℕ) × Asking (Uncounted v p ends) v p s k) × Prepared v work f × Beyond work₀ work
+Inv-loop v p work₀ f ends first k₀ work k = ((s : ℕ) × Asking (Uncounted v p ends) v p s k) × Prepared v work f × Beyond work₀ work
 
 abbrev μ-loop : tie.MeasureT-loop
-μ-loop v p work₀ f ends k₀ work k = falling (lastOf 6 p) k
+μ-loop v p work₀ f ends first k₀ work k = falling (lastOf 6 p) k
 
 is-too-many-requires : tie.Need-is-too-many-requires Inv-loop μ-loop
 is-too-many-requires c κs =

@@ -1,51 +1,51 @@
-use native.Mathlib.Omega.{arith}
 use lib.ListN.{length}
+use native.Mathlib.Omega.{arith}
 use borrow.Author.Needs.{needs}
-use Rattle.containment.proofs.Laws.{answers, early-work, late-work, policy-accepted, refuses-21, refuses-early, vocabulary-accepted}
+use Rattle.containment.proofs.Laws.{answers, early-work, late-work, policy-accepted, refuses, refuses-few, vocabulary-accepted, work-full}
 use Rattle.containment.proofs.possible.Statement.{statement}
 use Rattle.containment.proofs.possible.Tie as tie
-use Rattle.meaning.proofs.Refusals.{or-few, policy-few, vocabulary-few}
-use Rattle.meaning.specs.Policy.{policyOf, policyRefusal}
-use Rattle.meaning.specs.Vocabulary.{vocabularyOf, vocabularyRefusal}
+use Rattle.meaning.specs.Policy.{policyOf}
+use Rattle.meaning.specs.Vocabulary.{vocabularyOf}
 
 returns : tie.Need-returns
 returns c =
-    let v = c .before .before .before .before .before .args .v .now in
-    let p = c .before .before .before .before .before .args .p .now in
-    let few = or-few 8 (vocabularyRefusal v) (policyRefusal v p) (let a = vocabulary-few v in omega arith) (policy-few v p) in
-    let e = c .before .first-refusal .ensures in
-    (refuses-early v p (length (c .before .before .before .before .before .args .work .now)) e (c .if1 .taken), early-work _ _ (omega arith))
-
-returns-2 : tie.Need-returns-2
-returns-2 c =
-    let v = c .before .before .before .before .before .before .args .v .now in
-    let p = c .before .before .before .before .before .before .args .p .now in
-    (refuses-21 v p (length (c .before .before .before .before .before .before .args .work .now)) (c .before .before .first-refusal .ensures) (c .before .if1 .left) (omega arith), early-work 21 _ (omega arith))
+    let a = c .before .before .before .before .before .before .before .args in
+    let w = length (a .work .now) in
+    let e = c .before .before .before .first-refusal .ensures in
+    let f = c .before .work-refusal .ensures in
+    (refuses (a .v .now) (a .p .now) w e f (c .if1 .taken), early-work _ _ (refuses-few (a .v .now) (a .p .now) w e f))
 
 prepare-requires : tie.Need-prepare-requires
 prepare-requires c κs =
-    (vocabulary-accepted (c .before .before .before .before .before .before .before .args .v .now) (c .before .before .before .before .before .before .before .args .p .now) (length (c .before .before .before .before .before .before .before .args .work .now)) (c .before .before .before .first-refusal .ensures) (c .before .before .if1 .left), omega arith)
+    let a = c .before .before .before .before .before .before .before .before .args in
+    let w = length (a .work .now) in
+    let e = c .before .before .before .before .first-refusal .ensures in
+    let f = c .before .before .work-refusal .ensures in
+    (vocabulary-accepted (a .v .now) (a .p .now) w e f (c .before .if1 .left), work-full (a .v .now) (a .p .now) w e f (c .before .if1 .left))
 
 first-possible-requires : tie.Need-first-possible-requires
 first-possible-requires c κs =
-    let s = c .before .before .before .prepare .ensures .1 .size in (
-      c .before .before .before .prepare .ensures .0,
-      omega arith,
-      policy-accepted (c .before .before .before .before .before .before .before .before .before .before .before .args .v .now) (c .before .before .before .before .before .before .before .before .before .before .before .args .p .now) (length (c .before .before .before .before .before .before .before .before .before .before .before .args .work .now)) (c .before .before .before .before .before .before .before .first-refusal .ensures) (c .before .before .before .before .before .before .if1 .left),
-    )
+    let a = c .before .before .before .before .before .before .before .before .before .before .before .before .args in
+    let w = length (a .work .now) in
+    let e = c .before .before .before .before .before .before .before .before .first-refusal .ensures in
+    let f = c .before .before .before .before .before .before .work-refusal .ensures in
+    let s = c .before .before .before .prepare .ensures .1 .size in
+    let l = work-full (a .v .now) (a .p .now) w e f (c .before .before .before .before .before .if1 .left) in
+    (c .before .before .before .prepare .ensures .0, omega arith, policy-accepted (a .v .now) (a .p .now) w e f (c .before .before .before .before .before .if1 .left))
 
 clear-requires : tie.Need-clear-requires
 clear-requires c κs =
+    let a = c .before .before .before .before .before .before .before .before .before .before .before .before .before .before .before .before .args in
     let s = c .before .before .before .before .before .before .before .prepare .ensures .1 .size in
     let t = c .before .before .before .first-possible .ensures .1 .size in
-    omega arith
+    omega (arith, work-full (a .v .now) (a .p .now) (length (a .work .now)) (c .before .before .before .before .before .before .before .before .before .before .before .before .first-refusal .ensures) (c .before .before .before .before .before .before .before .before .before .before .work-refusal .ensures) (c .before .before .before .before .before .before .before .before .before .if1 .left))
 
-returns-3 : tie.Need-returns-3
-returns-3 c =
-    let v = c .before .before .before .before .before .before .before .before .before .before .before .before .before .before .before .before .before .before .args .v .now in
-    let p = c .before .before .before .before .before .before .before .before .before .before .before .before .before .before .before .before .before .before .args .p .now in (
-      answers v p (length (c .before .before .before .before .before .before .before .before .before .before .before .before .before .before .before .before .before .before .args .work .now)) (c .before .before .before .before .before .before .before .before .before .before .before .before .before .before .first-refusal .ensures) (c .before .before .before .before .before .before .before .before .before .before .before .before .before .if1 .left) (omega arith) (c .before .before .before .before .before .before .first-possible .ensures .0),
-      late-work (vocabularyOf v) (policyOf p) (c .before .before .before .before .before .before .before .before .before .before .prepare .ensures .1) (c .before .before .before .before .before .before .first-possible .ensures .1) (c .before .before .clear .ensures) (c .before .before .before .before .before .before .first-possible .ensures .0),
+returns-2 : tie.Need-returns-2
+returns-2 c =
+    let a = c .before .before .before .before .before .before .before .before .before .before .before .before .before .before .before .before .before .before .before .args in
+    let t = c .before .before .before .before .before .before .first-possible .ensures in (
+      answers (a .v .now) (a .p .now) (length (a .work .now)) (c .before .before .before .before .before .before .before .before .before .before .before .before .before .before .before .first-refusal .ensures) (c .before .before .before .before .before .before .before .before .before .before .before .before .before .work-refusal .ensures) (c .before .before .before .before .before .before .before .before .before .before .before .before .if1 .left) (t .0),
+      late-work (vocabularyOf (a .v .now)) (policyOf (a .p .now)) (c .before .before .before .before .before .before .before .before .before .before .prepare .ensures .1) (t .1) (c .before .before .clear .ensures) (t .0),
     )
 
 pub possible-spec : {M : Type 1} → statement M
@@ -53,10 +53,11 @@ possible-spec =
     tie.close
     (tie.spec
     (λ c κs. search needs)
+    (λ c κs. search needs)
+    (λ c. search needs)
     returns
-    returns-2
     prepare-requires
     first-possible-requires
     clear-requires
     (λ c. search needs)
-    returns-3)
+    returns-2)
