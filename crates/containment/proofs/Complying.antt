@@ -7,8 +7,9 @@ use lib.Dec.{leb}
 use lib.ListN.{drop, length, take}
 use lib.Seq.{take-at}
 use native.Mathlib.Omega.{arith}
-use Rattle.containment.proofs.Deciding.{outputs-none}
-use Rattle.containment.specs.Verdicts.{Delivers, Right}
+use Rattle.containment.specs.Verdicts.{Right, settled}
+use Rattle.decision.proofs.Deciding.{outputs-none}
+use Rattle.decision.specs.Decisions.{Delivers, decision}
 use Rattle.meaning.proofs.Compliance.{compliance-told, no-escape}
 use Rattle.meaning.proofs.Interpretations.{tested-finite}
 use Rattle.meaning.proofs.Refusals.{AcceptedInput, accepted-input, or-few, policy-few, vocabulary-few}
@@ -25,6 +26,18 @@ use Rattle.meaning.specs.declared.Verdict.the-variants as verdict
 use Rattle.meaning.specs.declared.Verdict.{Verdict}
 use Rattle.workspace.proofs.Laws.{beyond-then, none-before, none-full, work-few, zeroed-beyond}
 use Rattle.workspace.specs.Work.{Beyond}
+
+-- ---- 22 and the verdict
+
+module _ (v p q o : List ℕ) where
+  pub settles-22 : {b : Bool} → b ≡ tooMany (vocabularyOf v) (policyOf p) (policyOf q) → b ≡ true → Delivers (settled v p q (length o)) o o (verdict.Refused 22)
+  unfolding complianceOf
+  settles-22 e h = rw (sym e ∙ h) (record { answer = refl; output = outputs-none o })
+
+  pub settles : {b : Bool} {o′ : List ℕ} {r : Verdict} → b ≡ tooMany (vocabularyOf v) (policyOf p) (policyOf q) → b ≡ false → Delivers (decision v p q (length o)) o o′ r →
+      Delivers (settled v p q (length o)) o o′ r
+  unfolding complianceOf
+  settles e h d = rw (sym e ∙ h) d
 
 -- ---- the refusals in their order
 

@@ -1,32 +1,26 @@
 // The operations on policies: Possible, Compliance.
+use decision::decide;
+use decision::has_too_many;
 use hierarchy::Functional;
 use meaning::Possibility;
 use meaning::Verdict;
-use normal_form::Tables;
 use policy::first_term;
 use policy::next_of;
 use splitting::collect;
-use splitting::combinations;
-use trial::first_failure;
 use workspace::clear;
 use workspace::prepare;
 use workspace::tabulate;
 use workspace::work_refusal;
-ghost use mathlib.Core.Bool.{false};
 ghost use mathlib.Core.Path.{_≡_};
 ghost use Prim.Native.Nat.{_≤_};
 ghost use lib.ListN.{length};
-ghost use Rattle.containment.specs.Verdicts.{Delivers, Failed, Ready, Reports, Right, decision, exceeds, settled};
-ghost use Rattle.countermodel.specs.Facts.{Standing};
-ghost use Rattle.meaning.proofs.Terms.{ChainOf};
+ghost use Rattle.containment.specs.Verdicts.{Right, settled};
+ghost use Rattle.decision.specs.Decisions.{Delivers, Ready};
 ghost use Rattle.meaning.specs.Answers.{possibilityAnswer, verdictAnswer};
-ghost use Rattle.meaning.specs.Containment.{tooMany};
 ghost use Rattle.meaning.specs.Operations.{compliance, outputAfter, possibility, possibleFrom, workAfter, workSize};
-ghost use Rattle.meaning.specs.Policy.{Policy, policyOf, policyRefusal};
+ghost use Rattle.meaning.specs.Policy.{policyOf, policyRefusal};
 ghost use Rattle.meaning.specs.Vocabulary.{vocabularyOf};
-ghost use Rattle.normal_form.specs.Tables.{Fit, Prepared, termAt};
-ghost use Rattle.splitting.specs.Ends.{Ends};
-ghost use Rattle.trial.specs.Trials.{Triable};
+ghost use Rattle.normal_form.specs.Tables.{Prepared};
 ghost use Rattle.workspace.specs.Work.{Beyond};
 
 // The first simple policy that is possible, counted from 1, impossible ones too.
@@ -48,96 +42,8 @@ fn first_possible(v: &[u32], p: &[u32], work: &mut [u32], f: Functional) -> Poss
     Possibility::Impossible
 }
 
-// The most combinations of a simple policy.
-const MOST: usize = 65536;
-
-// Whether the simple policy at record k is possible and has too many combinations.
-fn is_too_many(v: &[u32], p: &[u32], work: &mut [u32], f: Functional, ends: &[u32], k: u32) -> bool
-    requires { ⌜ Prepared (now v) (now work) f × (workSize ≤ length (now work)) × Fit (now p) (now work) k × ChainOf (now v) (termAt (now p) k) ⌝ }
-    ensures { λ r. ⌜ ((Q : Policy) → Ends Q (now (ends .entry)) → r ≡ exceeds (vocabularyOf (now (v .entry))) Q (termAt (now (p .entry)) k)) ⌝ }
-    ensures { λ _. ⌜ Prepared (now (v .entry)) (now (work .exit)) f × Beyond (now (work .entry)) (now (work .exit)) ⌝ }
-{
-    let t = tabulate(v, p, work, f, k);
-    if t.blocked {
-        return false;
-    }
-    MOST < combinations(ends, work, t.intervals)
-}
-
-// Whether some simple policy of p is, wherever it stands.
-fn has_too_many(v: &[u32], p: &[u32], work: &mut [u32], f: Functional, ends: &[u32]) -> bool
-    requires { ⌜ Prepared (now v) (now work) f × (workSize ≤ length (now work)) × (policyRefusal (now v) (now p) ≡ 0) ⌝ }
-    ensures { λ r. ⌜ ((Q : Policy) → Ends Q (now (ends .entry)) → r ≡ tooMany (vocabularyOf (now (v .entry))) (policyOf (now (p .entry))) Q) ⌝ }
-    ensures { λ _. ⌜ Prepared (now (v .entry)) (now (work .exit)) f × Beyond (now (work .entry)) (now (work .exit)) ⌝ }
-{
-    let first = first_term(p);
-    let mut k = first;
-    while k != 0 {
-        if is_too_many(v, p, work, f, ends, k) {
-            return true;
-        }
-        k = next_of(p, k);
-    }
-    false
-}
-
-// The first combination to fail of the simple policy that the tables hold, counted from 1; 0 where it is impossible or all pass.
-fn failure_of(q: &[u32], work: &mut [u32], ends: &[u32], t: Tables) -> u32
-    requires { ⌜ (t .blocked ≡ false → Triable (now q) (now ends) (now work) t) ⌝ }
-    ensures { λ r. ⌜ Failed (policyOf (now (q .entry))) (now (work .entry)) (now (work .exit)) t r ⌝ }
-{
-    if t.blocked {
-        return 0;
-    }
-    first_failure(q, work, ends, t)
-}
-
 // Room for the ends of the other policy.
 const ENDS: usize = 2048;
-
-// Simple policy s and combination c, which the tables hold, with the words of its countermodel; where these do not fit, 23 before a
-// word is written.
-fn report(work: &[u32], t: Tables, s: u32, c: u32, out: &mut [u32]) -> Verdict
-    requires { ⌜ Standing (now work) t ⌝ }
-    ensures { λ r. ⌜ Reports s c (now (work .entry)) t (now (out .entry)) (now (out .exit)) r ⌝ }
-    ensures { λ _. ⌜ length (now (out .exit)) ≡ length (now (out .entry)) ⌝ }
-{
-    let records = countermodel::size(work, t);
-    let words = 5 * (records + 1);
-    if out.len() < words {
-        return Verdict::Refused(23);
-    }
-    countermodel::write(work, t, records, out);
-    Verdict::Outside(s, c, words)
-}
-
-// The first simple policy of p with a combination that fails, and the first of those.
-fn decide(
-    v: &[u32],
-    p: &[u32],
-    q: &[u32],
-    work: &mut [u32],
-    f: Functional,
-    ends: &[u32],
-    out: &mut [u32],
-) -> Verdict
-    requires { ⌜ Ready (now v) (now p) (now q) (now work) f × Ends (policyOf (now q)) (now ends) × (tooMany (vocabularyOf (now v)) (policyOf (now p)) (policyOf (now q)) ≡ false) ⌝ }
-    ensures { λ r. ⌜ Delivers (decision (now (v .entry)) (now (p .entry)) (now (q .entry)) (length (now (out .entry)))) (now (out .entry)) (now (out .exit)) r ⌝ }
-    ensures { λ _. ⌜ Beyond (now (work .entry)) (now (work .exit)) × (length (now (out .exit)) ≡ length (now (out .entry))) ⌝ }
-{
-    let mut s: u32 = 1;
-    let mut k = first_term(p);
-    while k != 0 {
-        let t = tabulate(v, p, work, f, k);
-        let c = failure_of(q, work, ends, t);
-        if c != 0 {
-            return report(work, t, s, c, out);
-        }
-        s += 1;
-        k = next_of(p, k);
-    }
-    Verdict::Compliant
-}
 
 // What Compliance answers behind 21: 22 for every simple policy of p before any verdict.
 fn settle(

@@ -3,7 +3,7 @@ use mathlib.Core.Path.{_∙_, _≡_, refl, sym}
 use lib.Seq.{length-take-le}
 use native.Mathlib.Omega.{arith}
 use borrow.Author.Needs.{needs}
-use Rattle.containment.proofs.Deciding.{settles, settles-22}
+use Rattle.containment.proofs.Complying.{settles, settles-22}
 use Rattle.containment.proofs.settle.Statement.{statement}
 use Rattle.containment.proofs.settle.Tie as tie
 use Rattle.meaning.proofs.Wellformed.{accepted}
@@ -13,7 +13,7 @@ use Rattle.workspace.proofs.Laws.{beyond-then}
 returns : tie.Need-returns
 returns c =
     let h = c .before .before .before .has-too-many .ensures in
-    (settles-22 _ _ _ _ _ (h .0 _ (c .before .before .before .before .before .before .before .collect .ensures .ends)) (c .if1 .taken), (h .1 .1, refl))
+    (settles-22 _ _ _ _ (h .0 _ (c .before .before .before .before .before .before .before .collect .ensures .ends)) (c .if1 .taken), (h .1 .1, refl))
 
 decide-requires : tie.Need-decide-requires
 decide-requires c κs =
@@ -28,7 +28,7 @@ returns-2 : tie.Need-returns-2
 returns-2 c =
     let h = c .before .before .before .before .before .before .before .before .before .before .has-too-many .ensures in
     let d = c .before .before .before .before .decide .ensures in
-    (settles _ _ _ _ _ (h .0 _ (c .before .before .before .before .before .before .before .before .before .before .before .before .before .before .collect .ensures .ends)) (c .before .before .before .before .before .before .before .if1 .left) (d .0), (beyond-then (h .1 .1) (d .1 .0), d .1 .1))
+    (settles _ _ _ _ (h .0 _ (c .before .before .before .before .before .before .before .before .before .before .before .before .before .before .collect .ensures .ends)) (c .before .before .before .before .before .before .before .if1 .left) (d .0), (beyond-then (h .1 .1) (d .1 .0), d .1 .1))
 
 pub settle-spec : {M : Type 1} → statement M
 settle-spec =

@@ -1,6 +1,6 @@
-use Rattle.containment.proofs.Deciding.{failed-impossible, failed-tried}
-use Rattle.containment.proofs.failure_of.Statement.{statement}
-use Rattle.containment.proofs.failure_of.Tie as tie
+use Rattle.decision.proofs.Deciding.{failed-impossible, failed-tried}
+use Rattle.decision.proofs.failure_of.Statement.{statement}
+use Rattle.decision.proofs.failure_of.Tie as tie
 
 pub failure-of-spec : {M : Type 1} → statement M
 failure-of-spec =

@@ -3,10 +3,10 @@ use mathlib.Core.Path.{_∙_, _≡_, ap, refl}
 use lib.ListN.{length}
 use native.Mathlib.Omega.{arith}
 use borrow.Author.Needs.{needs}
-use Rattle.containment.proofs.Deciding.{Undecided, delivers-compliant, term-beyond, term-fails, term-few, term-passes, term-prepared}
-use Rattle.containment.proofs.Deciding.{term-standing, term-triable, undecided-starts}
-use Rattle.containment.proofs.decide.Statement.{statement}
-use Rattle.containment.proofs.decide.Tie as tie
+use Rattle.decision.proofs.Deciding.{Undecided, delivers-compliant, term-beyond, term-fails, term-few, term-passes, term-prepared}
+use Rattle.decision.proofs.Deciding.{term-standing, term-triable, undecided-starts}
+use Rattle.decision.proofs.decide.Statement.{statement}
+use Rattle.decision.proofs.decide.Tie as tie
 use Rattle.meaning.proofs.Links.{falling}
 use Rattle.meaning.specs.Records.{lastOf}
 use Rattle.normal_form.specs.Tables.{Prepared}

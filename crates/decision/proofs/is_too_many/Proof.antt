@@ -1,6 +1,6 @@
-use Rattle.containment.proofs.Deciding.{term-exceeds, term-impossible, term-splittable}
-use Rattle.containment.proofs.is_too_many.Statement.{statement}
-use Rattle.containment.proofs.is_too_many.Tie as tie
+use Rattle.decision.proofs.Deciding.{term-exceeds, term-impossible, term-splittable}
+use Rattle.decision.proofs.is_too_many.Statement.{statement}
+use Rattle.decision.proofs.is_too_many.Tie as tie
 
 returns : tie.Need-returns
 returns c =

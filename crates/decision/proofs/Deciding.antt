@@ -1,4 +1,4 @@
--- Laws of Compliance: the combinations counted, the first failure, the report.
+-- Laws of a decision: the combinations counted, the first failure, the report.
 use Prim.Native.Nat.{_*_, _+_, _<_, _≤_, min, suc, zero, ℕ}
 use mathlib.Core.Bool.{Bool, _&&_, _||_, cond, false, not, true}
 use mathlib.Core.List.{List, [], _∷_}
@@ -9,7 +9,7 @@ use lib.ListN.{length}
 use native.Mathlib.Omega.{arith}
 use borrow.Author.Tests.{le-leb, le-ltb, lt-leb, lt-ltb, ltb-false}
 use Rattle.combination.specs.Combination.{Combined}
-use Rattle.containment.specs.Verdicts.{Delivers, Failed, Failure, Reports, decision, exceeds}
+use Rattle.decision.specs.Decisions.{Delivers, Failed, Failure, Reports, decision, exceeds}
 use Rattle.countermodel.specs.Facts.{Standing}
 use Rattle.meaning.proofs.Bounds.{bounded, chain-bounded}
 use Rattle.meaning.proofs.Containment.{witness}
@@ -24,7 +24,7 @@ use Rattle.meaning.specs.Containment.{Decision, contained, decide, decideFrom, 
 use Rattle.meaning.specs.Countermodel.{canonicalModel, countermodel, individuals}
 use Rattle.meaning.specs.Lists.{Found, _∈_, any, firstFailing, found, here, nowhere, there}
 use Rattle.meaning.specs.NormalForm.{Form, blocked, normalForm, possible}
-use Rattle.meaning.specs.Operations.{Outcome, complianceOf, outputAfter, reported, says, workSize, written}
+use Rattle.meaning.specs.Operations.{Outcome, outputAfter, reported, says, workSize, written}
 use Rattle.meaning.specs.Policy.{Chain, Policy, nextOf, policyOf, policyRefusal}
 use Rattle.meaning.specs.Splitting.{combinationCount, combinations, product}
 use Rattle.meaning.specs.Vocabulary.{Vocabulary, classCount, vocabularyOf}
@@ -223,7 +223,7 @@ module _ (s q : ℕ) (words o : List ℕ) where
       Delivers (written (length o) (outside s q) words) o o′ (verdict.Outside s q n)
   reports-words h e d = rw (le-leb (length words) (length o) h) (record { answer = ap (outside s q) e; output = d })
 
--- ---- what is settled behind 21
+-- ---- what is decided
 
 module _ (N : ℕ) (K : Vocabulary) (P Q : Policy) (o : List ℕ) where
   abbrev told : Outcome
@@ -235,14 +235,6 @@ module _ (N : ℕ) (K : Vocabulary) (P Q : Policy) (o : List ℕ) where
   pub delivers-report : {s q : ℕ} {u : Form} {o′ : List ℕ} {r : Verdict} → escapes s q u ≡ decide K P Q → Delivers (written (length o) (outside s q) (countermodel N K u)) o o′ r →
       Delivers told o o′ r
   delivers-report e d = rw (sym e) d
-
-  pub settles-22 : {b : Bool} → b ≡ tooMany K P Q → b ≡ true → Delivers (complianceOf N K P Q (length o)) o o (verdict.Refused 22)
-  unfolding complianceOf
-  settles-22 e h = rw (sym e ∙ h) (record { answer = refl; output = outputs-none o })
-
-  pub settles : {b : Bool} {o′ : List ℕ} {r : Verdict} → b ≡ tooMany K P Q → b ≡ false → Delivers told o o′ r → Delivers (complianceOf N K P Q (length o)) o o′ r
-  unfolding complianceOf
-  settles e h d = rw (sym e ∙ h) d
 
 -- ---- one term of the loop
 

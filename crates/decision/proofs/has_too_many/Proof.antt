@@ -4,9 +4,9 @@ use mathlib.Core.List.{List}
 use mathlib.Core.Path.{_∙_, _≡_}
 use native.Mathlib.Omega.{arith}
 use borrow.Author.Needs.{needs}
-use Rattle.containment.proofs.Deciding.{Uncounted, uncounted-ends, uncounted-found, uncounted-on, uncounted-starts}
-use Rattle.containment.proofs.has_too_many.Statement.{statement}
-use Rattle.containment.proofs.has_too_many.Tie as tie
+use Rattle.decision.proofs.Deciding.{Uncounted, uncounted-ends, uncounted-found, uncounted-on, uncounted-starts}
+use Rattle.decision.proofs.has_too_many.Statement.{statement}
+use Rattle.decision.proofs.has_too_many.Tie as tie
 use Rattle.meaning.proofs.Links.{falling}
 use Rattle.meaning.specs.Records.{lastOf}
 use Rattle.normal_form.specs.Tables.{Prepared}

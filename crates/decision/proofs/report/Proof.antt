@@ -1,8 +1,8 @@
 use mathlib.Core.Path.{refl}
 use native.Mathlib.Omega.{arith}
-use Rattle.containment.proofs.Deciding.{countermodel-length, reports-23, reports-words}
-use Rattle.containment.proofs.report.Statement.{statement}
-use Rattle.containment.proofs.report.Tie as tie
+use Rattle.decision.proofs.Deciding.{countermodel-length, reports-23, reports-words}
+use Rattle.decision.proofs.report.Statement.{statement}
+use Rattle.decision.proofs.report.Tie as tie
 use Rattle.countermodel.proofs.Sizes.{records-most}
 use Rattle.meaning.specs.Countermodel.{countermodel}
 
