@@ -52,7 +52,7 @@ input-few v p q =
     go (suc n) h = omega arith
 
 module _ (v p q : List ℕ) (w : ℕ) (o : List ℕ) {m r : ℕ} (e : m ≡ inputRefusal v p q) (f : r ≡ orElse m (workRefusal w)) where
-  in-order : r ≡ orElse (inputRefusal v p q) (workRefusal w)
+  pub in-order : r ≡ orElse (inputRefusal v p q) (workRefusal w)
   in-order = f ∙ ap (λ (n : ℕ). orElse n (workRefusal w)) e
 
   pub complies-refused : (r ≡ 0 → ⊥) → Delivers (compliance v p q w (length o)) o o (verdict.Refused r)
@@ -101,7 +101,7 @@ module _ (N : ℕ) (K : Vocabulary) (P Q : Policy) (o : ℕ) where
 -- ---- demand 2
 
 module _ (v p q o o′ : List ℕ) where
-  taken : (words : List ℕ) (n : ℕ) → n ≡ length words → o′ ≡ outputAfter words o → words ≡ take n o′
+  pub taken : (words : List ℕ) (n : ℕ) → n ≡ length words → o′ ≡ outputAfter words o → words ≡ take n o′
   unfolding outputAfter
   taken words n e d = sym (ap (take n) d ∙ take-at words (drop (length words) o) n (sym e))
 

@@ -1,2 +1,3 @@
 pub mod Laws
 pub mod Complying
+pub mod Comparing

@@ -1,7 +1,8 @@
-// The operations on policies: Possible, Compliance.
+// The operations on policies: Possible, Compliance, Equality.
 use decision::decide;
 use decision::has_too_many;
 use hierarchy::Functional;
+use meaning::Comparison;
 use meaning::Possibility;
 use meaning::Verdict;
 use policy::first_term;
@@ -14,10 +15,10 @@ use workspace::work_refusal;
 ghost use mathlib.Core.Path.{_≡_};
 ghost use Prim.Native.Nat.{_≤_};
 ghost use lib.ListN.{length};
-ghost use Rattle.containment.specs.Verdicts.{Right, settled};
+ghost use Rattle.containment.specs.Verdicts.{BothEnds, Compares, Few, Right, RightComparison, compared, difference, settled, sidedAnswer};
 ghost use Rattle.decision.specs.Decisions.{Delivers, Ready};
-ghost use Rattle.meaning.specs.Answers.{possibilityAnswer, verdictAnswer};
-ghost use Rattle.meaning.specs.Operations.{compliance, outputAfter, possibility, possibleFrom, workAfter, workSize};
+ghost use Rattle.meaning.specs.Answers.{comparisonAnswer, possibilityAnswer, verdictAnswer};
+ghost use Rattle.meaning.specs.Operations.{compliance, equality, outputAfter, possibility, possibleFrom, workAfter, workSize};
 ghost use Rattle.meaning.specs.Policy.{policyOf, policyRefusal};
 ghost use Rattle.meaning.specs.Vocabulary.{vocabularyOf};
 ghost use Rattle.normal_form.specs.Tables.{Prepared};
@@ -100,4 +101,83 @@ pub fn compliance(v: &[u32], p: &[u32], q: &[u32], work: &mut [u32], out: &mut [
     let verdict = settle(v, p, q, work, f, out);
     clear(work);
     verdict
+}
+
+// The verdict of one direction as an answer of Equality.
+fn sided(side: u32, verdict: Verdict) -> Comparison
+    ensures { λ r. ⌜ comparisonAnswer r ≡ sidedAnswer side (verdictAnswer verdict) ⌝ }
+{
+    match verdict {
+        Verdict::Compliant => Comparison::Equal,
+        Verdict::Outside(s, c, n) => Comparison::Differs(side, s, c, n),
+        Verdict::Refused(n) => Comparison::Refused(n),
+    }
+}
+
+// The first direction's difference, else the second's.
+fn differ(
+    v: &[u32],
+    p: &[u32],
+    q: &[u32],
+    work: &mut [u32],
+    f: Functional,
+    first: &[u32],
+    second: &[u32],
+    out: &mut [u32],
+) -> Comparison
+    requires { ⌜ Ready (now v) (now p) (now q) (now work) f × BothEnds (now p) (now q) (now first) (now second) × Few (now v) (now p) (now q) ⌝ }
+    ensures { λ r. ⌜ Compares (difference (now (v .entry)) (now (p .entry)) (now (q .entry)) (length (now (out .entry)))) (now (out .entry)) (now (out .exit)) r ⌝ }
+    ensures { λ _. ⌜ Beyond (now (work .entry)) (now (work .exit)) × (length (now (out .exit)) ≡ length (now (out .entry))) ⌝ }
+{
+    let forth = decide(v, p, q, work, f, second, out);
+    match forth {
+        Verdict::Compliant => sided(2, decide(v, q, p, work, f, first, out)),
+        Verdict::Outside(s, c, n) => Comparison::Differs(1, s, c, n),
+        Verdict::Refused(n) => Comparison::Refused(n),
+    }
+}
+
+// What Equality answers behind 21: 22 for both directions before any verdict.
+fn compare(
+    v: &[u32],
+    p: &[u32],
+    q: &[u32],
+    work: &mut [u32],
+    f: Functional,
+    out: &mut [u32],
+) -> Comparison
+    requires { ⌜ Ready (now v) (now p) (now q) (now work) f ⌝ }
+    ensures { λ r. ⌜ Compares (compared (now (v .entry)) (now (p .entry)) (now (q .entry)) (length (now (out .entry)))) (now (out .entry)) (now (out .exit)) r ⌝ }
+    ensures { λ _. ⌜ Beyond (now (work .entry)) (now (work .exit)) × (length (now (out .exit)) ≡ length (now (out .entry))) ⌝ }
+{
+    let mut room = [0; ENDS];
+    let n = collect(p, &mut room);
+    let first = &room[..n];
+    let mut space = [0; ENDS];
+    let m = collect(q, &mut space);
+    let second = &space[..m];
+    let forth = has_too_many(v, p, work, f, second);
+    let back = has_too_many(v, q, work, f, first);
+    if forth | back {
+        return Comparison::Refused(22);
+    }
+    differ(v, p, q, work, f, first, second, out)
+}
+
+// Equality: the same refusals in the same order, 22 for both directions; then the first direction's difference, the second's, or
+// equal. Time grows as that of two calls of Compliance.
+pub fn equality(v: &[u32], p: &[u32], q: &[u32], work: &mut [u32], out: &mut [u32]) -> Comparison
+    ensures { λ r. ⌜ comparisonAnswer r ≡ equality (now (v .entry)) (now (p .entry)) (now (q .entry)) (length (now (work .entry))) (length (now (out .entry))) .answer ⌝ }
+    ensures { λ _. ⌜ now (out .exit) ≡ outputAfter (equality (now (v .entry)) (now (p .entry)) (now (q .entry)) (length (now (work .entry))) (length (now (out .entry))) .words) (now (out .entry)) ⌝ }
+    ensures { λ r. ⌜ now (work .exit) ≡ workAfter (comparisonAnswer r) (now (work .entry)) ⌝ }
+    ensures { λ r. ⌜ RightComparison (now (v .entry)) (now (p .entry)) (now (q .entry)) (now (out .exit)) r ⌝ }
+{
+    let refusal = work_refusal(policy::input_refusal(v, p, q), work);
+    if refusal != 0 {
+        return Comparison::Refused(refusal);
+    }
+    let f = prepare(v, work);
+    let comparison = compare(v, p, q, work, f, out);
+    clear(work);
+    comparison
 }

@@ -95,7 +95,7 @@ pub fn decide(
 ) -> Verdict
     requires { ⌜ Ready (now v) (now p) (now q) (now work) f × Ends (policyOf (now q)) (now ends) × (tooMany (vocabularyOf (now v)) (policyOf (now p)) (policyOf (now q)) ≡ false) ⌝ }
     ensures { λ r. ⌜ Delivers (decision (now (v .entry)) (now (p .entry)) (now (q .entry)) (length (now (out .entry)))) (now (out .entry)) (now (out .exit)) r ⌝ }
-    ensures { λ _. ⌜ Beyond (now (work .entry)) (now (work .exit)) × (length (now (out .exit)) ≡ length (now (out .entry))) ⌝ }
+    ensures { λ _. ⌜ Beyond (now (work .entry)) (now (work .exit)) × (length (now (out .exit)) ≡ length (now (out .entry))) × Prepared (now (v .entry)) (now (work .exit)) f ⌝ }
 {
     let mut s: u32 = 1;
     let mut k = first_term(p);

@@ -44,12 +44,14 @@ report-requires c κs =
 
 returns : tie.Need-returns Inv-loop μ-loop
 returns c =
-    let i = c .before .before .before .before .before .before .before .before .before .before .before .before .before .before .before .loop .inv in (
-      term-fails _ (i .0) (c .before .before .before .before .before .before .before .before .before .before .before .before .before .before .loop-test .taken) (c .before .before .before .before .before .before .before .before .before .before .before .before .tabulate .ensures) (c .before .before .before .before .before .before .before .before .failure-of .ensures) (c .before .before .before .before .before .if1 .taken) (i .3) (c .before .before .report .ensures .0),
-      (
-        beyond-then (i .2) (term-beyond _ (i .0) (c .before .before .before .before .before .before .before .before .before .before .before .before .before .before .loop-test .taken) (c .before .before .before .before .before .before .before .before .before .before .before .before .tabulate .ensures) (c .before .before .before .before .before .before .before .before .failure-of .ensures)),
-        c .before .before .report .ensures .1 ∙ ap length (i .3),
-      ),
+    let i = c .before .before .before .before .before .before .before .before .before .before .before .before .before .before .before .loop .inv in
+    let s = i .2 .size in
+    let f = c .before .before .before .before .before .before .before .before .before .before .before .before .before .before .before .before .before .before .before .before .before .before .before .pre .0 .full in
+    let n = c .before .before .before .before .before .before .before .before .before .before .before .before .before .before .loop-test .taken in
+    let d = c .before .before .before .before .before .before .before .before .before .before .before .before .tabulate .ensures in
+    let g = c .before .before .before .before .before .before .before .before .failure-of .ensures in (
+      term-fails _ (i .0) n d g (c .before .before .before .before .before .if1 .taken) (i .3) (c .before .before .report .ensures .0),
+      (beyond-then (i .2) (term-beyond _ (i .0) n d g), c .before .before .report .ensures .1 ∙ ap length (i .3), term-prepared _ (i .0) n d g (omega arith)),
     )
 
 loop-again : tie.Need-loop-again Inv-loop μ-loop
@@ -85,4 +87,4 @@ decide-spec =
     loop-again
     (λ c. c .before .loop .inv .2 .size)
     (λ c. ap length (c .before .loop .inv .3))
-    (λ c. (delivers-compliant _ _ _ _ _ (c .before .loop .inv .3) (asking-ends (c .before .loop .inv .0) (c .loop-test .left) .0), (c .before .loop .inv .2, ap length (c .before .loop .inv .3)))))
+    (λ c. (delivers-compliant _ _ _ _ _ (c .before .loop .inv .3) (asking-ends (c .before .loop .inv .0) (c .loop-test .left) .0), (c .before .loop .inv .2, ap length (c .before .loop .inv .3), c .before .loop .inv .1))))

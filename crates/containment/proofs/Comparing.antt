@@ -1,0 +1,201 @@
+-- Laws of Equality: the sides, 22 for both directions, the refusals in their order, the work slice afterwards, and demand 3.
+use Prim.Native.Nat.{suc, zero, ℕ}
+use mathlib.Core.Bool.{Bool, _||_, cond, false, true}
+use mathlib.Core.List.{List}
+use mathlib.Core.Logic.{inl, inr}
+use mathlib.Core.Path.{_∙_, _≡_, ap, refl, subst, subst₂, sym}
+use lib.Dec.{leb}
+use lib.ListN.{length}
+use native.Mathlib.Omega.{arith}
+use Rattle.containment.proofs.Complying.{in-order, taken}
+use Rattle.containment.specs.Verdicts.{Compares, Few, RightComparison, compared, difference, reverse, sidedAnswer}
+use Rattle.decision.proofs.Deciding.{outputs-none}
+use Rattle.decision.specs.Decisions.{Delivers, decision}
+use Rattle.meaning.proofs.Compliance.{no-escape}
+use Rattle.meaning.proofs.Equality.{equality-compared}
+use Rattle.meaning.proofs.Interpretations.{tested-finite}
+use Rattle.meaning.specs.Answers.{Answer, comparisonAnswer, compliant, differs, equal, outside, refused, verdictAnswer}
+use Rattle.meaning.specs.Containment.{Decision, Refutes, contained, decide, escapes, tooMany}
+use Rattle.meaning.specs.Countermodel.{Fact, countermodel}
+use Rattle.meaning.specs.ModelCheck.{factsOf, individualCount}
+use Rattle.meaning.specs.Operations.{Outcome, comesLate, equality, equalityOf, inputRefusal, outputAfter, refuses, reported, says, unless, workAfter, workRefusal, workSize, zeroed}
+use Rattle.meaning.specs.Policy.{Policy, policyOf}
+use Rattle.meaning.specs.Promises.{Compared, same, side1, side2, unsaidComparison}
+use Rattle.meaning.specs.Records.{orElse}
+use Rattle.meaning.specs.Vocabulary.{Vocabulary, classCount, vocabularyOf}
+use Rattle.meaning.specs.declared.Comparison.the-variants as comparison
+use Rattle.meaning.specs.declared.Comparison.{Comparison}
+use Rattle.meaning.specs.declared.Verdict.the-variants as verdict
+use Rattle.meaning.specs.declared.Verdict.{Verdict}
+use Rattle.workspace.proofs.Laws.{beyond-then, zeroed-beyond}
+use Rattle.workspace.specs.Work.{Beyond}
+
+-- ---- the sides
+
+module _ (N : ℕ) (K : Vocabulary) (o o′ : List ℕ) where
+  -- what one direction reports, by a teller and with what follows
+  abbrev told : (ℕ → ℕ → ℕ → Answer) → Decision → Outcome → Outcome
+  told tell d rest = reported N K (length o) tell d rest
+
+  pub side-answer : (side : ℕ) (d : Decision) → sidedAnswer side (told outside d (says compliant) .answer) ≡ told (differs side) d (says equal) .answer
+  side-answer side contained = refl
+  side-answer side (escapes s q u) = go (leb (length (countermodel N K u)) (length o))
+    where
+      go : (b : Bool) → sidedAnswer side (cond b (record { answer = outside s q (length (countermodel N K u)); words = countermodel N K u }) (refuses 23) .answer) ≡
+          cond b (record { answer = differs side s q (length (countermodel N K u)); words = countermodel N K u }) (refuses 23) .answer
+      go true = refl
+      go false = refl
+
+  pub side-words : (side : ℕ) (d : Decision) → told outside d (says compliant) .words ≡ told (differs side) d (says equal) .words
+  side-words side contained = refl
+  side-words side (escapes s q u) = go (leb (length (countermodel N K u)) (length o))
+    where
+      go : (b : Bool) → cond b (record { answer = outside s q (length (countermodel N K u)); words = countermodel N K u }) (refuses 23) .words ≡
+          cond b (record { answer = differs side s q (length (countermodel N K u)); words = countermodel N K u }) (refuses 23) .words
+      go true = refl
+      go false = refl
+
+  -- compliant: nothing is written, and what follows is told
+  pub forth-on : (d : Decision) → Delivers (told outside d (says compliant)) o o′ verdict.Compliant → (d ≡ contained) × (o′ ≡ o)
+  forth-on contained x = (refl, x .output ∙ sym (outputs-none o))
+  forth-on (escapes s q u) x = go (leb (length (countermodel N K u)) (length o)) (x .answer)
+    where
+      go : (b : Bool) → compliant ≡ cond b (record { answer = outside s q (length (countermodel N K u)); words = countermodel N K u }) (refuses 23) .answer →
+          (escapes s q u ≡ contained) × (o′ ≡ o)
+      go true e = absurd (let z : _≡_ {A = ℕ} 0 1 = cc in omega arith)
+      go false e = absurd (let z : _≡_ {A = ℕ} 0 1 = cc in omega arith)
+
+  -- else what follows does not matter
+  module _ (rest : Outcome) where
+    pub forth-outside : {s c n : ℕ} (d : Decision) → Delivers (told outside d (says compliant)) o o′ (verdict.Outside s c n) → Compares (told (differs 1) d rest) o o′ (comparison.Differs 1 s c n)
+    forth-outside contained x = let a = x .answer in absurd (let z : _≡_ {A = ℕ} 0 1 = cc in omega arith)
+    forth-outside {s} {c} {n} (escapes i q u) x = go (leb (length (countermodel N K u)) (length o)) (x .answer) (x .output)
+      where
+        go : (b : Bool) → outside s c n ≡ cond b (record { answer = outside i q (length (countermodel N K u)); words = countermodel N K u }) (refuses 23) .answer →
+            o′ ≡ outputAfter (cond b (record { answer = outside i q (length (countermodel N K u)); words = countermodel N K u }) (refuses 23) .words) o →
+            Compares (cond b (record { answer = differs 1 i q (length (countermodel N K u)); words = countermodel N K u }) (refuses 23)) o o′ (comparison.Differs 1 s c n)
+        go true e f = record { answer = cc; output = f }
+        go false e f = absurd (let z : _≡_ {A = ℕ} 0 1 = cc in omega arith)
+
+    pub forth-refused : {n : ℕ} (d : Decision) → Delivers (told outside d (says compliant)) o o′ (verdict.Refused n) → Compares (told (differs 1) d rest) o o′ (comparison.Refused n)
+    forth-refused contained x = let a = x .answer in absurd (let z : _≡_ {A = ℕ} 0 1 = cc in omega arith)
+    forth-refused {n} (escapes i q u) x = go (leb (length (countermodel N K u)) (length o)) (x .answer) (x .output)
+      where
+        go : (b : Bool) → refused n ≡ cond b (record { answer = outside i q (length (countermodel N K u)); words = countermodel N K u }) (refuses 23) .answer →
+            o′ ≡ outputAfter (cond b (record { answer = outside i q (length (countermodel N K u)); words = countermodel N K u }) (refuses 23) .words) o →
+            Compares (cond b (record { answer = differs 1 i q (length (countermodel N K u)); words = countermodel N K u }) (refuses 23)) o o′ (comparison.Refused n)
+        go true e f = absurd (let z : _≡_ {A = ℕ} 0 1 = cc in omega arith)
+        go false e f = record { answer = e; output = f }
+
+module _ (v p q : List ℕ) where
+  abbrev decided : Decision
+  decided = decide (vocabularyOf v) (policyOf p) (policyOf q)
+
+  module _ {o o′ : List ℕ} {y : Verdict} (a : Delivers (decision v p q (length o)) o o′ y) where
+    is : {z : Verdict} → y ≡ z → Delivers (decision v p q (length o)) o o′ z
+    is e = subst (λ (z : Verdict). Delivers (decision v p q (length o)) o o′ z) e a
+
+    -- the second direction, where the first finds nothing
+    pub differs-back : {o″ : List ℕ} {r : Verdict} {x : Comparison} → y ≡ verdict.Compliant → Delivers (decision v q p (length o′)) o′ o″ r →
+        comparisonAnswer x ≡ sidedAnswer 2 (verdictAnswer r) → Compares (difference v p q (length o)) o o″ x
+    differs-back {o″} {r} {x} h b e =
+        let f = forth-on (classCount v) (vocabularyOf v) o o′ decided (is h) in
+        let d = subst (λ (l : List ℕ). Delivers (decision v q p (length l)) l o″ r) (f .1) b in
+        rw (f .0) (record {
+          answer = e ∙ ap (sidedAnswer 2) (d .answer) ∙ side-answer (classCount v) (vocabularyOf v) o o″ 2 (decide (vocabularyOf v) (policyOf q) (policyOf p));
+          output = d .output ∙ ap (λ (l : List ℕ). outputAfter l o) (side-words (classCount v) (vocabularyOf v) o o″ 2 (decide (vocabularyOf v) (policyOf q) (policyOf p)));
+        })
+
+    pub differs-outside : {s c n : ℕ} → y ≡ verdict.Outside s c n → Compares (difference v p q (length o)) o o′ (comparison.Differs 1 s c n)
+    differs-outside h = forth-outside (classCount v) (vocabularyOf v) o o′ (reverse v p q (length o)) decided (is h)
+
+    pub differs-refused : {n : ℕ} → y ≡ verdict.Refused n → Compares (difference v p q (length o)) o o′ (comparison.Refused n)
+    differs-refused h = forth-refused (classCount v) (vocabularyOf v) o o′ (reverse v p q (length o)) decided (is h)
+
+-- ---- 22 looks at both directions
+
+module _ (v p q o : List ℕ) {a b : Bool} (e : a ≡ tooMany (vocabularyOf v) (policyOf p) (policyOf q)) (f : b ≡ tooMany (vocabularyOf v) (policyOf q) (policyOf p)) where
+  pub compares-22 : (a || b) ≡ true → Compares (compared v p q (length o)) o o (comparison.Refused 22)
+  unfolding equalityOf
+  compares-22 h = rw (sym e, sym f, h) (record { answer = refl; output = outputs-none o })
+
+  module _ (h : (a || b) ≡ false) where
+    pub compares-none : Few v p q
+    compares-none = (sym e ∙ go a b h .0, sym f ∙ go a b h .1)
+      where
+        go : (a b : Bool) → (a || b) ≡ false → (a ≡ false) × (b ≡ false)
+        go true b h = absurd (let z : _≡_ {A = ℕ} 0 1 = cc in omega arith)
+        go false b h = (refl, h)
+
+    pub compares-both : {o′ : List ℕ} {r : Comparison} → Compares (difference v p q (length o)) o o′ r → Compares (compared v p q (length o)) o o′ r
+    unfolding equalityOf
+    compares-both d = rw (sym e, sym f, h) d
+
+-- ---- the refusals in their order
+
+module _ (v p q : List ℕ) (w : ℕ) (o : List ℕ) {m r : ℕ} (e : m ≡ inputRefusal v p q) (f : r ≡ orElse m (workRefusal w)) where
+  pub compares-refused : (r ≡ 0 → ⊥) → Compares (equality v p q w (length o)) o o (comparison.Refused r)
+  unfolding equality
+  compares-refused n = rw (sym (in-order v p q w o e f)) (go r n (compared v p q (length o)))
+    where
+      go : (r : ℕ) → (r ≡ 0 → ⊥) → (x : Outcome) → Compares (unless refuses r x) o o (comparison.Refused r)
+      go zero n x = absurd (n refl)
+      go (suc r) n x = record { answer = refl; output = outputs-none o }
+
+  pub compares : {o′ : List ℕ} {d : Comparison} → r ≡ 0 → Compares (compared v p q (length o)) o o′ d → Compares (equality v p q w (length o)) o o′ d
+  unfolding equality
+  compares z d = rw (sym (in-order v p q w o e f) ∙ z) d
+
+-- ---- the work slice afterwards
+
+module _ (N : ℕ) (K : Vocabulary) (P Q : Policy) (o : ℕ) where
+  compared-late : comesLate (equalityOf N K P Q o .answer) ≡ true
+  unfolding equalityOf
+  compared-late = go (tooMany K P Q || tooMany K Q P) (decide K P Q) (decide K Q P)
+    where
+      fits : (b : Bool) (side s q : ℕ) (words : List ℕ) → comesLate ((cond b (record { answer = differs side s q (length words); words = words }) (refuses 23)) .answer) ≡ true
+      fits true side s q words = refl
+      fits false side s q words = refl
+
+      go : (b : Bool) (d e : Decision) → comesLate (cond b (refuses 22) (reported N K o (differs 1) d (reported N K o (differs 2) e (says equal))) .answer) ≡ true
+      go true d e = refl
+      go false contained contained = refl
+      go false contained (escapes s q u) = fits (leb (length (countermodel N K u)) o) 2 s q (countermodel N K u)
+      go false (escapes s q u) e = fits (leb (length (countermodel N K u)) o) 1 s q (countermodel N K u)
+
+  pub compared-work : {w w₁ w₂ w₃ : List ℕ} {a : Answer} → Beyond w w₁ → Beyond w₁ w₂ → w₃ ≡ zeroed workSize w₂ → a ≡ equalityOf N K P Q o .answer → w₃ ≡ workAfter a w
+  unfolding workAfter
+  compared-work b c z e = rw (ap comesLate e ∙ compared-late) (z ∙ zeroed-beyond (beyond-then b c))
+
+-- ---- demand 3
+
+module _ (v p q o o′ : List ℕ) where
+  abbrev K : Vocabulary
+  K = vocabularyOf v
+
+  right : (r : Comparison) (x : Outcome) → Compared (classCount v) K (policyOf p) (policyOf q) (length o) x → comparisonAnswer r ≡ x .answer → o′ ≡ outputAfter (x .words) o →
+      RightComparison v p q o′ r
+  right comparison.Equal x (same h) a d = λ M proper s i j. h _ proper s i j
+  right comparison.Equal x (unsaidComparison n) a d = absurd (let z : _≡_ {A = ℕ} 0 1 = cc in omega arith)
+  right comparison.Equal x (side1 s k words h l) a d = absurd (let z : _≡_ {A = ℕ} 0 1 = cc in omega arith)
+  right comparison.Equal x (side2 s k words c h l) a d = absurd (let z : _≡_ {A = ℕ} 0 1 = cc in omega arith)
+  right (comparison.Differs side s c n) x (same h) a d = absurd (let z : _≡_ {A = ℕ} 0 1 = cc in omega arith)
+  right (comparison.Differs side s c n) x (unsaidComparison m) a d = absurd (let z : _≡_ {A = ℕ} 0 1 = cc in omega arith)
+  right (comparison.Differs side s c n) x (side1 i k words h l) a d =
+      let m : n ≡ length words = cc in
+      let y : side ≡ 1 = cc in
+      let t = taken v p q o o′ words n m d in (
+        inl (y, subst₂ (λ (j : ℕ) (F : List Fact). Refutes K (policyOf p) (policyOf q) j F) (ap individualCount t) (ap factsOf t) (h .refutes)),
+        λ g. no-escape (tested-finite K (policyOf p) (policyOf q) (λ M proper s d e. g M proper s d e .0)) h,
+      )
+  right (comparison.Differs side s c n) x (side2 i k words b h l) a d =
+      let m : n ≡ length words = cc in
+      let y : side ≡ 2 = cc in
+      let t = taken v p q o o′ words n m d in (
+        inr (y, subst₂ (λ (j : ℕ) (F : List Fact). Refutes K (policyOf q) (policyOf p) j F) (ap individualCount t) (ap factsOf t) (h .refutes)),
+        λ g. no-escape (tested-finite K (policyOf q) (policyOf p) (λ M proper s d e. g M proper s d e .1)) h,
+      )
+  right (comparison.Refused m) x t a d = tt
+
+  pub compares-right : (w : ℕ) {r : Comparison} → Compares (equality v p q w (length o)) o o′ r → RightComparison v p q o′ r
+  compares-right w {r} d = right r (equality v p q w (length o)) (equality-compared v p q w (length o)) (d .answer) (d .output)

@@ -1,0 +1,76 @@
+use lib.ListN.{length}
+use native.Mathlib.Omega.{arith}
+use borrow.Author.Needs.{needs}
+use Rattle.containment.proofs.Comparing.{compared-work, compares, compares-refused, compares-right}
+use Rattle.containment.proofs.Complying.{complies-accepted, complies-few, complies-full}
+use Rattle.containment.proofs.Laws.{early-work}
+use Rattle.containment.proofs.equality.Statement.{statement}
+use Rattle.containment.proofs.equality.Tie as tie
+
+returns : tie.Need-returns
+returns c =
+    let a = c .before .before .before .before .before .before .before .before .before .args in
+    let w = length (a .work .now) in
+    let e = c .before .before .before .input-refusal .ensures in
+    let f = c .before .work-refusal .ensures in
+    let d = compares-refused (a .v .now) (a .p .now) (a .q .now) w (a .out .now) e f (c .if1 .taken) in
+    (d .answer, (d .output, (early-work _ _ (complies-few (a .v .now) (a .p .now) (a .q .now) w (a .out .now) e f), tt)))
+
+prepare-requires : tie.Need-prepare-requires
+prepare-requires c κs =
+    let a = c .before .before .before .before .before .before .before .before .before .before .args in
+    let w = length (a .work .now) in
+    let e = c .before .before .before .before .input-refusal .ensures in
+    let f = c .before .before .work-refusal .ensures in (
+      complies-accepted (a .v .now) (a .p .now) (a .q .now) w (a .out .now) e f (c .before .if1 .left) .vocabulary,
+      complies-full (a .v .now) (a .p .now) (a .q .now) w (a .out .now) e f (c .before .if1 .left),
+    )
+
+compare-requires : tie.Need-compare-requires
+compare-requires c κs =
+    let a = c .before .before .before .before .before .before .before .before .before .before .before .before .before .before .before .args in
+    let w = length (a .work .now) in
+    let e = c .before .before .before .before .before .before .before .before .before .input-refusal .ensures in
+    let f = c .before .before .before .before .before .before .before .work-refusal .ensures in
+    let d = complies-accepted (a .v .now) (a .p .now) (a .q .now) w (a .out .now) e f (c .before .before .before .before .before .before .if1 .left) in
+    let l = complies-full (a .v .now) (a .p .now) (a .q .now) w (a .out .now) e f (c .before .before .before .before .before .before .if1 .left) in
+    let s = c .before .before .before .before .prepare .ensures .1 .size in
+    record { prepared = c .before .before .before .before .prepare .ensures .0; full = omega arith; first = d .firstPolicy; second = d .secondPolicy }
+
+clear-requires : tie.Need-clear-requires
+clear-requires c κs =
+    let a = c .before .before .before .before .before .before .before .before .before .before .before .before .before .before .before .before .before .before .before .before .before .args in
+    let s = c .before .before .before .before .before .before .before .before .before .before .prepare .ensures .1 .size in
+    let t = c .before .before .before .before .before .compare .ensures .1 .0 .size in
+    omega (arith, complies-full (a .v .now) (a .p .now) (a .q .now) (length (a .work .now)) (a .out .now) (c .before .before .before .before .before .before .before .before .before .before .before .before .before .before .before .input-refusal .ensures) (c .before .before .before .before .before .before .before .before .before .before .before .before .before .work-refusal .ensures) (c .before .before .before .before .before .before .before .before .before .before .before .before .if1 .left))
+
+returns-2 : tie.Need-returns-2
+returns-2 c =
+    let a = c .before .before .before .before .before .before .before .before .before .before .before .before .before .before .before .before .before .before .before .before .before .before .before .before .args in
+    let w = length (a .work .now) in
+    let s = c .before .before .before .before .before .before .before .before .compare .ensures in
+    let d = compares (a .v .now) (a .p .now) (a .q .now) w (a .out .now) (c .before .before .before .before .before .before .before .before .before .before .before .before .before .before .before .before .before .before .input-refusal .ensures) (c .before .before .before .before .before .before .before .before .before .before .before .before .before .before .before .before .work-refusal .ensures) (c .before .before .before .before .before .before .before .before .before .before .before .before .before .before .before .if1 .left) (s .0) in (
+      d .answer,
+      (
+        d .output,
+        (
+          compared-work _ _ _ _ _ (c .before .before .before .before .before .before .before .before .before .before .before .before .before .prepare .ensures .1) (s .1 .0) (c .before .before .clear .ensures) (s .0 .answer),
+          compares-right (a .v .now) (a .p .now) (a .q .now) (a .out .now) _ w d,
+        ),
+      ),
+    )
+
+pub equality-spec : {M : Type 1} → statement M
+equality-spec =
+    tie.close
+    (tie.spec
+    (λ c κs. search needs)
+    (λ c κs. search needs)
+    (λ c. search needs)
+    returns
+    prepare-requires
+    compare-requires
+    clear-requires
+    (λ c. search needs)
+    (λ c. c .before .before .before .before .before .before .before .before .compare .ensures .1 .1)
+    returns-2)
