@@ -1,0 +1,144 @@
+#!/usr/bin/env python3
+"""examples.py PROGRAM: the consent desk's examples through the program, against the output stored in tests/examples.
+
+Document 01, "The consent desk's examples": those that go through the program, the starred ones (which are also proved) and the
+rest. Each case is a vocabulary and two policies; what the program must print stands in tests/examples/NAME.txt, written by hand
+from the paper. A case with no stored output, or a stored output with no case, is a failure.
+"""
+import os
+import struct
+import subprocess
+import sys
+
+HERE = os.path.join(os.path.dirname(os.path.abspath(__file__)), 'examples')
+
+
+def chained(records, width):
+    """The records of a table, each linked to the next."""
+    words = []
+    for i, record in enumerate(records):
+        words += list(record) + [i + 2 if i + 1 < len(records) else 0]
+        assert len(record) + 1 == width
+    return words
+
+
+def vocabulary(classes, roles, features, axioms=()):
+    return [classes, roles, features, 1 if axioms else 0] + chained(axioms, 4)
+
+
+def policy(*terms):
+    """Terms are lists of conjuncts: ('class', a), ('never',), ('some', r, conjuncts), ('span', f, lo, hi)."""
+    table = []
+
+    def chain(entries):
+        """Writes the entries one behind another, each followed by its child chain; the first one's number, 0 for none."""
+        numbers = []
+        for kind, a, lo, hi, inner in entries:
+            table.append([kind, a, lo, hi, 0, 0])
+            number = len(table)
+            numbers.append(number)
+            table[number - 1][4] = chain(inner)
+        for number, following in zip(numbers, numbers[1:]):
+            table[number - 1][5] = following
+        return numbers[0] if numbers else 0
+
+    def conjunct(c):
+        if c[0] == 'class':
+            return (1, c[1], 0, 0, [])
+        if c[0] == 'never':
+            return (2, 0, 0, 0, [])
+        if c[0] == 'some':
+            return (3, c[1], 0, 0, [conjunct(x) for x in c[2]])
+        return (4, c[1], c[2], c[3], [])
+
+    first = chain([(5, 0, 0, 0, [conjunct(c) for c in term]) for term in terms])
+    return [first, 0, 0, 0, 0, 0] + [word for record in table for word in record]
+
+
+def nested(depth):
+    """A conjunct at each depth from 1 to depth."""
+    inner = [('class', 1)]
+    for _ in range(depth - 1):
+        inner = [('some', 1, inner)]
+    return inner
+
+
+DESK = vocabulary(4, 3, 1, [
+    (1, 2, 1), (1, 4, 1), (1, 4, 3), (2, 1, 3), (3, 1, 0), (3, 2, 0), (4, 1, 0), (5, 3, 1)])
+LOOSE = vocabulary(1, 1, 1)
+
+
+def role(r, *inner):
+    return ('some', r, list(inner))
+
+
+def span(lo, hi, f=1):
+    return ('span', f, lo, hi)
+
+
+def features(n):
+    return vocabulary(1, 0, n), policy([span(0, 1, f) for f in range(1, n + 1)]), policy()
+
+
+ANY = policy([])
+NONE = policy()
+R1_1, R1_2 = policy([role(1, ('class', 1))]), policy([role(1, ('class', 2))])
+
+CASES = {
+    'r1_2_in_r1_1': (DESK, R1_2, R1_1),
+    'r1_1_in_r1_2': (DESK, R1_1, R1_2),
+    'r1_1_with_r1_3': (DESK, policy([role(1, ('class', 1)), role(1, ('class', 3))]), NONE),
+    'class_4': (DESK, policy([('class', 4)]), NONE),
+    'range': (DESK, policy([role(3)]), policy([role(3, ('class', 1))])),
+    'two_halves': (DESK, policy([span(0, 9)]), policy([span(0, 4)], [span(5, 9)])),
+    'a_hole': (DESK, policy([span(0, 9)]), policy([span(0, 4)], [span(6, 9)])),
+    'five_pieces': (DESK, policy([span(1, 9)]), policy([span(5, 12)])),
+    'apart': (DESK, policy([span(0, 4), span(6, 9)]), NONE),
+    'apart_but_not_functional': (LOOSE, policy([span(0, 4), span(6, 9)]), NONE),
+    'no_simple_policy': (DESK, NONE, R1_1),
+    'only_an_empty_term': (DESK, R1_1, ANY),
+    'all_individuals': (DESK, ANY, NONE),
+    'features_16': features(16),
+    'features_17': features(17),
+    'classes_256': (vocabulary(256, 0, 0), policy([('class', 256)]), policy([('class', 255)])),
+    'classes_257': (vocabulary(257, 0, 0), policy([('class', 256)]), policy([('class', 255)])),
+    'depth_16': (LOOSE, policy(nested(16)), policy(nested(16))),
+    'depth_17': (LOOSE, policy(nested(17)), policy(nested(16))),
+    'depth_17_in_the_second': (LOOSE, policy(nested(16)), policy(nested(17))),
+}
+
+
+def encoded(case):
+    return b''.join(struct.pack('<%dI' % (len(part) + 1), len(part), *part) for part in case)
+
+
+def inputs():
+    for name, case in CASES.items():
+        yield name, encoded(case)
+    whole = encoded(CASES['r1_2_in_r1_1'])
+    yield 'empty_input', b''
+    yield 'cut_short', whole[:-1]
+    yield 'followed_by_more', whole + b'\0'
+    yield 'longest_input', struct.pack('<I', 16381) + bytes(65532)
+    yield 'longer_than_the_longest', struct.pack('<I', 16381) + bytes(65533)
+
+
+def main():
+    program, failed, seen = sys.argv[1], 0, set()
+    for name, data in inputs():
+        seen.add(name + '.txt')
+        printed = subprocess.run([program], input=data, stdout=subprocess.PIPE, check=True).stdout
+        with open(os.path.join(HERE, name + '.txt'), 'rb') as stored:
+            wanted = stored.read()
+        if printed != wanted:
+            failed += 1
+            print('%s: printed %r, wanted %r' % (name, printed[:200], wanted[:200]))
+    for name in sorted(set(os.listdir(HERE)) - seen):
+        failed += 1
+        print('%s: no such case' % name)
+    print('%d examples through the program, %d failed' % (len(seen), failed))
+    sys.exit(1 if failed else 0)
+
+
+if __name__ == '__main__':
+    main()
