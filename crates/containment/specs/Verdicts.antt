@@ -4,12 +4,13 @@ use mathlib.Core.Bool.{false}
 use mathlib.Core.List.{List}
 use mathlib.Core.Logic.{_⊎_}
 use mathlib.Core.Path.{_≡_}
-use lib.ListN.{take}
+use lib.ListN.{length, take}
 use Rattle.meaning.specs.Answers.{Answer, accepted, answeredNo, answeredYes, comparisonAnswer, compliant, differs, equal}
-use Rattle.meaning.specs.Answers.{firstPossible, nonePossible, outside, refused}
+use Rattle.meaning.specs.Answers.{firstPossible, nonePossible, outside, refused, verdictAnswer}
 use Rattle.meaning.specs.Containment.{ContainedTested, IndistinctTested, Refutes, decide, tooMany}
 use Rattle.meaning.specs.ModelCheck.{factsOf, individualCount}
-use Rattle.meaning.specs.Operations.{Outcome, complianceOf, equalityOf, outputAfter, reported, says}
+use Rattle.meaning.specs.Operations.{Outcome, compliance, complianceOf, equality, equalityOf, outputAfter}
+use Rattle.meaning.specs.Operations.{reported, says, workAfter}
 use Rattle.meaning.specs.Policy.{policyOf}
 use Rattle.meaning.specs.Vocabulary.{classCount, vocabularyOf}
 use Rattle.meaning.specs.declared.Comparison.the-variants as comparison
@@ -32,6 +33,14 @@ Right v p q o (verdict.Outside s c n) =
     Refutes (vocabularyOf v) (policyOf p) (policyOf q) (individualCount (take n o)) (factsOf (take n o))
     × (ContainedTested (vocabularyOf v) (policyOf p) (policyOf q) → ⊥)
 Right v p q o (verdict.Refused n) = Unit {0}
+
+-- what Compliance leaves behind, whatever its five slices held: the definition's answer, its words in the output and nothing else, the
+-- work slice as the answer has it; and the answer is right
+pub record Complied (v p q w w′ o o′ : List ℕ) (r : Verdict) : Type 0 where
+  pub answer : verdictAnswer r ≡ compliance v p q (length w) (length o) .answer
+  pub output : o′ ≡ outputAfter (compliance v p q (length w) (length o) .words) o
+  pub work : w′ ≡ workAfter (verdictAnswer r) w
+  pub right : Right v p q o′ r
 
 -- ---- Equality
 
@@ -84,3 +93,10 @@ RightComparison v p q o comparison.Equal = IndistinctTested (vocabularyOf v) (po
 RightComparison v p q o (comparison.Differs side s c n) =
     Differing v p q (take n o) side × (IndistinctTested (vocabularyOf v) (policyOf p) (policyOf q) → ⊥)
 RightComparison v p q o (comparison.Refused n) = Unit {0}
+
+-- what Equality leaves behind
+pub record Equated (v p q w w′ o o′ : List ℕ) (r : Comparison) : Type 0 where
+  pub answer : comparisonAnswer r ≡ equality v p q (length w) (length o) .answer
+  pub output : o′ ≡ outputAfter (equality v p q (length w) (length o) .words) o
+  pub work : w′ ≡ workAfter (comparisonAnswer r) w
+  pub right : RightComparison v p q o′ r

@@ -15,10 +15,10 @@ use workspace::work_refusal;
 ghost use mathlib.Core.Path.{_≡_};
 ghost use Prim.Native.Nat.{_≤_};
 ghost use lib.ListN.{length};
-ghost use Rattle.containment.specs.Verdicts.{BothEnds, Compares, Few, Right, RightComparison, compared, difference, settled, sidedAnswer};
+ghost use Rattle.containment.specs.Verdicts.{BothEnds, Compares, Complied, Equated, Few, compared, difference, settled, sidedAnswer};
 ghost use Rattle.decision.specs.Decisions.{Delivers, Ready};
 ghost use Rattle.meaning.specs.Answers.{comparisonAnswer, possibilityAnswer, verdictAnswer};
-ghost use Rattle.meaning.specs.Operations.{compliance, equality, outputAfter, possibility, possibleFrom, workAfter, workSize};
+ghost use Rattle.meaning.specs.Operations.{possibility, possibleFrom, workAfter, workSize};
 ghost use Rattle.meaning.specs.Policy.{policyOf, policyRefusal};
 ghost use Rattle.meaning.specs.Vocabulary.{vocabularyOf};
 ghost use Rattle.normal_form.specs.Tables.{Prepared};
@@ -88,10 +88,7 @@ pub fn possible(v: &[u32], p: &[u32], work: &mut [u32]) -> Possibility
 // Compliance: the refusals of the vocabulary, the first policy and the second, 21, 22, then the verdict, and 23 where a countermodel
 // does not fit. Time grows with the vocabulary's records times its classes, with both policies' records, and with the combinations.
 pub fn compliance(v: &[u32], p: &[u32], q: &[u32], work: &mut [u32], out: &mut [u32]) -> Verdict
-    ensures { λ r. ⌜ verdictAnswer r ≡ compliance (now (v .entry)) (now (p .entry)) (now (q .entry)) (length (now (work .entry))) (length (now (out .entry))) .answer ⌝ }
-    ensures { λ _. ⌜ now (out .exit) ≡ outputAfter (compliance (now (v .entry)) (now (p .entry)) (now (q .entry)) (length (now (work .entry))) (length (now (out .entry))) .words) (now (out .entry)) ⌝ }
-    ensures { λ r. ⌜ now (work .exit) ≡ workAfter (verdictAnswer r) (now (work .entry)) ⌝ }
-    ensures { λ r. ⌜ Right (now (v .entry)) (now (p .entry)) (now (q .entry)) (now (out .exit)) r ⌝ }
+    ensures { λ r. ⌜ Complied (now (v .entry)) (now (p .entry)) (now (q .entry)) (now (work .entry)) (now (work .exit)) (now (out .entry)) (now (out .exit)) r ⌝ }
 {
     let refusal = work_refusal(policy::input_refusal(v, p, q), work);
     if refusal != 0 {
@@ -167,10 +164,7 @@ fn compare(
 // Equality: the same refusals in the same order, 22 for both directions; then the first direction's difference, the second's, or
 // equal. Time grows as that of two calls of Compliance.
 pub fn equality(v: &[u32], p: &[u32], q: &[u32], work: &mut [u32], out: &mut [u32]) -> Comparison
-    ensures { λ r. ⌜ comparisonAnswer r ≡ equality (now (v .entry)) (now (p .entry)) (now (q .entry)) (length (now (work .entry))) (length (now (out .entry))) .answer ⌝ }
-    ensures { λ _. ⌜ now (out .exit) ≡ outputAfter (equality (now (v .entry)) (now (p .entry)) (now (q .entry)) (length (now (work .entry))) (length (now (out .entry))) .words) (now (out .entry)) ⌝ }
-    ensures { λ r. ⌜ now (work .exit) ≡ workAfter (comparisonAnswer r) (now (work .entry)) ⌝ }
-    ensures { λ r. ⌜ RightComparison (now (v .entry)) (now (p .entry)) (now (q .entry)) (now (out .exit)) r ⌝ }
+    ensures { λ r. ⌜ Equated (now (v .entry)) (now (p .entry)) (now (q .entry)) (now (work .entry)) (now (work .exit)) (now (out .entry)) (now (out .exit)) r ⌝ }
 {
     let refusal = work_refusal(policy::input_refusal(v, p, q), work);
     if refusal != 0 {

@@ -13,7 +13,7 @@ returns c =
     let e = c .before .before .before .input-refusal .ensures in
     let f = c .before .work-refusal .ensures in
     let d = complies-refused (a .v .now) (a .p .now) (a .q .now) w (a .out .now) e f (c .if1 .taken) in
-    (d .answer, (d .output, (early-work _ _ (complies-few (a .v .now) (a .p .now) (a .q .now) w (a .out .now) e f), tt)))
+    record { answer = d .answer; output = d .output; work = early-work _ _ (complies-few (a .v .now) (a .p .now) (a .q .now) w (a .out .now) e f); right = tt }
 
 prepare-requires : tie.Need-prepare-requires
 prepare-requires c κs =
@@ -48,16 +48,13 @@ returns-2 c =
     let a = c .before .before .before .before .before .before .before .before .before .before .before .before .before .before .before .before .before .before .before .before .before .before .before .before .args in
     let w = length (a .work .now) in
     let s = c .before .before .before .before .before .before .before .before .settle .ensures in
-    let d = complies (a .v .now) (a .p .now) (a .q .now) w (a .out .now) (c .before .before .before .before .before .before .before .before .before .before .before .before .before .before .before .before .before .before .input-refusal .ensures) (c .before .before .before .before .before .before .before .before .before .before .before .before .before .before .before .before .work-refusal .ensures) (c .before .before .before .before .before .before .before .before .before .before .before .before .before .before .before .if1 .left) (s .0) in (
-      d .answer,
-      (
-        d .output,
-        (
-          complied-work _ _ _ _ _ (c .before .before .before .before .before .before .before .before .before .before .before .before .before .prepare .ensures .1) (s .1 .0) (c .before .before .clear .ensures) (s .0 .answer),
-          complies-right (a .v .now) (a .p .now) (a .q .now) (a .out .now) _ w d,
-        ),
-      ),
-    )
+    let d = complies (a .v .now) (a .p .now) (a .q .now) w (a .out .now) (c .before .before .before .before .before .before .before .before .before .before .before .before .before .before .before .before .before .before .input-refusal .ensures) (c .before .before .before .before .before .before .before .before .before .before .before .before .before .before .before .before .work-refusal .ensures) (c .before .before .before .before .before .before .before .before .before .before .before .before .before .before .before .if1 .left) (s .0) in
+    record {
+      answer = d .answer;
+      output = d .output;
+      work = complied-work _ _ _ _ _ (c .before .before .before .before .before .before .before .before .before .before .before .before .before .prepare .ensures .1) (s .1 .0) (c .before .before .clear .ensures) (s .0 .answer);
+      right = complies-right (a .v .now) (a .p .now) (a .q .now) (a .out .now) _ w d;
+    }
 
 pub compliance-spec : {M : Type 1} → statement M
 compliance-spec =

@@ -40,4 +40,4 @@ decide-words-spec =
     let start = tested .before .before .before .before .before in
     words-shown _ (start .args .words .now) (sym (tested .before .is-exact .ensures) ∙ not-false _ (tested .if1 .left))
     (at .next-part .ensures .0) (behind .next-part2 .ensures .0) (first .part .ensures) (second .part2 .ensures) (third .part3 .ensures)
-    (start .pre .1) (start .pre .2) _ (told .0) _ _ (told .1 .0)))
+    (start .pre .1) (start .pre .2) _ (told .answer) _ _ (told .output)))
