@@ -1,0 +1,36 @@
+use Prim.Native.Nat.{_-_, ℕ, _≤_}
+use mathlib.Core.Path.{subst}
+use native.Mathlib.Omega.{arith}
+use borrow.Author.Needs.{needs}
+use Rattle.model_check.proofs.Rows.{emptied-more, emptied-none}
+use Rattle.model_check.proofs.empty.Statement.{statement}
+use Rattle.model_check.proofs.empty.Tie as tie
+use Rattle.model_check.specs.Places.{Emptied}
+
+abbrev Inv-loop : tie.InvT-loop
+Inv-loop work₀ at n i₀ work i = (i ≤ n) × Emptied at i work₀ work
+
+abbrev μ-loop : tie.MeasureT-loop
+μ-loop work₀ at n i₀ work i = n - i
+
+returns : tie.Need-returns Inv-loop μ-loop
+returns c =
+    let args = c .before .before .args in
+    let loop = c .before .loop in
+    subst (λ (k : ℕ). Emptied (args .at) k (args .work .now) (loop .work)) (omega arith) (loop .inv .1)
+
+pub empty-spec : {M : Type 1} → statement M
+empty-spec =
+    tie.close
+    (tie.spec
+    Inv-loop
+    μ-loop
+    (λ c. (search needs, emptied-none))
+    (λ c. search needs)
+    (λ c. search needs)
+    (λ c. let s = c .before .loop .inv .1 .only .size in omega arith)
+    (λ c. search needs)
+    (λ c. search needs)
+    (λ c. (search needs, emptied-more (omega arith) (c .before .loop .inv .1)))
+    (λ c. c .before .loop .inv .1 .only .size)
+    returns)

@@ -1,0 +1,4 @@
+-- What Model check keeps in the work slice, and the tests that it puts together.
+pub mod Places
+pub mod Sets
+pub mod Links
