@@ -26,9 +26,11 @@ pub mod ModelWords
 pub mod Terms
 pub mod Wellformed
 pub mod Bounds
+pub mod Sizes
 pub mod Refusals
 pub mod Possible
 pub mod Compliance
 pub mod Equality
 pub mod Checking
+pub mod Written
 pub mod Unreached

@@ -1,0 +1,226 @@
+// The operations for C: gimbuka.h says how each is called. A function returns the kind of answer and writes the answer's values through
+// references. Kind 0 is a refusal, with its number.
+use containment::compliance;
+use containment::equality;
+use containment::possible;
+use meaning::Checked;
+use meaning::Comparison;
+use meaning::Possibility;
+use meaning::Reading;
+use meaning::Verdict;
+use model_check::model_check;
+use policy::read_policy;
+use policy::read_second_policy;
+use vocabulary::read_vocabulary;
+ghost use mathlib.Core.Path.{_≡_};
+ghost use lib.ListN.{length};
+ghost use Rattle.exports.specs.Codes.{Coded, CodedComparison, CodedVerdict};
+ghost use Rattle.meaning.specs.Answers.{checkedAnswer, comparisonAnswer, possibilityAnswer, readingAnswer, verdictAnswer};
+ghost use Rattle.meaning.specs.Operations.{compliance, equality, modelCheck, outputAfter, possibility, readPolicy, readSecondPolicy};
+ghost use Rattle.meaning.specs.Operations.{readVocabulary, workAfter};
+
+fn reading(r: Reading, number: &mut u32) -> u32
+    ensures { λ k. ⌜ Coded (readingAnswer r) k (now (number .exit)) ⌝ }
+{
+    match r {
+        Reading::Accepted => {
+            *number = 0;
+            1
+        }
+        Reading::Refused(n) => {
+            *number = n;
+            0
+        }
+    }
+}
+
+fn possibility(r: Possibility, number: &mut u32) -> u32
+    ensures { λ k. ⌜ Coded (possibilityAnswer r) k (now (number .exit)) ⌝ }
+{
+    match r {
+        Possibility::Possible(s) => {
+            *number = s;
+            1
+        }
+        Possibility::Impossible => {
+            *number = 0;
+            2
+        }
+        Possibility::Refused(n) => {
+            *number = n;
+            0
+        }
+    }
+}
+
+fn verdict(r: Verdict, number: &mut u32, combination: &mut u32, words: &mut usize) -> u32
+    ensures { λ k. ⌜ CodedVerdict (verdictAnswer r) k (now (number .exit)) (now (combination .exit)) (now (words .exit)) ⌝ }
+{
+    match r {
+        Verdict::Compliant => {
+            *number = 0;
+            *combination = 0;
+            *words = 0;
+            1
+        }
+        Verdict::Outside(s, q, n) => {
+            *number = s;
+            *combination = q;
+            *words = n;
+            2
+        }
+        Verdict::Refused(n) => {
+            *number = n;
+            *combination = 0;
+            *words = 0;
+            0
+        }
+    }
+}
+
+fn comparison(
+    r: Comparison,
+    number: &mut u32,
+    term: &mut u32,
+    combination: &mut u32,
+    words: &mut usize,
+) -> u32
+    ensures { λ k. ⌜ CodedComparison (comparisonAnswer r) k (now (number .exit)) (now (term .exit)) (now (combination .exit)) (now (words .exit)) ⌝ }
+{
+    match r {
+        Comparison::Equal => {
+            *number = 0;
+            *term = 0;
+            *combination = 0;
+            *words = 0;
+            1
+        }
+        Comparison::Differs(side, s, q, n) => {
+            *number = side;
+            *term = s;
+            *combination = q;
+            *words = n;
+            2
+        }
+        Comparison::Refused(n) => {
+            *number = n;
+            *term = 0;
+            *combination = 0;
+            *words = 0;
+            0
+        }
+    }
+}
+
+fn checked(r: Checked, number: &mut u32) -> u32
+    ensures { λ k. ⌜ Coded (checkedAnswer r) k (now (number .exit)) ⌝ }
+{
+    match r {
+        Checked::Yes => {
+            *number = 0;
+            1
+        }
+        Checked::No => {
+            *number = 0;
+            2
+        }
+        Checked::Refused(n) => {
+            *number = n;
+            0
+        }
+    }
+}
+
+// Read vocabulary: 1 accepted.
+#[no_mangle]
+pub extern "C" fn gimbuka_read_vocabulary(v: &[u32], number: &mut u32) -> u32
+    ensures { λ k. ⌜ Coded (readVocabulary (now (v .entry))) k (now (number .exit)) ⌝ }
+{
+    reading(read_vocabulary(v), number)
+}
+
+// Read policy: 1 accepted.
+#[no_mangle]
+pub extern "C" fn gimbuka_read_policy(v: &[u32], p: &[u32], number: &mut u32) -> u32
+    ensures { λ k. ⌜ Coded (readPolicy (now (v .entry)) (now (p .entry))) k (now (number .exit)) ⌝ }
+{
+    reading(read_policy(v, p), number)
+}
+
+// The same with the numbers of a second policy.
+#[no_mangle]
+pub extern "C" fn gimbuka_read_second_policy(v: &[u32], q: &[u32], number: &mut u32) -> u32
+    ensures { λ k. ⌜ Coded (readSecondPolicy (now (v .entry)) (now (q .entry))) k (now (number .exit)) ⌝ }
+{
+    reading(read_second_policy(v, q), number)
+}
+
+// Possible: 1 with the first possible simple policy, 2 impossible.
+#[no_mangle]
+pub extern "C" fn gimbuka_possible(v: &[u32], p: &[u32], work: &mut [u32], number: &mut u32) -> u32
+    ensures { λ k. ⌜ Coded (possibility (now (v .entry)) (now (p .entry)) (length (now (work .entry)))) k (now (number .exit)) ⌝ }
+    ensures { λ _. ⌜ now (work .exit) ≡ workAfter (possibility (now (v .entry)) (now (p .entry)) (length (now (work .entry)))) (now (work .entry)) ⌝ }
+{
+    possibility(possible(v, p, work), number)
+}
+
+// Compliance: 1 compliant; 2 outside, with simple policy, combination and the words written.
+#[no_mangle]
+pub extern "C" fn gimbuka_compliance(
+    v: &[u32],
+    p: &[u32],
+    q: &[u32],
+    work: &mut [u32],
+    out: &mut [u32],
+    number: &mut u32,
+    combination: &mut u32,
+    words: &mut usize,
+) -> u32
+    ensures { λ k. ⌜ CodedVerdict (compliance (now (v .entry)) (now (p .entry)) (now (q .entry)) (length (now (work .entry))) (length (now (out .entry))) .answer) k (now (number .exit)) (now (combination .exit)) (now (words .exit)) ⌝ }
+    ensures { λ _. ⌜ now (work .exit) ≡ workAfter (compliance (now (v .entry)) (now (p .entry)) (now (q .entry)) (length (now (work .entry))) (length (now (out .entry))) .answer) (now (work .entry)) ⌝ }
+    ensures { λ _. ⌜ now (out .exit) ≡ outputAfter (compliance (now (v .entry)) (now (p .entry)) (now (q .entry)) (length (now (work .entry))) (length (now (out .entry))) .words) (now (out .entry)) ⌝ }
+{
+    verdict(compliance(v, p, q, work, out), number, combination, words)
+}
+
+// Equality: 1 equal; 2 different, with side, simple policy, combination and the words written.
+#[no_mangle]
+pub extern "C" fn gimbuka_equality(
+    v: &[u32],
+    p: &[u32],
+    q: &[u32],
+    work: &mut [u32],
+    out: &mut [u32],
+    number: &mut u32,
+    term: &mut u32,
+    combination: &mut u32,
+    words: &mut usize,
+) -> u32
+    ensures { λ k. ⌜ CodedComparison (equality (now (v .entry)) (now (p .entry)) (now (q .entry)) (length (now (work .entry))) (length (now (out .entry))) .answer) k (now (number .exit)) (now (term .exit)) (now (combination .exit)) (now (words .exit)) ⌝ }
+    ensures { λ _. ⌜ now (work .exit) ≡ workAfter (equality (now (v .entry)) (now (p .entry)) (now (q .entry)) (length (now (work .entry))) (length (now (out .entry))) .answer) (now (work .entry)) ⌝ }
+    ensures { λ _. ⌜ now (out .exit) ≡ outputAfter (equality (now (v .entry)) (now (p .entry)) (now (q .entry)) (length (now (work .entry))) (length (now (out .entry))) .words) (now (out .entry)) ⌝ }
+{
+    comparison(
+        equality(v, p, q, work, out),
+        number,
+        term,
+        combination,
+        words,
+    )
+}
+
+// Model check: 1 yes, 2 no.
+#[no_mangle]
+pub extern "C" fn gimbuka_model_check(
+    v: &[u32],
+    p: &[u32],
+    q: &[u32],
+    m: &[u32],
+    work: &mut [u32],
+    number: &mut u32,
+) -> u32
+    ensures { λ k. ⌜ Coded (modelCheck (now (v .entry)) (now (p .entry)) (now (q .entry)) (now (m .entry)) (length (now (work .entry)))) k (now (number .exit)) ⌝ }
+    ensures { λ _. ⌜ now (work .exit) ≡ workAfter (modelCheck (now (v .entry)) (now (p .entry)) (now (q .entry)) (now (m .entry)) (length (now (work .entry)))) (now (work .entry)) ⌝ }
+{
+    checked(model_check(v, p, q, m, work), number)
+}
