@@ -347,12 +347,11 @@ pub fn normalise(p: &[u32], work: &mut [u32], f: Functional, s: u32) -> Tables
 fn parts(v: &[u32], k: u32, s: ClassSet) -> bool
     ensures { λ r. ⌜ r ≡ parted (s .words) (axiomAt (now (v .entry)) k) ⌝ }
 {
-    let kind = axiom_kind(v, k);
-    let a = axiom_left(v, k);
-    let b = axiom_right(v, k);
-    if kind != 2 {
+    if axiom_kind(v, k) != 2 {
         return false;
     }
+    let a = axiom_left(v, k);
+    let b = axiom_right(v, k);
     s.has(ClassNo(a)) && s.has(ClassNo(b))
 }
 
