@@ -7,19 +7,23 @@ use native.Mathlib.Omega.{arith}
 use borrow.Author.Tests.{le-ltb, lt-ltb, ne-eqb, not-false, not-true}
 use lib.Dec.{eqb}
 use lib.ListN.{length}
+use Rattle.meaning.proofs.Checking.{check-judged}
 use Rattle.meaning.proofs.Refusals.{AcceptedInput, accepted-input, cond-all, or-few, policy-few, vocabulary-few}
 use Rattle.meaning.proofs.Terms.{Reads, reads-class, reads-end, reads-impossible, reads-interval, reads-some}
 use Rattle.meaning.proofs.Wellformed.{accepted}
-use Rattle.meaning.specs.Answers.{Answer, answeredNo, answeredYes, refused}
+use Rattle.meaning.specs.Answers.{Answer, answeredNo, answeredYes, checkedAnswer, refused}
 use Rattle.meaning.specs.Countermodel.{Fact}
 use Rattle.meaning.specs.ModelCheck.{factNext, factsOf, factsRefusal, firstFact, headedModel, holds, isIn, isModel, modelRefusal, refutes, soundFact}
 use Rattle.meaning.specs.Operations.{inputRefusal, modelCheck, unless, workAfter, workRefusal, workSize, zeroed}
 use Rattle.meaning.specs.Policy.{Chain, Policy, policyOf, policyRefusal, second}
+use Rattle.meaning.specs.Promises.{Judgement}
 use Rattle.meaning.specs.Records.{lastOf, orElse, sized}
 use Rattle.meaning.specs.Vocabulary.{Vocabulary, vocabularyOf, vocabularyRefusal}
+use Rattle.meaning.specs.declared.Checked.{Checked}
 use Rattle.model.proofs.Chain.{Readable}
 use Rattle.model_check.proofs.Rows.{only-beyond}
 use Rattle.model_check.proofs.Sets.{classed-kept}
+use Rattle.model_check.specs.Judging.{Judged}
 use Rattle.model_check.specs.Places.{Only, setOf, setsAt, setsSize, tablesSize, valuesAt}
 use Rattle.model_check.specs.Sets.{Charted, Classed, Everyone, Filled, Ready, Taken, conjunctsAt}
 use Rattle.words.specs.Sets.{inSet}
@@ -173,3 +177,8 @@ pub late-work : {w w₁ w₂ : List ℕ} (b : Bool) → Beyond w w₁ → w₂ �
 unfolding workAfter
 late-work true d z = z ∙ zeroed-beyond d
 late-work false d z = z ∙ zeroed-beyond d
+
+-- ---- what is left behind
+
+pub judged : {v p q m w w′ : List ℕ} {r : Checked} → checkedAnswer r ≡ modelCheck v p q m (length w) → w′ ≡ workAfter (checkedAnswer r) w → Judged v p q m w w′ r
+judged {v} {p} {q} {m} {w} e f = record { answer = e; work = f; right = subst (λ a. Judgement v p q m a) (sym e) (check-judged v p q m (length w)) }

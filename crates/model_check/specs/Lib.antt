@@ -2,3 +2,4 @@
 pub mod Places
 pub mod Sets
 pub mod Links
+pub mod Judging

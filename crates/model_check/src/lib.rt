@@ -38,13 +38,13 @@ ghost use Prim.Native.Nat.{_+_, _≤_};
 ghost use lib.ListN.{length};
 ghost use Rattle.meaning.proofs.Links.{Name};
 ghost use Rattle.meaning.proofs.Refusals.{AcceptedInput};
-ghost use Rattle.meaning.specs.Answers.{checkedAnswer};
 ghost use Rattle.meaning.specs.Lists.{all, any, counting};
 ghost use Rattle.meaning.specs.ModelCheck.{factAt, factsOf, isIn, isMember, isModel, modelRefusal, obeys, onEdge, refutes};
-ghost use Rattle.meaning.specs.Operations.{modelCheck, workAfter, workSize};
+ghost use Rattle.meaning.specs.Operations.{workSize};
 ghost use Rattle.meaning.specs.Policy.{nameOf, policyOf};
 ghost use Rattle.meaning.specs.Vocabulary.{axiomAt, range, vocabularyOf, vocabularyRefusal};
 ghost use Rattle.model.proofs.Chain.{Readable, Stated};
+ghost use Rattle.model_check.specs.Judging.{Judged};
 ghost use Rattle.model_check.specs.Links.{agrees, linkOf, linksOf, noted, single};
 ghost use Rattle.model_check.specs.Places.{classPlace, classesOf, Emptied, mostIndividuals, Only, putIn, setOf, setPlace, setsAt, setsSize};
 ghost use Rattle.model_check.specs.Places.{tablesSize, valuesAt};
@@ -460,8 +460,7 @@ fn does_refute(v: &[u32], p: &[u32], q: &[u32], m: &[u32], work: &mut [u32]) -> 
 
 // Model check: the refusals of the vocabulary, the policies and the model, 21, then the answer.
 pub fn model_check(v: &[u32], p: &[u32], q: &[u32], m: &[u32], work: &mut [u32]) -> Checked
-    ensures { λ r. ⌜ checkedAnswer r ≡ modelCheck (now (v .entry)) (now (p .entry)) (now (q .entry)) (now (m .entry)) (length (now (work .entry))) ⌝ }
-    ensures { λ r. ⌜ now (work .exit) ≡ workAfter (checkedAnswer r) (now (work .entry)) ⌝ }
+    ensures { λ r. ⌜ Judged (now (v .entry)) (now (p .entry)) (now (q .entry)) (now (m .entry)) (now (work .entry)) (now (work .exit)) r ⌝ }
 {
     let refusal = input_refusal(v, p, q);
     if refusal != 0 {
