@@ -1,0 +1,49 @@
+/* The operations for C. Link with libexports.a, which `rt staticlib exports` writes.
+ *
+ * A slice is a pointer and a number of elements. The pointer is aligned and not null, also where the number is 0. Slices and numbers
+ * that are written overlap nothing else that is lent. The words of a slice may be anything: an operation takes any contents and ends.
+ *
+ * A function returns the kind of its answer and writes the answer's values, 0 where it has none:
+ *
+ *   0  refused: *number is the refusal's number
+ *   1  accepted; possible (*number: the simple policy); compliant; equal; yes
+ *   2  impossible; outside (*number, *combination, *words); different (*number: the side, *term, *combination, *words); no
+ *
+ * work has at least 16384 words, else the answer is refused 21; afterwards its first 16384 words are 0, unless the call was refused with
+ * a number other than 22 and 23, which leaves them. out takes the countermodel: its first *words words; nothing else is written there.
+ */
+#ifndef GIMBUKA_H
+#define GIMBUKA_H
+
+#include <stddef.h>
+#include <stdint.h>
+
+#ifdef __cplusplus
+extern "C" {
+#endif
+
+uint32_t gimbuka_read_vocabulary(const uint32_t *v, size_t v_len, uint32_t *number);
+
+uint32_t gimbuka_read_policy(const uint32_t *v, size_t v_len, const uint32_t *p, size_t p_len, uint32_t *number);
+
+uint32_t gimbuka_read_second_policy(const uint32_t *v, size_t v_len, const uint32_t *q, size_t q_len, uint32_t *number);
+
+uint32_t gimbuka_possible(const uint32_t *v, size_t v_len, const uint32_t *p, size_t p_len, uint32_t *work, size_t work_len,
+                          uint32_t *number);
+
+uint32_t gimbuka_compliance(const uint32_t *v, size_t v_len, const uint32_t *p, size_t p_len, const uint32_t *q, size_t q_len,
+                            uint32_t *work, size_t work_len, uint32_t *out, size_t out_len, uint32_t *number,
+                            uint32_t *combination, size_t *words);
+
+uint32_t gimbuka_equality(const uint32_t *v, size_t v_len, const uint32_t *p, size_t p_len, const uint32_t *q, size_t q_len,
+                          uint32_t *work, size_t work_len, uint32_t *out, size_t out_len, uint32_t *number, uint32_t *term,
+                          uint32_t *combination, size_t *words);
+
+uint32_t gimbuka_model_check(const uint32_t *v, size_t v_len, const uint32_t *p, size_t p_len, const uint32_t *q, size_t q_len,
+                             const uint32_t *m, size_t m_len, uint32_t *work, size_t work_len, uint32_t *number);
+
+#ifdef __cplusplus
+}
+#endif
+
+#endif
