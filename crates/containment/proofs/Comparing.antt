@@ -7,9 +7,9 @@ use mathlib.Core.Path.{_∙_, _≡_, ap, refl, subst, subst₂, sym}
 use lib.Dec.{leb}
 use lib.ListN.{length}
 use native.Mathlib.Omega.{arith}
-use Rattle.containment.proofs.Complying.{in-order, taken}
+use Rattle.containment.proofs.Complying.{in-order}
 use Rattle.containment.specs.Verdicts.{Compares, Few, RightComparison, compared, difference, reverse, sidedAnswer}
-use Rattle.decision.proofs.Deciding.{outputs-none}
+use Rattle.decision.proofs.Deciding.{outputs-none, taken}
 use Rattle.decision.specs.Decisions.{Delivers, decision}
 use Rattle.meaning.proofs.Compliance.{no-escape}
 use Rattle.meaning.proofs.Equality.{equality-compared}
@@ -184,14 +184,14 @@ module _ (v p q o o′ : List ℕ) where
   right (comparison.Differs side s c n) x (side1 i k words h l) a d =
       let m : n ≡ length words = cc in
       let y : side ≡ 1 = cc in
-      let t = taken v p q o o′ words n m d in (
+      let t = taken words o n m d in (
         inl (y, subst₂ (λ (j : ℕ) (F : List Fact). Refutes K (policyOf p) (policyOf q) j F) (ap individualCount t) (ap factsOf t) (h .refutes)),
         λ g. no-escape (tested-finite K (policyOf p) (policyOf q) (λ M proper s d e. g M proper s d e .0)) h,
       )
   right (comparison.Differs side s c n) x (side2 i k words b h l) a d =
       let m : n ≡ length words = cc in
       let y : side ≡ 2 = cc in
-      let t = taken v p q o o′ words n m d in (
+      let t = taken words o n m d in (
         inr (y, subst₂ (λ (j : ℕ) (F : List Fact). Refutes K (policyOf q) (policyOf p) j F) (ap individualCount t) (ap factsOf t) (h .refutes)),
         λ g. no-escape (tested-finite K (policyOf q) (policyOf p) (λ M proper s d e. g M proper s d e .1)) h,
       )

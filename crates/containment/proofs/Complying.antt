@@ -1,14 +1,13 @@
 -- Laws of Compliance as an operation: the refusals in their order, the work slice afterwards, and demand 2.
-use Prim.Native.Nat.{_<_, _≤_, suc, zero, ℕ}
+use Prim.Native.Nat.{_≤_, suc, zero, ℕ}
 use mathlib.Core.Bool.{Bool, cond, false, true}
-use mathlib.Core.List.{List, [], _++_}
+use mathlib.Core.List.{List}
 use mathlib.Core.Path.{_∙_, _≡_, ap, refl, subst₂, sym}
 use lib.Dec.{leb}
-use lib.ListN.{drop, length, take}
-use lib.Seq.{take-at}
+use lib.ListN.{length}
 use native.Mathlib.Omega.{arith}
 use Rattle.containment.specs.Verdicts.{Right, settled}
-use Rattle.decision.proofs.Deciding.{outputs-none}
+use Rattle.decision.proofs.Deciding.{outputs-none, taken}
 use Rattle.decision.specs.Decisions.{Delivers, decision}
 use Rattle.meaning.proofs.Compliance.{compliance-told, no-escape}
 use Rattle.meaning.proofs.Interpretations.{tested-finite}
@@ -101,10 +100,6 @@ module _ (N : ℕ) (K : Vocabulary) (P Q : Policy) (o : ℕ) where
 -- ---- demand 2
 
 module _ (v p q o o′ : List ℕ) where
-  pub taken : (words : List ℕ) (n : ℕ) → n ≡ length words → o′ ≡ outputAfter words o → words ≡ take n o′
-  unfolding outputAfter
-  taken words n e d = sym (ap (take n) d ∙ take-at words (drop (length words) o) n (sym e))
-
   told : (r : Verdict) (x : Outcome) → Told (classCount v) (vocabularyOf v) (policyOf p) (policyOf q) (length o) x → verdictAnswer r ≡ x .answer → o′ ≡ outputAfter (x .words) o →
       Right v p q o′ r
   told verdict.Compliant x (agreed c) a d = λ M. c _
@@ -114,7 +109,7 @@ module _ (v p q o o′ : List ℕ) where
   told (verdict.Outside s c n) x (unsaidVerdict m) a d = absurd (let z : _≡_ {A = ℕ} 0 1 = cc in omega arith)
   told (verdict.Outside s c n) x (escaped i k words h l) a d =
       let m : n ≡ length words = cc in
-      let t = taken words n m d in
+      let t = taken words o n m d in
       (subst₂ (λ (j : ℕ) (F : List Fact). Refutes (vocabularyOf v) (policyOf p) (policyOf q) j F) (ap individualCount t) (ap factsOf t) (h .refutes), λ y. no-escape (tested-finite (vocabularyOf v) (policyOf p) (policyOf q) y) h)
   told (verdict.Refused m) x t a d = tt
 

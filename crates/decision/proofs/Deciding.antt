@@ -5,7 +5,8 @@ use mathlib.Core.List.{List, [], _∷_}
 use mathlib.Core.Logic.{_⊎_, inl, inr}
 use mathlib.Core.Path.{_∙_, _≡_, ap, refl, subst, sym}
 use lib.Dec.{ltb}
-use lib.ListN.{length}
+use lib.ListN.{drop, length, take}
+use lib.Seq.{take-at}
 use native.Mathlib.Omega.{arith}
 use borrow.Author.Tests.{le-leb, le-ltb, lt-leb, lt-ltb, ltb-false}
 use Rattle.combination.specs.Combination.{Combined}
@@ -18,11 +19,12 @@ use Rattle.meaning.proofs.ModelWords.{model-length}
 use Rattle.meaning.proofs.Neat.{BoundedChain, NeatForm}
 use Rattle.meaning.proofs.Rules.{isTrue, order}
 use Rattle.meaning.proofs.Stated.{Bounded}
+use Rattle.meaning.proofs.Terms.{ChainOf}
 use Rattle.meaning.proofs.Wellformed.{accepted-counts}
 use Rattle.meaning.specs.Answers.{outside}
-use Rattle.meaning.specs.Containment.{Decision, contained, decide, decideFrom, escapes, firstFailure, mostCombinations, orEscape, passes, tooMany}
+use Rattle.meaning.specs.Containment.{contained, decide, decideFrom, escapes, firstFailure, mostCombinations, orEscape, passes, tooMany}
 use Rattle.meaning.specs.Countermodel.{canonicalModel, countermodel, individuals}
-use Rattle.meaning.specs.Lists.{Found, _∈_, any, firstFailing, found, here, nowhere, there}
+use Rattle.meaning.specs.Lists.{_∈_, any, firstFailing, found, here, nowhere, there}
 use Rattle.meaning.specs.NormalForm.{Form, blocked, normalForm, possible}
 use Rattle.meaning.specs.Operations.{Outcome, outputAfter, reported, says, workSize, written}
 use Rattle.meaning.specs.Policy.{Chain, Policy, nextOf, policyOf, policyRefusal}
@@ -34,14 +36,14 @@ use Rattle.hierarchy.specs.declared.Functional.{Functional}
 use Rattle.normal_form.specs.Clean.{cleanForm}
 use Rattle.normal_form.specs.Tables.{Prepared, mostEntries, termAt}
 use Rattle.normal_form.specs.declared.Tables.{Tables}
-use Rattle.splitting.proofs.Callers.{full-clean, kept-refl, product-at}
+use Rattle.splitting.proofs.Callers.{full-clean, full-filled, kept-refl, product-at}
 use Rattle.splitting.specs.Ends.{Ends}
 use Rattle.splitting.specs.Odometer.{Kept, Splittable, constraintsAt}
 use Rattle.trial.specs.Trials as Tries
 use Rattle.trial.specs.Trials.{Triable, Tried}
 use Rattle.workspace.proofs.Laws.{beyond-then, prepared-kept}
 use Rattle.workspace.proofs.Walk.{Asking, asking-found, asking-named, asking-on}
-use Rattle.workspace.specs.Work.{Beyond, Tabulated}
+use Rattle.workspace.specs.Work.{Beyond, Shaped, Tabulated}
 
 -- ---- 22: too many combinations
 
@@ -90,21 +92,41 @@ clean-is K c h = go (not (blocked c)) h
     go true h = h
     go false h = cc
 
+module _ {v : List ℕ} {c : Chain} {f : Functional} {w w′ : List ℕ} {t : Tables} (g : Prepared v w f) (o : ChainOf v c) (d : Shaped c f w w′ t) where
+  pub shape-impossible : (Q : Policy) → t .blocked ≡ true → false ≡ exceeds (vocabularyOf v) Q c
+  shape-impossible Q h = rw (d .barred v g o h)
+
+  module _ (full : workSize ≤ length w) (h : t .blocked ≡ false) where
+    pub shape-splittable : Splittable w′ (t .intervals)
+    shape-splittable = let s = d .beyond .size in record { few = d .most .1; long = omega arith; full = full-filled w′ (t .intervals) (d .filled h) }
+
+    module _ (Q : Policy) {n : ℕ} (e : n ≡ min (product Q (constraintsAt w′ (t .intervals))) (suc mostCombinations)) where
+      counted : ltb mostCombinations n ≡ ltb mostCombinations (combinationCount Q (normalForm (vocabularyOf v) c))
+      counted = capped n _ (e ∙ ap (λ (m : ℕ). min m (suc mostCombinations)) (product-at (d .tabled v g o) Q))
+
+      pub shape-few : n ≤ mostCombinations → false ≡ exceeds (vocabularyOf v) Q c
+      shape-few l = rw (sym counted ∙ le-ltb mostCombinations n l) (go (possible (vocabularyOf v) c))
+        where
+          go : (b : Bool) → false ≡ (b && false)
+          go true = refl
+          go false = refl
+
+      pub shape-many : {b : Bool} → mostCombinations < n → b ≡ cleanForm (vocabularyOf v) (normalForm (vocabularyOf v) c) → b ≡ exceeds (vocabularyOf v) Q c
+      shape-many l q = rw (sym counted ∙ lt-ltb mostCombinations n l, d .unbarred v h) (go _ q)
+        where
+          go : {b : Bool} (x : Bool) → b ≡ x → b ≡ (x && true)
+          go true h = h
+          go false h = h
+
 module _ {v : List ℕ} {c : Chain} {f : Functional} {w w′ : List ℕ} {t : Tables} (d : Tabulated v c f w w′ t) where
   abbrev K : Vocabulary
   K = vocabularyOf v
-
-  pub term-impossible : (Q : Policy) → t .blocked ≡ true → false ≡ exceeds K Q c
-  term-impossible Q h = rw (is-false (possible K c) (d .impossible) h)
 
   module _ (full : workSize ≤ length w) (h : t .blocked ≡ false) where
     pub term-splittable : Splittable w′ (t .intervals)
     term-splittable =
         let s = d .beyond .size in
         record { few = d .most .1; long = omega arith; full = full-clean (d .tabled) (clean-is K c (is-true (possible K c) (d .impossible) h)) }
-
-    pub term-exceeds : (Q : Policy) {n : ℕ} → n ≡ min (product Q (constraintsAt w′ (t .intervals))) (suc mostCombinations) → ltb mostCombinations n ≡ exceeds K Q c
-    term-exceeds Q {n} e = rw (is-true (possible K c) (d .impossible) h) (capped n (combinationCount Q (normalForm K c)) (e ∙ ap (λ (m : ℕ). min m (suc mostCombinations)) (product-at (d .tabled) Q)))
 
     pub term-triable : {q e : List ℕ} → policyRefusal v q ≡ 0 → Ends (policyOf q) e → exceeds K (policyOf q) c ≡ false → Triable q e w′ t
     term-triable {q} a n x =
@@ -214,6 +236,11 @@ countermodel-length N K u = model-length (individuals u) (canonicalModel N K u)
 pub outputs-none : (o : List ℕ) → o ≡ outputAfter [] o
 unfolding outputAfter
 outputs-none o = refl
+
+-- the words written stand at the front of the output
+pub taken : (words o : List ℕ) {o′ : List ℕ} (n : ℕ) → n ≡ length words → o′ ≡ outputAfter words o → words ≡ take n o′
+unfolding outputAfter
+taken words o n e d = sym (ap (take n) d ∙ take-at words (drop (length words) o) n (sym e))
 
 module _ (s q : ℕ) (words o : List ℕ) where
   pub reports-23 : length o < length words → Delivers (written (length o) (outside s q) words) o o (verdict.Refused 23)

@@ -2,10 +2,12 @@
 use hierarchy::Functional;
 use meaning::Verdict;
 use normal_form::Tables;
+use normal_form::is_clean;
 use policy::first_term;
 use policy::next_of;
 use splitting::combinations;
 use trial::first_failure;
+use workspace::shape;
 use workspace::tabulate;
 ghost use mathlib.Core.Bool.{false};
 ghost use mathlib.Core.Path.{_≡_};
@@ -26,17 +28,20 @@ ghost use Rattle.workspace.specs.Work.{Beyond};
 // The most combinations of a simple policy.
 const MOST: usize = 65536;
 
-// Whether the simple policy at record k is possible and has too many combinations.
+// Whether the simple policy at record k is possible and has too many combinations. Few do, so the look at the vocabulary comes last.
 fn is_too_many(v: &[u32], p: &[u32], work: &mut [u32], f: Functional, ends: &[u32], k: u32) -> bool
     requires { ⌜ Prepared (now v) (now work) f × (workSize ≤ length (now work)) × Fit (now p) (now work) k × ChainOf (now v) (termAt (now p) k) ⌝ }
     ensures { λ r. ⌜ ((Q : Policy) → Ends Q (now (ends .entry)) → r ≡ exceeds (vocabularyOf (now (v .entry))) Q (termAt (now (p .entry)) k)) ⌝ }
     ensures { λ _. ⌜ Prepared (now (v .entry)) (now (work .exit)) f × Beyond (now (work .entry)) (now (work .exit)) ⌝ }
 {
-    let t = tabulate(v, p, work, f, k);
+    let t = shape(p, work, f, k);
     if t.blocked {
         return false;
     }
-    MOST < combinations(ends, work, t.intervals)
+    if combinations(ends, work, t.intervals) <= MOST {
+        return false;
+    }
+    is_clean(v, work, t)
 }
 
 // Whether some simple policy of p is, wherever it stands.

@@ -3,16 +3,16 @@ use Prim.Native.Nat.{_≤_, ℕ}
 use mathlib.Core.List.{List}
 use mathlib.Core.Logic.{_↔_}
 use mathlib.Core.Path.{_∙_, _≡_, ap, refl, sym}
-use lib.ListN.{drop, length, take}
-use lib.Seq.{take-at}
+use lib.ListN.{length, take}
 use native.Mathlib.Omega.{arith}
 use Rattle.containment.specs.Verdicts.{Complied, Equated}
+use Rattle.decision.proofs.Deciding.{taken}
 use Rattle.meaning.proofs.Checking.{check-right}
 use Rattle.meaning.proofs.Compliance.{compliance-told}
 use Rattle.meaning.proofs.Equality.{equality-compared}
 use Rattle.meaning.proofs.Written.{first-checked, second-checked, written-checked}
-use Rattle.meaning.specs.Answers.{answeredNo, answeredYes, checkedAnswer, comparisonAnswer, differs, outside, verdictAnswer}
-use Rattle.meaning.specs.Operations.{Outcome, compliance, equality, modelCheck, outputAfter, workSize}
+use Rattle.meaning.specs.Answers.{answeredYes, checkedAnswer, differs, outside}
+use Rattle.meaning.specs.Operations.{Outcome, compliance, equality, modelCheck, workSize}
 use Rattle.meaning.specs.Policy.{policyOf}
 use Rattle.meaning.specs.Promises.{Compared, Countered, IsRefusal, Told, agreed, escaped, same, side1, side2, unsaidComparison, unsaidVerdict}
 use Rattle.meaning.specs.Vocabulary.{classCount, vocabularyOf}
@@ -34,11 +34,6 @@ yes-where {v} {p} {q} {m} {w} {r = r} j t =
     let h = check-right v p q m (length w) (λ x. t (x .0, e ∙ x .1)) in
     (λ y. h .0 (sym e ∙ ap checkedAnswer y), λ y. is-yes r (e ∙ h .1 y))
 
--- the words written stand at the front of the output
-taken : (words o : List ℕ) {o′ : List ℕ} (n : ℕ) → n ≡ length words → o′ ≡ outputAfter words o → take n o′ ≡ words
-unfolding outputAfter
-taken words o n e d = ap (take n) d ∙ take-at words (drop (length words) o) n (sym e)
-
 told-length : (v p q : List ℕ) (o : ℕ) {s c n : ℕ} (x : Outcome) → Told (classCount v) (vocabularyOf v) (policyOf p) (policyOf q) o x → x .answer ≡ outside s c n → n ≡ length (x .words)
 told-length v p q o x (unsaidVerdict m) e = absurd (let z : _≡_ {A = ℕ} 0 1 = cc in omega arith)
 told-length v p q o x (agreed h) e = absurd (let z : _≡_ {A = ℕ} 0 1 = cc in omega arith)
@@ -56,14 +51,14 @@ pub outside-checked : {v p q w w′ o o′ : List ℕ} {s c n : ℕ} → Complie
 outside-checked {v} {p} {q} {w} {o = o} {n = n} a {w₁} {r = r} j l =
     let x = sym (a .answer) in
     let y = taken (compliance v p q (length w) (length o) .words) o n (told-length v p q (length o) _ (compliance-told v p q (length w) (length o)) x) (a .output) in
-    is-yes r (j .answer ∙ ap (λ (m : List ℕ). modelCheck v p q m (length w₁)) y ∙ written-checked v p q (length w) (length o) x (length w₁) l)
+    is-yes r (j .answer ∙ ap (λ (m : List ℕ). modelCheck v p q m (length w₁)) (sym y) ∙ written-checked v p q (length w) (length o) x (length w₁) l)
 
 pub first-side-checked : {v p q w w′ o o′ : List ℕ} {s c n : ℕ} → Equated v p q w w′ o o′ (comparison.Differs 1 s c n) → {w₁ w₁′ : List ℕ} {r : Checked} →
     Judged v p q (take n o′) w₁ w₁′ r → workSize ≤ length w₁ → r ≡ checked.Yes
 first-side-checked {v} {p} {q} {w} {o = o} {n = n} a {w₁} {r = r} j l =
     let x = sym (a .answer) in
     let y = taken (equality v p q (length w) (length o) .words) o n (compared-length v p q (length o) _ (equality-compared v p q (length w) (length o)) x) (a .output) in
-    is-yes r (j .answer ∙ ap (λ (m : List ℕ). modelCheck v p q m (length w₁)) y ∙ first-checked v p q (length w) (length o) x (length w₁) l)
+    is-yes r (j .answer ∙ ap (λ (m : List ℕ). modelCheck v p q m (length w₁)) (sym y) ∙ first-checked v p q (length w) (length o) x (length w₁) l)
 
 -- a side 2 countermodel with the policies in the other order
 pub second-side-checked : {v p q w w′ o o′ : List ℕ} {s c n : ℕ} → Equated v p q w w′ o o′ (comparison.Differs 2 s c n) → {w₁ w₁′ : List ℕ} {r : Checked} →
@@ -71,4 +66,4 @@ pub second-side-checked : {v p q w w′ o o′ : List ℕ} {s c n : ℕ} → Equ
 second-side-checked {v} {p} {q} {w} {o = o} {n = n} a {w₁} {r = r} j l =
     let x = sym (a .answer) in
     let y = taken (equality v p q (length w) (length o) .words) o n (compared-length v p q (length o) _ (equality-compared v p q (length w) (length o)) x) (a .output) in
-    is-yes r (j .answer ∙ ap (λ (m : List ℕ). modelCheck v q p m (length w₁)) y ∙ second-checked v p q (length w) (length o) x (length w₁) l)
+    is-yes r (j .answer ∙ ap (λ (m : List ℕ). modelCheck v q p m (length w₁)) (sym y) ∙ second-checked v p q (length w) (length o) x (length w₁) l)

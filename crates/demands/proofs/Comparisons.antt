@@ -1,5 +1,5 @@
 -- Demand 3: whatever `containment::equality` leaves behind is `Equated`, and here is what follows, with what Compliance leaves behind.
-use Prim.Native.Nat.{_≤_, ℕ}
+use Prim.Native.Nat.{ℕ}
 use mathlib.Core.Bool.{Bool, cond, false, true}
 use mathlib.Core.List.{List, []}
 use mathlib.Core.Logic.{_↔_}

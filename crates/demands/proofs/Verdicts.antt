@@ -1,20 +1,18 @@
 -- Demands 1 and 2 of Compliance: whatever `containment::compliance` leaves behind is `Complied`, and here is what follows.
-use Prim.Native.Nat.{_≤_, ℕ}
+use Prim.Native.Nat.{ℕ}
 use mathlib.Core.Bool.{Bool, cond, false, true}
 use mathlib.Core.List.{List, []}
-use mathlib.Core.Logic.{_↔_}
 use mathlib.Core.Path.{_∙_, _≡_, ap, refl, sym}
 use lib.Dec.{leb}
-use lib.ListN.{length, take}
+use lib.ListN.{length}
 use native.Mathlib.Omega.{arith}
 use borrow.Author.Tests.{le-leb, le-ltb}
 use Rattle.containment.specs.Verdicts.{Complied}
 use Rattle.demands.specs.Enough.{Answerable, Long}
 use Rattle.meaning.proofs.Compliance.{compliance-told, compliant-right, contained-right}
 use Rattle.meaning.specs.Answers.{Answer, compliant, outside, refused, verdictAnswer}
-use Rattle.meaning.specs.Containment.{Contained, Decision, Refutes, contained, decide, escapes}
+use Rattle.meaning.specs.Containment.{Contained, Decision, contained, decide, escapes}
 use Rattle.meaning.specs.Countermodel.{countermodel}
-use Rattle.meaning.specs.ModelCheck.{factsOf, individualCount}
 use Rattle.meaning.specs.Operations.{Outcome, compliance, complianceOf, outputAfter, refuses, reported, says, workSize}
 use Rattle.meaning.specs.Policy.{policyOf}
 use Rattle.meaning.specs.Promises.{IsRefusal, Told, agreed, escaped, unsaidVerdict}

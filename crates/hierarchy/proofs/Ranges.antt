@@ -29,9 +29,6 @@ module _ (v w u : List ℕ) (e : ℕ) (same : take e u ≡ take e w) where
   pub closed-kept : classCount v * classWords ≤ e → classCount v * classWords ≤ length u → ClosedRows v w → ClosedRows v u
   closed-kept l f h = record { fits = f; rows = λ a b n. row-kept a b (n .0) (omega (arith, n .1)) ∙ h .rows a b n }
 
-  pub ranged-kept : roleRow (roleCount v) * classWords ≤ e → roleRow (roleCount v) * classWords ≤ length u → RangeRows v w → RangeRows v u
-  ranged-kept l f h = record { fits = f; rows = λ r b n. row-kept (roleRow r) b (omega arith) (omega (arith, n .1)) ∙ h .rows r b n }
-
 module _ (v w₀ : List ℕ) (r : vocabularyRefusal v ≡ 0) (closed : ClosedRows v w₀) (fits : roleRow (roleCount v) * classWords ≤ length w₀) where
   -- ---- the rows at first
 

@@ -27,10 +27,6 @@ named-more n r f (some q child next) h = ((h .0 .0, omega (arith, h .0 .1)), nam
 named-more n r f (interval g lo hi next) h = ((h .0 .0, omega (arith, h .0 .1)), named-more n r f next (h .1))
 
 module _ {p : List ℕ} {s : ℕ} {c : Chain} {P : Policy} where
-  -- what stands at record s is what the reader has read
-  pub term-is : ReadsTerms p s (c ∷ P) → termAt p s ≡ c
-  term-is (reads-term h e r t) = chain-at r
-
   -- `total P ≤ 512` and `ChainOf v` are what `Accepted v p` says of the whole policy
   pub term-fits : (v w : List ℕ) → vocabularyRefusal v ≡ 0 → tablesEnd ≤ length w → ReadsTerms p s (c ∷ P) → ChainOf v c → total (c ∷ P) ≤ mostEntries → Fit p w s
   term-fits v w a long (reads-term h e r t) n few =

@@ -385,7 +385,7 @@ fn are_compatible(v: &[u32], work: &[u32], n: u32) -> bool
 }
 
 // Rule 3 at each of the first n constraints.
-fn are_filled(work: &[u32], n: usize) -> bool
+pub fn are_filled(work: &[u32], n: usize) -> bool
     requires { ⌜ (n ≤ mostEntries) × (tablesEnd ≤ length (now work)) ⌝ }
     ensures { λ r. ⌜ r ≡ all (filledAt (now (work .entry))) (counting 0 n) ⌝ }
 {

@@ -42,6 +42,17 @@ unfolding constraintAt
 stand-at w m [] s = refl
 stand-at w m (h ∷ l) s = ap₂ (λ x k. x ∷ k) (interval-is (h .constraint) (s .0 .feature) (s .0 .lo) (s .0 .hi)) (stand-at w (suc m) l (s .1))
 
+pub full-filled : (w : List ℕ) (n : ℕ) → all (filledAt w) (counting 0 n) ≡ true → Full w n
+unfolding constraintAt
+full-filled w n q m h = let z : 0 + m ≡ m = omega arith in leb→le _ _ (rw z at (each 0 n m (isTrue q) h))
+  where
+    each : (o n m : ℕ) → T (all (filledAt w) (counting o n)) → m < n → T (filledAt w (o + m))
+    each o zero m h b = absurd (omega arith)
+    each o (suc n) zero h b = let z : o ≡ o + 0 = omega arith in rw (← z) (T-and (filledAt w o) (all (filledAt w) (counting (suc o) n)) h .0)
+    each o (suc n) (suc m) h b =
+        let z : suc o + m ≡ o + suc m = omega arith in
+        rw (← z) (each (suc o) n m (T-and (filledAt w o) (all (filledAt w) (counting (suc o) n)) h .1) (omega arith))
+
 module _ {K : Vocabulary} {F : Form} {w : List ℕ} {t : Tables} (s : Tabled K F w t) where
   pub constraints-at : constraintsAt w (t .intervals) ≡ constraints F
   constraints-at = ap (constraintsAt w) (s .top ∙ sym (held-in F)) ∙ (stand-at w 0 (heldIn F) (s .held) ∙ held-constraints F)
@@ -53,18 +64,10 @@ module _ {K : Vocabulary} {F : Form} {w : List ℕ} {t : Tables} (s : Tabled K F
   -- ---- none is empty
 
   pub full-clean : cleanForm K F ≡ true → Full w (t .intervals)
-  unfolding constraintAt
-  full-clean e m h = full (all (filledAt w) (counting 0 (t .intervals))) refl
+  full-clean e = full (all (filledAt w) (counting 0 (t .intervals))) refl
     where
-      each : (o n m : ℕ) → T (all (filledAt w) (counting o n)) → m < n → T (filledAt w (o + m))
-      each o zero m h b = absurd (omega arith)
-      each o (suc n) zero h b = let z : o ≡ o + 0 = omega arith in rw (← z) (T-and (filledAt w o) (all (filledAt w) (counting (suc o) n)) h .0)
-      each o (suc n) (suc m) h b =
-          let z : suc o + m ≡ o + suc m = omega arith in
-          rw (← z) (each (suc o) n m (T-and (filledAt w o) (all (filledAt w) (counting (suc o) n)) h .1) (omega arith))
-
-      full : (b : Bool) → all (filledAt w) (counting 0 (t .intervals)) ≡ b → constraintAt w m .lo ≤ constraintAt w m .hi
-      full true q = let z : 0 + m ≡ m = omega arith in leb→le _ _ (rw z at (each 0 (t .intervals) m (isTrue q) h))
+      full : (b : Bool) → all (filledAt w) (counting 0 (t .intervals)) ≡ b → Full w (t .intervals)
+      full true q = full-filled w (t .intervals) q
       full false q = let z : _≡_ {A = Bool} false true = clean-not K w t (sym q) refl F s ∙ e in absurd (let y : _≡_ {A = ℕ} 0 1 = cc in omega arith)
 
   -- ---- the tables stay

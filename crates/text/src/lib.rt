@@ -1,6 +1,7 @@
 // The program's work on bytes: the words and the parts of its input, and the lines that it prints.
 use meaning::Verdict;
 use records::word;
+use words::place;
 ghost use mathlib.Core.List.{[], _∷_};
 ghost use mathlib.Core.Path.{_≡_};
 ghost use Prim.Native.Nat.{_*_, _+_, _/_, _≤_, _<_};
@@ -22,12 +23,6 @@ fn wide(x: u8) -> u32
     ensures { λ r. ⌜ (r ≡ x) × (r < 256) ⌝ }
 {
     x as u32
-}
-
-fn place(x: u32) -> usize
-    ensures { λ r. ⌜ r ≡ x ⌝ }
-{
-    x as usize
 }
 
 // Word i, its lowest byte first.

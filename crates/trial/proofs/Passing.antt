@@ -1,7 +1,7 @@
 -- Laws of the test of one combination against the simple policies of the other policy, one after another.
 use Prim.Native.Nat.{_+_, ℕ}
 use mathlib.Core.Bool.{Bool, _||_, false, true}
-use mathlib.Core.List.{List, [], _∷_}
+use mathlib.Core.List.{List, _∷_}
 use mathlib.Core.Path.{_∙_, _≡_, ap, refl, sym}
 use Rattle.combination.specs.Combination.{Combined}
 use Rattle.meaning.proofs.Terms.{Reads}

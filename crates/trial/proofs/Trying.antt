@@ -1,8 +1,8 @@
 -- Laws of the trial: the combinations before the one that the tables stand at have passed.
-use Prim.Native.Nat.{_+_, _-_, _<_, _≤_, suc, zero, ℕ}
+use Prim.Native.Nat.{_-_, _<_, suc, zero, ℕ}
 use mathlib.Core.Bool.{Bool, false, true}
 use mathlib.Core.List.{List, [], _∷_}
-use mathlib.Core.Path.{_∙_, _≡_, ap, refl, subst, sym}
+use mathlib.Core.Path.{_∙_, _≡_, ap, refl, sym}
 use lib.ListN.{drop, length}
 use native.Mathlib.Omega.{arith}
 use Rattle.combination.proofs.Filling.{combined}
@@ -10,7 +10,7 @@ use Rattle.combination.specs.Combination.{Combined, pieceAt}
 use Rattle.meaning.proofs.Count.{count-combinations}
 use Rattle.meaning.specs.Containment.{mostCombinations, passes}
 use Rattle.meaning.specs.Counting.{At, atHere, atThere, fill}
-use Rattle.meaning.specs.Lists.{Found, firstFailing, found, nowhere}
+use Rattle.meaning.specs.Lists.{firstFailing, found, nowhere}
 use Rattle.meaning.specs.NormalForm.{Form}
 use Rattle.meaning.specs.Policy.{Policy, policyOf}
 use Rattle.meaning.specs.Splitting.{combinationCount, combinations, constraints, product}

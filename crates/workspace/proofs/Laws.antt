@@ -16,18 +16,20 @@ use Rattle.meaning.proofs.Refusals.{cond-all, or-first, or-zero}
 use Rattle.meaning.proofs.Rules.{order}
 use Rattle.meaning.proofs.Terms.{ChainOf}
 use Rattle.meaning.proofs.Wellformed.{accepted-counts}
-use Rattle.meaning.specs.NormalForm.{normalForm, possible}
+use Rattle.meaning.specs.Lists.{all, counting}
+use Rattle.meaning.specs.NormalForm.{Form, normalForm, possible}
 use Rattle.meaning.specs.Operations.{workRefusal, workSize, zeroed}
 use Rattle.meaning.specs.Policy.{Chain}
 use Rattle.meaning.specs.Records.{orElse}
-use Rattle.meaning.specs.Vocabulary.{classCount, mostClasses, roleCount, vocabularyOf, vocabularyRefusal}
+use Rattle.meaning.specs.Vocabulary.{Vocabulary, classCount, mostClasses, roleCount, vocabularyOf, vocabularyRefusal}
+use Rattle.normal_form.proofs.Cleanness.{clean-not}
 use Rattle.normal_form.proofs.Laws.{row-kept}
-use Rattle.normal_form.specs.Clean.{cleanForm}
+use Rattle.normal_form.specs.Clean.{cleanForm, filledAt}
 use Rattle.normal_form.specs.Tables.{Normalised, Prepared, Tabled, pendingAt}
 use Rattle.normal_form.specs.declared.Tables.{Tables}
 use Rattle.words.specs.Rows.{classWords}
 use Rattle.words.specs.Sets.{inSet}
-use Rattle.workspace.specs.Work.{Beyond, Tabulated}
+use Rattle.workspace.specs.Work.{Beyond, Shaped, Tabulated}
 
 -- ---- 21
 
@@ -129,35 +131,53 @@ prepared-kept {v} {w} {w′} full e f g =
 
 -- ---- one simple policy
 
-module _ {v w : List ℕ} {f : Functional} {d : Chain} (g : Prepared v w f) (full : workSize ≤ length w) (o : ChainOf v d) where
-  module _ {w′ : List ℕ} {r : Tables} (n : Normalised f d w w′ r) where
-    blocked-is : r .blocked ≡ true → possible (vocabularyOf v) d ≡ false
-    unfolding possible
-    blocked-is e = rw (sym (n .bars) ∙ e)
+-- with another flag
+flagged : {K : Vocabulary} {t : Form} {w : List ℕ} {r u : Tables} → u .individuals ≡ r .individuals → u .intervals ≡ r .intervals → Tabled K t w r → Tabled K t w u
+flagged a b s = record { count = a ∙ s .count; top = b ∙ s .top; rows = s .rows; held = s .held }
 
-    clean-is : r .blocked ≡ false → possible (vocabularyOf v) d ≡ cleanForm (vocabularyOf v) (normalForm (vocabularyOf v) d)
-    unfolding possible
-    clean-is e = rw (sym (n .bars) ∙ e)
+module _ {f : Functional} {d : Chain} {w w′ : List ℕ} {r : Tables} (full : workSize ≤ length w) (n : Normalised f d w w′ r) where
+  abbrev barring : Bool → Tables
+  barring b = record { individuals = r .individuals; intervals = r .intervals; blocked = b }
 
-    -- with whatever is known of the term
-    told : (u : Tables) → u .individuals ≡ r .individuals → u .intervals ≡ r .intervals → u .blocked ≡ not (possible (vocabularyOf v) d) → Tabulated v d f w w′ u
-    told u a b e =
-        let s = n .tabled v g o in
-        let m = n .most in
-        record {
-          impossible = e;
-          tabled = record { count = a ∙ s .count; top = b ∙ s .top; rows = s .rows; held = s .held };
-          most = (omega arith, omega arith);
-          prepared = prepared-kept full (n .same) (n .before) g;
-          beyond = record { size = n .same; rest = λ i h. n .behind i (omega arith) };
-        }
+  shaped : (b : Bool) → ((v : List ℕ) → Prepared v w f → ChainOf v d → b ≡ true → possible (vocabularyOf v) d ≡ false) →
+      (b ≡ false → r .blocked ≡ false) → (b ≡ false → all (filledAt w′) (counting 0 (r .intervals)) ≡ true) → Shaped d f w w′ (barring b)
+  unfolding possible
+  shaped b bar out fill = record {
+    tabled = λ v g o. flagged refl refl (n .tabled v g o);
+    barred = bar;
+    unbarred = λ v e. rw (sym (n .bars) ∙ out e);
+    filled = fill;
+    most = n .most;
+    prepared = λ v g. prepared-kept full (n .same) (n .before) g;
+    beyond = record { size = n .same; rest = λ i h. n .behind i (omega arith) };
+  }
 
-    pub term-blocked : r .blocked ≡ true → Tabulated v d f w w′ r
-    term-blocked e = told r refl refl (e ∙ ap not (sym (blocked-is e)))
+  pub shape-blocked : r .blocked ≡ true → Shaped d f w w′ r
+  unfolding possible
+  shape-blocked e =
+      subst (λ (b : Bool). Shaped d f w w′ (barring b)) (sym e)
+      (shaped true (λ v g o h. rw (sym (n .bars) ∙ e)) (λ h. absurd (let z : _≡_ {A = ℕ} 0 1 = cc in omega arith)) (λ h. absurd (let z : _≡_ {A = ℕ} 0 1 = cc in omega arith)))
 
-    pub term-tabled : Tabled (vocabularyOf v) (normalForm (vocabularyOf v) d) w′ r
-    term-tabled = n .tabled v g o
+  pub shape-filled : {b : Bool} → r .blocked ≡ false → b ≡ all (filledAt w′) (counting 0 (r .intervals)) → Shaped d f w w′ (barring (not b))
+  unfolding possible
+  shape-filled {b} e h = go b h
+    where
+      go : (b : Bool) → b ≡ all (filledAt w′) (counting 0 (r .intervals)) → Shaped d f w w′ (barring (not b))
+      go true h = shaped false (λ v g o y. absurd (let z : _≡_ {A = ℕ} 0 1 = cc in omega arith)) (λ y. e) (λ y. sym h)
+      go false h = shaped true (λ v g o y. rw (sym (n .bars) ∙ e) (sym (clean-not (vocabularyOf v) w′ r h refl (normalForm (vocabularyOf v) d) (n .tabled v g o)))) (λ y. absurd (let z : _≡_ {A = ℕ} 0 1 = cc in omega arith)) (λ y. absurd (let z : _≡_ {A = ℕ} 0 1 = cc in omega arith))
 
-    pub term-clean : {b : Bool} → r .blocked ≡ false → b ≡ cleanForm (vocabularyOf v) (normalForm (vocabularyOf v) d) →
-        Tabulated v d f w w′ (record { individuals = r .individuals; intervals = r .intervals; blocked = not b })
-    term-clean e h = told (record { individuals = r .individuals; intervals = r .intervals; blocked = _ }) refl refl (ap not (h ∙ sym (clean-is e)))
+module _ {v w : List ℕ} {f : Functional} {d : Chain} (g : Prepared v w f) (o : ChainOf v d) {w′ : List ℕ} {r : Tables} (n : Shaped d f w w′ r) where
+  told : (b : Bool) → b ≡ not (possible (vocabularyOf v) d) → Tabulated v d f w w′ (record { individuals = r .individuals; intervals = r .intervals; blocked = b })
+  told b e = record { impossible = e; tabled = flagged refl refl (n .tabled v g o); most = n .most; prepared = n .prepared v g; beyond = n .beyond }
+
+  pub term-blocked : r .blocked ≡ true → Tabulated v d f w w′ r
+  term-blocked e =
+      subst (λ (b : Bool). Tabulated v d f w w′ (record { individuals = r .individuals; intervals = r .intervals; blocked = b })) (sym e)
+      (told true (ap not (sym (n .barred v g o e))))
+
+  pub term-tabled : Tabled (vocabularyOf v) (normalForm (vocabularyOf v) d) w′ r
+  term-tabled = n .tabled v g o
+
+  pub term-clean : {b : Bool} → r .blocked ≡ false → b ≡ cleanForm (vocabularyOf v) (normalForm (vocabularyOf v) d) →
+      Tabulated v d f w w′ (record { individuals = r .individuals; intervals = r .intervals; blocked = not b })
+  term-clean {b} e h = told (not b) (ap not (h ∙ sym (n .unbarred v e)))

@@ -1,14 +1,17 @@
 -- What a call may do to the work slice, and what the slice holds of one simple policy.
 use Prim.Native.Nat.{_≤_, ℕ}
-use mathlib.Core.Bool.{not}
+use mathlib.Core.Bool.{false, not, true}
 use mathlib.Core.List.{List}
 use mathlib.Core.Path.{_≡_}
 use lib.ListN.{getD, length}
 use Rattle.hierarchy.specs.declared.Functional.{Functional}
+use Rattle.meaning.proofs.Terms.{ChainOf}
+use Rattle.meaning.specs.Lists.{all, counting}
 use Rattle.meaning.specs.NormalForm.{normalForm, possible}
 use Rattle.meaning.specs.Operations.{workSize}
 use Rattle.meaning.specs.Policy.{Chain}
 use Rattle.meaning.specs.Vocabulary.{vocabularyOf}
+use Rattle.normal_form.specs.Clean.{cleanForm, filledAt}
 use Rattle.normal_form.specs.Tables.{Prepared, Tabled, mostEntries}
 use Rattle.normal_form.specs.declared.Tables.{Tables}
 
@@ -16,6 +19,17 @@ use Rattle.normal_form.specs.declared.Tables.{Tables}
 pub record Beyond (w w′ : List ℕ) : Type 0 where
   pub size : length w′ ≡ length w
   pub rest : (i : ℕ) → workSize ≤ i → getD w′ i 0 ≡ getD w i 0
+
+-- by whatever vocabulary is prepared and has the term's names, the tables hold the term's normal form; where the flag is set the term is
+-- impossible, else each constraint has a value, and the term is possible where rules 3 and 7 find nothing
+pub record Shaped (c : Chain) (f : Functional) (w w′ : List ℕ) (r : Tables) : Type 0 where
+  pub tabled : (v : List ℕ) → Prepared v w f → ChainOf v c → Tabled (vocabularyOf v) (normalForm (vocabularyOf v) c) w′ r
+  pub barred : (v : List ℕ) → Prepared v w f → ChainOf v c → r .blocked ≡ true → possible (vocabularyOf v) c ≡ false
+  pub unbarred : (v : List ℕ) → r .blocked ≡ false → possible (vocabularyOf v) c ≡ cleanForm (vocabularyOf v) (normalForm (vocabularyOf v) c)
+  pub filled : r .blocked ≡ false → all (filledAt w′) (counting 0 (r .intervals)) ≡ true
+  pub most : (r .individuals ≤ mostEntries) × (r .intervals ≤ mostEntries)
+  pub prepared : (v : List ℕ) → Prepared v w f → Prepared v w′ f
+  pub beyond : Beyond w w′
 
 -- the tables hold the normal form of the term c by the vocabulary v, which is still prepared; whether the term is impossible
 pub record Tabulated (v : List ℕ) (c : Chain) (f : Functional) (w w′ : List ℕ) (r : Tables) : Type 0 where

@@ -1,6 +1,7 @@
 // The work slice through a call: what is prepared once, one simple policy's tables, and the words that are left 0.
 use hierarchy::Functional;
 use normal_form::Tables;
+use normal_form::are_filled;
 use normal_form::is_clean;
 use normal_form::normalise;
 ghost use mathlib.Core.Path.{_≡_};
@@ -11,7 +12,7 @@ ghost use Rattle.meaning.specs.Operations.{workRefusal, workSize, zeroed};
 ghost use Rattle.meaning.specs.Records.{orElse};
 ghost use Rattle.meaning.specs.Vocabulary.{vocabularyRefusal};
 ghost use Rattle.normal_form.specs.Tables.{Fit, Prepared, termAt};
-ghost use Rattle.workspace.specs.Work.{Beyond, Tabulated};
+ghost use Rattle.workspace.specs.Work.{Beyond, Shaped, Tabulated};
 
 // A work slice is full from so many words on.
 pub const WORK: usize = 16384;
@@ -49,12 +50,29 @@ pub fn prepare(v: &[u32], work: &mut [u32]) -> Functional
     Functional::of(v)
 }
 
-// The normal form of the simple policy at record k in the tables, and whether it is impossible.
+// The normal form of the simple policy at record k in the tables, and whether rules 1 to 3 make it impossible: no look at the vocabulary.
+pub fn shape(p: &[u32], work: &mut [u32], f: Functional, k: u32) -> Tables
+    requires { ⌜ (workSize ≤ length (now work)) × Fit (now p) (now work) k ⌝ }
+    ensures { λ r. ⌜ Shaped (termAt (now (p .entry)) k) f (now (work .entry)) (now (work .exit)) r ⌝ }
+{
+    let t = normalise(p, work, f, k);
+    if t.blocked {
+        return t;
+    }
+    let filled = are_filled(work, t.intervals);
+    Tables {
+        individuals: t.individuals,
+        intervals: t.intervals,
+        blocked: !filled,
+    }
+}
+
+// The same, and whether it is impossible.
 pub fn tabulate(v: &[u32], p: &[u32], work: &mut [u32], f: Functional, k: u32) -> Tables
     requires { ⌜ Prepared (now v) (now work) f × (workSize ≤ length (now work)) × Fit (now p) (now work) k × ChainOf (now v) (termAt (now p) k) ⌝ }
     ensures { λ r. ⌜ Tabulated (now (v .entry)) (termAt (now (p .entry)) k) f (now (work .entry)) (now (work .exit)) r ⌝ }
 {
-    let t = normalise(p, work, f, k);
+    let t = shape(p, work, f, k);
     if t.blocked {
         return t;
     }

@@ -1,7 +1,6 @@
 -- `has_too_many`: at record k the simple policies from k on are still to be counted, and what was prepared is still there.
 use Prim.Native.Nat.{_+_, ℕ}
-use mathlib.Core.List.{List}
-use mathlib.Core.Path.{_∙_, _≡_}
+use mathlib.Core.Path.{_∙_}
 use native.Mathlib.Omega.{arith}
 use borrow.Author.Needs.{needs}
 use Rattle.decision.proofs.Deciding.{Uncounted, uncounted-ends, uncounted-found, uncounted-on, uncounted-starts}

@@ -1,4 +1,3 @@
-use mathlib.Core.Path.{_∙_, ap}
 use borrow.Author.Needs.{needs}
 use Rattle.exports.proofs.Coding.{coded, worked}
 use Rattle.exports.proofs.gimbuka_possible.Statement.{statement}

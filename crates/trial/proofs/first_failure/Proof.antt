@@ -1,6 +1,5 @@
 -- `first_failure`: the combinations before c have passed, and the tables stand at c.
 use mathlib.Core.Path.{_∙_}
-use borrow.Author.Needs.{needs}
 use borrow.Author.Tests.{not-false, not-true}
 use Rattle.trial.proofs.Trying.{Trying, left, started-triable, started-tried, trying-askable, trying-below, trying-ends, trying-fails, trying-falls, trying-on, trying-splittable, trying-starts}
 use Rattle.trial.proofs.first_failure.Statement.{statement}

@@ -1,0 +1,22 @@
+use native.Mathlib.Omega.{arith}
+use Rattle.workspace.proofs.Laws.{shape-blocked, shape-filled}
+use Rattle.workspace.proofs.shape.Statement.{statement}
+use Rattle.workspace.proofs.shape.Tie as tie
+
+are-filled-requires : tie.Need-are-filled-requires
+are-filled-requires c κs =
+    let n = c .before .before .before .before .normalise .ensures in
+    let s = n .same in
+    let f = c .before .before .before .before .before .before .before .before .pre .0 in
+    (n .most .1, omega arith)
+
+pub shape-spec : {M : Type 1} → statement M
+shape-spec =
+    tie.close
+    (tie.spec
+    (λ c κs. c .before .before .before .pre .1)
+    (λ c. c .before .before .before .normalise .ensures .same)
+    (λ c. shape-blocked (c .before .before .before .before .before .before .before .pre .0) (c .before .before .before .normalise .ensures) (c .if1 .taken))
+    are-filled-requires
+    (λ c. c .before .before .before .before .before .normalise .ensures .same)
+    (λ c. shape-filled (c .before .before .before .before .before .before .before .before .before .pre .0) (c .before .before .before .before .before .normalise .ensures) (c .before .before .if1 .left) (c .are-filled .ensures)))
