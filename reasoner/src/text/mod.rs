@@ -1,0 +1,203 @@
+//! A readable text of a vocabulary and two policies, in OWL 2 functional-style syntax where OWL
+//! has the form, to the program's bytes and back.
+//!
+//! ```text
+//! Declaration(Class(:Data))  Declaration(Class(:HeartRate))
+//! Declaration(ObjectProperty(:has))  Declaration(DataProperty(:days))
+//! SubClassOf(:HeartRate :Data)  DisjointClasses(:A :B)
+//! FunctionalObjectProperty(:has)  FunctionalDataProperty(:days)  ObjectPropertyRange(:has :Data)
+//! Policy(ObjectUnionOf(
+//!   ObjectIntersectionOf(:Data ObjectSomeValuesFrom(:has owl:Thing)
+//!     DataSomeValuesFrom(:days DatatypeRestriction(xsd:integer
+//!       xsd:minInclusive 1 xsd:maxInclusive 30)))))
+//! Policy(owl:Thing)
+//! ```
+//!
+//! Declarations number the names in their order. The first policy stands before the second. A
+//! policy's records are laid out in the order of the walk, unless `Annotation(:recordOrder "1 3 2")`
+//! at its front gives each record of the walk another number.
+
+mod lexer;
+mod parser;
+mod printer;
+
+use crate::encode::{move_records, policy_words, vocabulary_words, walk_order};
+use crate::policy::{Place, Policy, Term};
+use crate::program::parts;
+use crate::vocabulary::Vocabulary;
+use crate::{bytes_of_parts, compliance, Verdict, FULL_WORK};
+use std::fmt;
+
+/// A mistake in a text, with its place.
+#[derive(Clone, Debug, PartialEq, Eq)]
+pub struct Mistake {
+    /// The line, from 1.
+    pub line: usize,
+    /// The column, from 1, in characters.
+    pub column: usize,
+    /// What is wrong.
+    pub message: String,
+}
+
+impl fmt::Display for Mistake {
+    fn fmt(&self, f: &mut fmt::Formatter<'_>) -> fmt::Result {
+        write!(f, "line {}, column {}: {}", self.line, self.column, self.message)
+    }
+}
+
+impl std::error::Error for Mistake {}
+
+/// The names of the three series; number 1 stands first.
+#[derive(Clone, Debug, Default, PartialEq, Eq)]
+pub struct Names {
+    /// Class names.
+    pub classes: Vec<String>,
+    /// Role names.
+    pub roles: Vec<String>,
+    /// Feature names.
+    pub features: Vec<String>,
+}
+
+impl Names {
+    /// Names made of numbers: :C1, :r1, :f1.
+    #[must_use]
+    pub fn numbered(vocabulary: &Vocabulary) -> Self {
+        let series = |letter: &str, count: u32| {
+            (1..=count).map(|number| format!(":{letter}{number}")).collect()
+        };
+        Self {
+            classes: series("C", vocabulary.classes),
+            roles: series("r", vocabulary.roles),
+            features: series("f", vocabulary.features),
+        }
+    }
+}
+
+/// A policy as a text has it.
+#[derive(Clone, Debug, Default, PartialEq, Eq)]
+pub struct PolicyText {
+    /// Its simple policies.
+    pub terms: Vec<Term>,
+    /// The number of each record, in the order of the walk; none when they are 1, 2, 3 and so on.
+    pub order: Option<Vec<u32>>,
+}
+
+impl PolicyText {
+    fn words(&self) -> Vec<u32> {
+        let words = policy_words(&self.terms);
+        match &self.order {
+            None => words,
+            Some(order) => move_records(&words, order, order.len() as u32),
+        }
+    }
+
+    /// Reads back an accepted policy; records that no link reaches are left out.
+    fn of(policy: Policy, words: &[u32]) -> Self {
+        let mut order = walk_order(words);
+        let mut sorted = order.clone();
+        sorted.sort_unstable();
+        for number in &mut order {
+            *number = sorted.partition_point(|other| other < number) as u32 + 1;
+        }
+        let straight = order.is_sorted();
+        Self { terms: policy.terms, order: (!straight).then_some(order) }
+    }
+}
+
+/// A vocabulary with names, and two policies.
+#[derive(Clone, Debug, PartialEq, Eq)]
+pub struct Document {
+    /// The names.
+    pub names: Names,
+    /// The vocabulary.
+    pub vocabulary: Vocabulary,
+    /// The first policy.
+    pub first: PolicyText,
+    /// The second policy.
+    pub second: PolicyText,
+}
+
+impl Document {
+    /// Reads a text.
+    pub fn parse(text: &str) -> Result<Self, Mistake> {
+        parser::document(text)
+    }
+
+    /// Reads the program's bytes; the error is the program's refusal.
+    pub fn decode(bytes: &[u8]) -> Result<Self, u32> {
+        let [v, p, q] = parts(bytes).ok_or(40u32)?;
+        let vocabulary = Vocabulary::read(&v)?;
+        let first = Policy::read(&vocabulary, &p, Place::First)?;
+        let second = Policy::read(&vocabulary, &q, Place::Second)?;
+        Ok(Self {
+            names: Names::numbered(&vocabulary),
+            first: PolicyText::of(first, &p),
+            second: PolicyText::of(second, &q),
+            vocabulary,
+        })
+    }
+
+    /// The words of the vocabulary and the two policies.
+    #[must_use]
+    pub fn words(&self) -> [Vec<u32>; 3] {
+        [vocabulary_words(&self.vocabulary), self.first.words(), self.second.words()]
+    }
+
+    /// The program's bytes.
+    #[must_use]
+    pub fn encode(&self) -> Vec<u8> {
+        let [v, p, q] = self.words();
+        bytes_of_parts(&v, &p, &q)
+    }
+
+    /// Decides compliance, with room for every countermodel, and says the answer in words.
+    #[must_use]
+    pub fn explain(&self) -> String {
+        let [v, p, q] = self.words();
+        let mut out = vec![0; 700_005];
+        match compliance(&v, &p, &q, &mut vec![0; FULL_WORK], &mut out) {
+            Verdict::Compliant => {
+                "Compliant: whatever is in the first policy is in the second.\n".to_owned()
+            }
+            Verdict::Refused(number) => format!("Refused {number}: {}.\n", refusal(number)),
+            Verdict::Outside(s, q, words) => {
+                printer::read_aloud(&self.names, s, q, &out[..words as usize])
+            }
+        }
+    }
+}
+
+impl fmt::Display for Document {
+    /// The text, which reads back as this document.
+    fn fmt(&self, f: &mut fmt::Formatter<'_>) -> fmt::Result {
+        printer::document(self, f)
+    }
+}
+
+/// What a refusal's number says.
+#[must_use]
+pub fn refusal(number: u32) -> &'static str {
+    match number {
+        1 => "the vocabulary's length is no multiple of 4, or too short or too long",
+        2 => "a count or the link in the vocabulary's header is out of range",
+        3 => "a vocabulary record has a bad kind, name, zero or link",
+        4 => "the first policy's length is no multiple of 6, or too short or too long",
+        5 => "the first policy's header is at fault",
+        6 => "a record of the first policy has a bad kind, name, zero or link",
+        7 => "a record of the first policy is reached twice",
+        8 => "the first policy is deeper than 16",
+        14 => "the second policy's length is no multiple of 6, or too short or too long",
+        15 => "the second policy's header is at fault",
+        16 => "a record of the second policy has a bad kind, name, zero or link",
+        17 => "a record of the second policy is reached twice",
+        18 => "the second policy is deeper than 16",
+        21 => "the work slice is too short",
+        22 => "a simple policy has over 65,536 combinations of pieces",
+        23 => "the output is too short for the countermodel",
+        31 => "the model's length is no multiple of 5, or too short or too long",
+        32 => "the model's header is at fault",
+        33 => "a model record is at fault",
+        40 => "the input is over 65,536 bytes, cut short or followed by more",
+        _ => "no refusal of the paper",
+    }
+}

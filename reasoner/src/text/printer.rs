@@ -1,0 +1,123 @@
+//! From a document to text, and a countermodel read aloud.
+
+use super::{Document, Names, PolicyText};
+use crate::policy::Conjunct;
+use crate::vocabulary::Axiom;
+use std::fmt::{self, Write as _};
+
+/// Writes a document so that it reads back.
+pub fn document(document: &Document, f: &mut fmt::Formatter<'_>) -> fmt::Result {
+    let Document { names, vocabulary, first, second } = document;
+    let series = [
+        ("Class", &names.classes),
+        ("ObjectProperty", &names.roles),
+        ("DataProperty", &names.features),
+    ];
+    for (keyword, list) in series {
+        for name in list {
+            writeln!(f, "Declaration({keyword}({name}))")?;
+        }
+    }
+    for &one in &vocabulary.axioms {
+        writeln!(f, "{}", axiom(names, one))?;
+    }
+    for one in [first, second] {
+        policy(names, one, f)?;
+    }
+    Ok(())
+}
+
+fn name(list: &[String], number: u32) -> &str {
+    &list[number as usize - 1]
+}
+
+fn axiom(names: &Names, axiom: Axiom) -> String {
+    let Names { classes, roles, features } = names;
+    match axiom {
+        Axiom::Below(a, b) => format!("SubClassOf({} {})", name(classes, a.0), name(classes, b.0)),
+        Axiom::Disjoint(a, b) => {
+            format!("DisjointClasses({} {})", name(classes, a.0), name(classes, b.0))
+        }
+        Axiom::FunctionalRole(role) => {
+            format!("FunctionalObjectProperty({})", name(roles, role.0))
+        }
+        Axiom::FunctionalFeature(feature) => {
+            format!("FunctionalDataProperty({})", name(features, feature.0))
+        }
+        Axiom::Range(role, class) => {
+            format!("ObjectPropertyRange({} {})", name(roles, role.0), name(classes, class.0))
+        }
+    }
+}
+
+fn policy(names: &Names, policy: &PolicyText, f: &mut fmt::Formatter<'_>) -> fmt::Result {
+    writeln!(f, "Policy(")?;
+    if let Some(order) = &policy.order {
+        let numbers: Vec<String> = order.iter().map(u32::to_string).collect();
+        writeln!(f, "  Annotation(:recordOrder \"{}\")", numbers.join(" "))?;
+    }
+    writeln!(f, "  ObjectUnionOf(")?;
+    for term in &policy.terms {
+        writeln!(f, "    ObjectIntersectionOf(")?;
+        for one in term {
+            writeln!(f, "      {}", conjunct(names, one))?;
+        }
+        writeln!(f, "    )")?;
+    }
+    writeln!(f, "  )")?;
+    writeln!(f, ")")
+}
+
+fn conjunct(names: &Names, one: &Conjunct) -> String {
+    match one {
+        Conjunct::Class(class) => name(&names.classes, class.0).to_owned(),
+        Conjunct::Nothing => "owl:Nothing".to_owned(),
+        Conjunct::Reaches(role, inner) => {
+            let role = name(&names.roles, role.0);
+            format!("ObjectSomeValuesFrom({role} {})", concept(names, inner))
+        }
+        Conjunct::Within(feature, lo, hi) => {
+            let feature = name(&names.features, feature.0);
+            format!(
+                "DataSomeValuesFrom({feature} DatatypeRestriction(xsd:integer \
+                 xsd:minInclusive {lo} xsd:maxInclusive {hi}))"
+            )
+        }
+    }
+}
+
+fn concept(names: &Names, inner: &[Conjunct]) -> String {
+    match inner {
+        [] => "owl:Thing".to_owned(),
+        [one] => conjunct(names, one),
+        many => {
+            let all: Vec<String> = many.iter().map(|one| conjunct(names, one)).collect();
+            format!("ObjectIntersectionOf({})", all.join(" "))
+        }
+    }
+}
+
+/// The countermodel of an "outside" answer in words.
+pub fn read_aloud(names: &Names, s: u32, q: u32, model: &[u32]) -> String {
+    let mut text = format!(
+        "Outside: simple policy {s} of the first policy, combination {q}, is not in the second.\n"
+    );
+    let individuals = model[1];
+    let many = if individuals == 1 { "individual" } else { "individuals" };
+    let _ = writeln!(
+        text,
+        "In this case, of {individuals} {many}, x1 is in the first policy and outside the second:"
+    );
+    for record in model.chunks_exact(5).skip(1) {
+        let (number, individual, other) = (record[1], record[2], record[3]);
+        let _ = match record[0] {
+            1 => writeln!(text, "  x{individual} is in {}", name(&names.classes, number)),
+            2 => writeln!(text, "  x{individual} has {} x{other}", name(&names.roles, number)),
+            _ => writeln!(text, "  x{individual} has {} {other}", name(&names.features, number)),
+        };
+    }
+    if model.len() == 5 {
+        text.push_str("  nothing else is known of x1\n");
+    }
+    text
+}

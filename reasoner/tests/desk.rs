@@ -1,0 +1,189 @@
+//! The desk's texts.
+
+mod common;
+
+use reasoner::random::{limits, Case, Family};
+use reasoner::text::Document;
+use reasoner::{program, read_policy, read_second_policy, Reading};
+
+const DESK: &str = r#"
+# The consent desk's vocabulary.
+Declaration(Class(:Data)) Declaration(Class(:HeartRate))
+Declaration(Class(:Secret)) Declaration(Class(:Both))
+Declaration(ObjectProperty(:has)) Declaration(ObjectProperty(:in)) Declaration(ObjectProperty(:shows))
+Declaration(DataProperty(:days))
+SubClassOf(:HeartRate :Data) SubClassOf(:Both :Data) SubClassOf(:Both :Secret)
+DisjointClasses(:Data :Secret)
+FunctionalObjectProperty(:has) FunctionalObjectProperty(:in) FunctionalDataProperty(:days)
+ObjectPropertyRange(:shows :Data)
+"#;
+
+fn desk(policies: &str) -> Document {
+    Document::parse(&format!("{DESK}{policies}")).unwrap_or_else(|mistake| panic!("{mistake}"))
+}
+
+fn mistake(text: &str) -> String {
+    Document::parse(text).expect_err("a mistake").to_string()
+}
+
+#[test]
+fn the_papers_words() {
+    let document = desk(
+        "Policy(ObjectSomeValuesFrom(:has :Data))
+         Policy(ObjectUnionOf(ObjectIntersectionOf(ObjectSomeValuesFrom(:has :HeartRate))))",
+    );
+    let [v, p, q] = document.words();
+    assert_eq!(v, common::desk_vocabulary(true));
+    assert_eq!(p, common::words(&[vec![common::r(1, vec![common::c(1)])]]));
+    assert_eq!(q, common::words(&[vec![common::r(1, vec![common::c(2)])]]));
+    assert_eq!(program(&document.encode()), b"outside 1 1\nedge 1 1 2\nmember 1 2\n");
+    assert_eq!(
+        document.explain(),
+        "Outside: simple policy 1 of the first policy, combination 1, is not in the second.\n\
+         In this case, of 2 individuals, x1 is in the first policy and outside the second:\n  \
+         x1 has :has x2\n  x2 is in :Data\n"
+    );
+}
+
+#[test]
+fn spans_and_special_classes() {
+    let document = desk(
+        "Policy(DataSomeValuesFrom(:days DatatypeRestriction(xsd:integer
+            xsd:minInclusive \"0\"^^xsd:integer xsd:maxInclusive 4294967295))
+          owl:Nothing owl:Thing ObjectSomeValuesFrom(:has owl:Thing))
+         Policy()",
+    );
+    let terms = [
+        vec![common::f(1, 0, u32::MAX)],
+        vec![reasoner::policy::Conjunct::Nothing],
+        vec![],
+        vec![common::r(1, vec![])],
+    ];
+    assert_eq!(document.first.terms, terms);
+    assert_eq!(document.second.terms, Vec::<reasoner::policy::Term>::new());
+    assert!(document.explain().starts_with("Outside: simple policy 1"));
+    let same = desk("Policy(:Both) Policy()").explain();
+    assert_eq!(same, "Compliant: whatever is in the first policy is in the second.\n");
+    let nothing_known = desk("Policy(owl:Thing) Policy()").explain();
+    assert!(nothing_known.ends_with("nothing else is known of x1\n"));
+}
+
+#[test]
+fn mistakes_have_a_place() {
+    let cases = [
+        ("Policy()", "line 1, column 9: a text has two policies, the first and the second; this one has 1"),
+        ("Policy() Policy()", "line 1, column 18: a vocabulary has at least one class; none is declared"),
+        ("Declaration(Class(:A))\nPolicy(:B)", "line 2, column 8: :B is no class declared above; write Declaration(Class(:B)) before it"),
+        ("SubClassOf(:A", "line 1, column 12: :A is no class declared above; write Declaration(Class(:A)) before it"),
+        ("Declaration(Class(:A))\n  Declaration(Class(:A))", "line 2, column 21: the class :A is declared twice"),
+        ("Declaration(Class(owl:Thing))", "line 1, column 19: owl:Thing is always there and is not declared"),
+        ("Declaration(Individual(:A))", "line 1, column 13: \"Individual\" cannot be declared; Class, ObjectProperty and DataProperty can"),
+        ("Declaration(Class(:A)) Policy(:A", "line 1, column 33: expected a class or a restriction, found the end of the text"),
+        ("Declaration(Class(:A)) Policy(:A))", "line 1, column 34: expected Declaration, an axiom or Policy, found \")\""),
+        ("Declaration Class", "line 1, column 13: expected \"(\" after Declaration, found \"Class\""),
+        ("Policy() Policy() Policy()", "line 1, column 19: a text has two policies, and this is the third"),
+        ("Policy(ObjectIntersectionOf(ObjectUnionOf()))", "line 1, column 29: a union can stand only outside the simple policies"),
+        ("Declaration(DataProperty(:d)) Policy(DataSomeValuesFrom(:d DatatypeRestriction(xsd:integer xsd:minInclusive -1", "line 1, column 109: expected a whole number from 0 to 4294967295, found \"-1\""),
+        ("Declaration(DataProperty(:d)) Policy(DataSomeValuesFrom(:d xsd:integer))", "line 1, column 60: expected \"DatatypeRestriction\", found \"xsd:integer\""),
+        ("Policy(Annotation(:recordOrder \"1\"))", "line 1, column 8: :recordOrder must have each number from 1 to 0 once"),
+        ("Declaration(Class(:A)) Policy(Annotation(:recordOrder \"2 1\") :A)", "line 1, column 31: :recordOrder makes record 2 link back to 1; links lead to greater numbers"),
+        ("Policy(\"x", "line 1, column 8: no closing \" on this line"),
+    ];
+    for (text, expected) in cases {
+        assert_eq!(mistake(text), expected, "{text}");
+    }
+    let nested = format!("Policy({}", "ObjectIntersectionOf(".repeat(100_000));
+    assert!(mistake(&nested).ends_with("parentheses are nested too deep"));
+    assert!(mistake("Foo(:A)").starts_with("line 1, column 1: \"Foo\" is not known here"));
+}
+
+#[test]
+fn limits_are_mistakes_with_a_place() {
+    let declare = |count: u32| -> String {
+        (1..=count).map(|number| format!("Declaration(Class(:C{number}))\n")).collect()
+    };
+    let policies = "Policy() Policy()";
+    assert!(Document::parse(&format!("{}{policies}", declare(256))).is_ok());
+    assert_eq!(
+        mistake(&format!("{}{policies}", declare(257))),
+        "line 257, column 19: :C257 is one class too many; there are at most 256"
+    );
+    let deep = |depth: usize| {
+        let restriction = "ObjectSomeValuesFrom(:r ".repeat(depth - 1);
+        let close = ")".repeat(depth - 1);
+        format!(
+            "Declaration(Class(:A)) Declaration(ObjectProperty(:r))\n\
+             Policy({restriction}:A{close}) Policy()"
+        )
+    };
+    assert!(Document::parse(&deep(16)).is_ok());
+    assert_eq!(
+        mistake(&deep(17)),
+        "line 2, column 392: restrictions can be nested 16 deep, and this is deeper"
+    );
+    let wide = |count: usize| {
+        format!(
+            "Declaration(Class(:A)) Policy(ObjectIntersectionOf({})) Policy()",
+            ":A ".repeat(count)
+        )
+    };
+    assert!(Document::parse(&wide(511)).is_ok());
+    assert!(mistake(&wide(512)).contains("at most 512 records"));
+}
+
+/// Encodes and decodes an accepted case; gives the bytes before and after.
+fn round_trip(case: &Case) -> Option<(Vec<u8>, Vec<u8>)> {
+    let accepted = read_policy(&case.v, &case.p) == Reading::Accepted
+        && read_second_policy(&case.v, &case.q) == Reading::Accepted;
+    let bytes = case.bytes();
+    let decoded = Document::decode(&bytes);
+    assert_eq!(accepted, decoded.is_ok(), "{case}");
+    let text = decoded.ok()?.to_string();
+    let again = Document::parse(&text).unwrap_or_else(|mistake| panic!("{mistake}\n{text}"));
+    Some((bytes, again.encode()))
+}
+
+/// Is every record of the case reached?
+fn all_reached(case: &Case) -> bool {
+    let chained = {
+        let mut count = 0;
+        let mut at = case.v[3] as usize;
+        while at != 0 {
+            count += 1;
+            at = case.v[4 * at + 3] as usize;
+        }
+        count == case.v.len() / 4 - 1
+    };
+    let reached = |words: &[u32]| reasoner::encode::walk_order(words).len() == words.len() / 6 - 1;
+    chained && reached(&case.p) && reached(&case.q)
+}
+
+#[test]
+fn decoding_and_encoding_gives_the_bytes_back() {
+    let (mut exact, mut moved, mut shortened) = (0, 0, 0);
+    let families =
+        [Family::Small, Family::Merges, Family::Coverage, Family::Hierarchy, Family::Damaged];
+    for family in families {
+        for seed in 20_000..20_400 {
+            let case = Case::generate(family, seed);
+            let Some((before, after)) = round_trip(&case) else { continue };
+            if all_reached(&case) {
+                assert_eq!(before, after, "{family:?} {seed}\n{case}");
+                exact += 1;
+                moved += u32::from(Document::decode(&before).unwrap().first.order.is_some());
+            } else {
+                // What is left out has no effect, and the shorter input comes back as it is.
+                assert_eq!(program(&before), program(&after), "{family:?} {seed}\n{case}");
+                let text = Document::decode(&after).unwrap().to_string();
+                assert_eq!(Document::parse(&text).unwrap().encode(), after);
+                shortened += 1;
+            }
+        }
+    }
+    assert!(exact > 400 && moved > 150 && shortened > 300, "{exact} {moved} {shortened}");
+    for (_, case) in limits::cases() {
+        if let Some((before, after)) = round_trip(&case) {
+            assert_eq!(before, after, "{case}");
+        }
+    }
+}
