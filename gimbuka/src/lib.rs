@@ -129,42 +129,38 @@ mod c {
     }
 }
 
-fn reading(kind: u32, number: u32) -> Reading {
-    if kind == 0 {
-        Reading::Refused(number)
-    } else {
-        Reading::Accepted
+/// A reader's answer, from a call that is given where the refusal's number goes.
+fn reading(call: impl FnOnce(&mut u32) -> u32) -> Reading {
+    let mut number = 0;
+    match call(&mut number) {
+        0 => Reading::Refused(number),
+        _ => Reading::Accepted,
     }
 }
 
 /// Read vocabulary.
 #[must_use]
 pub fn read_vocabulary(v: &[u32]) -> Reading {
-    let mut number = 0;
     // SAFETY: the pointer and length are a slice's, and `number` overlaps nothing.
-    let kind = unsafe { c::gimbuka_read_vocabulary(v.as_ptr(), v.len(), &mut number) };
-    reading(kind, number)
+    reading(|number| unsafe { c::gimbuka_read_vocabulary(v.as_ptr(), v.len(), number) })
 }
 
 /// Read policy.
 #[must_use]
 pub fn read_policy(v: &[u32], p: &[u32]) -> Reading {
-    let mut number = 0;
     // SAFETY: as in `read_vocabulary`.
-    let kind =
-        unsafe { c::gimbuka_read_policy(v.as_ptr(), v.len(), p.as_ptr(), p.len(), &mut number) };
-    reading(kind, number)
+    reading(|number| unsafe {
+        c::gimbuka_read_policy(v.as_ptr(), v.len(), p.as_ptr(), p.len(), number)
+    })
 }
 
 /// Read policy with a second policy's numbers.
 #[must_use]
 pub fn read_second_policy(v: &[u32], q: &[u32]) -> Reading {
-    let mut number = 0;
     // SAFETY: as in `read_vocabulary`.
-    let kind = unsafe {
-        c::gimbuka_read_second_policy(v.as_ptr(), v.len(), q.as_ptr(), q.len(), &mut number)
-    };
-    reading(kind, number)
+    reading(|number| unsafe {
+        c::gimbuka_read_second_policy(v.as_ptr(), v.len(), q.as_ptr(), q.len(), number)
+    })
 }
 
 /// Possible.
