@@ -17,7 +17,6 @@ use Rattle.meaning.specs.Operations.{inputRefusal, readPolicy, readSecondPolicy
 use Rattle.meaning.specs.Policy.{Walk, childOf, fault, faultOf, firstTerm, headedPolicy, hiOf, kindOf, loOf, nameOf, nextOf, onward, policyRefusal, recordFits, second, soundRecord, walk}
 use Rattle.meaning.specs.Records.{lastOf, linked, named, orElse, sized}
 use Rattle.meaning.specs.Vocabulary.{classCount, featureCount, roleCount, vocabularyRefusal}
-use Rattle.policy.specs.declared.Trail.{Trail}
 use Rattle.policy.specs.Numbers.{numbered}
 use Rattle.policy.specs.Trails.{Arrived, Follows, Marks, faultAt, going, mostRecords, stopped, trailWords}
 use Rattle.words.proofs.Laws.{in-including, in-zeros, length-including, named-within}
@@ -147,67 +146,73 @@ pub ruleset inside = (child-inside, next-inside)
 pub ruleset fewer = (child-falls, next-falls)
 
 -- what a walk ends with, and what the walk after it does
-ended : {w : Trail} {q : Walk} (on : List ℕ → Walk) → (w .fault ≡ 0 → ⊥) → Arrived w q → Arrived w (onward q on)
+ended : {s : List ℕ} {n : ℕ} {q : Walk} (on : List ℕ → Walk) → (n ≡ 0 → ⊥) → Arrived s n q → Arrived s n (onward q on)
 ended on z (going e m) = absurd (z e)
 ended on z (stopped e) = stopped e
 
-then : {w r : Trail} {q : Walk} (on : List ℕ → Walk) → w .fault ≡ 0 → Arrived w q → ((seen : List ℕ) → Marks (w .seen) seen → Arrived r (on seen)) → Arrived r (onward q on)
+then : {s s′ : List ℕ} {n r : ℕ} {q : Walk} (on : List ℕ → Walk) → n ≡ 0 → Arrived s n q →
+    ((seen : List ℕ) → Marks s seen → Arrived s′ r (on seen)) → Arrived s′ r (onward q on)
 then on z (going {seen = seen} e m) later = later seen m
 then on z (stopped e) later = absurd (omega arith)
 
--- the walk from record k on with trail t, at each way out
-module _ (v p : List ℕ) (depth k : ℕ) (t : Trail) where
-  pub walk-ends : k ≡ 0 → t .fault ≡ 0 → Follows v p depth k t t
+-- the walk from record k on with the bits s, at each way out
+module _ (v p : List ℕ) (depth k : ℕ) (s : List ℕ) where
+  pub walk-ends : k ≡ 0 → Follows v p depth k s s 0
   unfolding walk
-  walk-ends e z = record { arrives = go }
+  walk-ends e = record { arrives = go; size = refl }
     where
-      go : (f : ℕ) (seen : List ℕ) → Enough (lastOf 6 p) f k → Marks (t .seen) seen → Arrived t (walk f v p depth k seen)
-      go zero seen h m = going z m
-      go (suc f) seen h m = rw e (going z m)
+      go : (f : ℕ) (seen : List ℕ) → Enough (lastOf 6 p) f k → Marks s seen → Arrived s 0 (walk f v p depth k seen)
+      go zero seen h m = going refl m
+      go (suc f) seen h m = rw e (going refl m)
 
   -- b is the test of whether record k was reached before, and n the fault at it
-  module _ (b : Bool) {n : ℕ} (m : k ≡ 0 → ⊥) (l : lastOf 6 p ≤ mostRecords) (i : k ≤ lastOf 6 p) (eb : b ≡ inSet (t .seen) k)
+  module _ (b : Bool) {n : ℕ} (m : k ≡ 0 → ⊥) (l : lastOf 6 p ≤ mostRecords) (i : k ≤ lastOf 6 p) (eb : b ≡ inSet s k)
       (en : n ≡ faultAt b (soundRecord v p depth k) (eqb depth 17)) where
     -- some fuel is left
-    step : {r : Trail} → ((f : ℕ) (seen : List ℕ) → Enough (lastOf 6 p) (suc f) k → Marks (t .seen) seen → Arrived r (walk (suc f) v p depth k seen)) →
-        Follows v p depth k t r
-    step {r} on = record { arrives = go }
+    step : {s′ : List ℕ} {r : ℕ} → length s′ ≡ length s →
+        ((f : ℕ) (seen : List ℕ) → Enough (lastOf 6 p) (suc f) k → Marks s seen → Arrived s′ r (walk (suc f) v p depth k seen)) →
+        Follows v p depth k s s′ r
+    step {s′} {r} size on = record { arrives = go; size = size }
       where
-        go : (f : ℕ) (seen : List ℕ) → Enough (lastOf 6 p) f k → Marks (t .seen) seen → Arrived r (walk f v p depth k seen)
+        go : (f : ℕ) (seen : List ℕ) → Enough (lastOf 6 p) f k → Marks s seen → Arrived s′ r (walk f v p depth k seen)
         go zero seen h a = absurd (m (enough-end _ k h))
         go (suc f) seen h a = on f seen h a
 
-    reached-is : {seen : List ℕ} → Marks (t .seen) seen → any (eqb k) seen ≡ b
+    reached-is : {seen : List ℕ} → Marks s seen → any (eqb k) seen ≡ b
     reached-is a = sym (a .same k (omega arith) (omega arith)) ∙ sym eb
 
-    pub walk-faults : {r : Trail} → (n ≡ 0 → ⊥) → r .fault ≡ n → Follows v p depth k t r
+    pub walk-faults : (n ≡ 0 → ⊥) → Follows v p depth k s s n
     unfolding walk faultAt
-    walk-faults {r} z e =
-        step (λ f seen h a. let on = onward (walk f v p (suc depth) (childOf p k) (k ∷ seen)) (walk f v p depth (nextOf p k)) in
-        rw (ne-eqb k 0 m, reached-is a) (go b (soundRecord v p depth k) (eqb depth 17) on (e ∙ en) (λ q. z (sym e ∙ q))))
+    walk-faults z =
+        step refl (λ f seen h a. let on = onward (walk f v p (suc depth) (childOf p k) (k ∷ seen)) (walk f v p depth (nextOf p k)) in
+        rw (ne-eqb k 0 m, reached-is a) (go b (soundRecord v p depth k) (eqb depth 17) on en z))
       where
-        go : (b s d : Bool) (on : Walk) → r .fault ≡ faultAt b s d → (r .fault ≡ 0 → ⊥) → Arrived r (cond b (fault 7) (cond s (cond d (fault 8) on) (fault 6)))
-        go true s d on e z = stopped e
+        go : (b c d : Bool) (on : Walk) → n ≡ faultAt b c d → (n ≡ 0 → ⊥) → Arrived s n (cond b (fault 7) (cond c (cond d (fault 8) on) (fault 6)))
+        go true c d on e z = stopped e
         go false true true on e z = stopped e
         go false true false on e z = absurd (z e)
         go false false d on e z = stopped e
 
-    -- there is none, and the walk of the child chain has ended with trail w
-    module _ {x : ℕ} {u w : Trail} (z : n ≡ 0) (ex : x ≡ childOf p k) (eu : u .seen ≡ including (t .seen) k) (inner : Follows v p (depth + 1) x u w) where
-      visit : {r : Trail} → ((f : ℕ) (seen : List ℕ) → Enough (lastOf 6 p) (suc f) k → Arrived w (walk f v p (suc depth) (childOf p k) (k ∷ seen)) →
-          Arrived r (onward (walk f v p (suc depth) (childOf p k) (k ∷ seen)) (walk f v p depth (nextOf p k)))) → Follows v p depth k t r
+    -- there is none, and the walk of the child chain, with record k marked, has ended with the bits w and the number a
+    module _ {x a : ℕ} {u w : List ℕ} (z : n ≡ 0) (ex : x ≡ childOf p k) (eu : u ≡ including s k) (inner : Follows v p (depth + 1) x u w a) where
+      grown : length w ≡ length s
+      grown = inner .size ∙ ap length eu ∙ length-including s k
+
+      visit : {s′ : List ℕ} {r : ℕ} → length s′ ≡ length s →
+          ((f : ℕ) (seen : List ℕ) → Enough (lastOf 6 p) (suc f) k → Arrived w a (walk f v p (suc depth) (childOf p k) (k ∷ seen)) →
+          Arrived s′ r (onward (walk f v p (suc depth) (childOf p k) (k ∷ seen)) (walk f v p depth (nextOf p k)))) → Follows v p depth k s s′ r
       unfolding walk
-      visit on = step (λ f seen h a.
+      visit size on = step size (λ f seen h a.
           let c = cleared v p depth k b m i en z in
           rw (ne-eqb k 0 m, reached-is a ∙ c .0, c .1, c .2) (on f seen h
           (rw (add-one depth, ex) at (inner .arrives f (k ∷ seen) (rw ex (child-enough (here v p depth k b m i en z) h)) (rw eu (marks-more k a))))))
 
-      pub walk-stops : (w .fault ≡ 0 → ⊥) → Follows v p depth k t w
-      walk-stops y = visit (λ f seen h a. ended (walk f v p depth (nextOf p k)) y a)
+      pub walk-stops : (a ≡ 0 → ⊥) → Follows v p depth k s w a
+      walk-stops y = visit grown (λ f seen h a. ended (walk f v p depth (nextOf p k)) y a)
 
-      pub walk-on : {y : ℕ} {r : Trail} → w .fault ≡ 0 → y ≡ nextOf p k → Follows v p depth y w r → Follows v p depth k t r
+      pub walk-on : {y r : ℕ} {w′ : List ℕ} → a ≡ 0 → y ≡ nextOf p k → Follows v p depth y w w′ r → Follows v p depth k s w′ r
       walk-on c ey later =
-          visit (λ f seen h a. then (walk f v p depth (nextOf p k)) c a
+          visit (later .size ∙ grown) (λ f seen h a. then (walk f v p depth (nextOf p k)) c a
           (λ seen a. rw ey at (later .arrives f seen (rw ey (next-enough (here v p depth k b m i en z) h)) a)))
 
 -- ---- the whole
@@ -237,7 +242,7 @@ module _ (p : List ℕ) {s : Bool} (e : s ≡ headedPolicy p) (h : not s ≡ fal
   pub first : {k : ℕ} → k ≡ firstTerm p → k ≤ lastOf 6 p
   first f = let u = simp tests at right-header in rw f (u .0)
 
-fault-is : {w : Trail} {q : Walk} → Arrived w q → w .fault ≡ faultOf q
+fault-is : {s : List ℕ} {n : ℕ} {q : Walk} → Arrived s n q → n ≡ faultOf q
 fault-is (going z m) = z
 fault-is (stopped z) = z
 
@@ -251,13 +256,13 @@ module _ (v p : List ℕ) {t : Bool} (e : t ≡ sized 6 3078 (length p)) where
     unfolding policyRefusal
     wrong-header g = rw (right-size p e h, sym es ∙ not-true s g)
 
-    -- the walk from the empty trail u has ended with trail w
-    pub walked : {k : ℕ} {u w : Trail} → not s ≡ false → k ≡ firstTerm p → u .seen ≡ replicate trailWords 0 → Follows v p 0 k u w → w .fault ≡ policyRefusal v p
+    -- the walk from no bits has ended with the number n
+    pub walked : {k n : ℕ} {w : List ℕ} → not s ≡ false → k ≡ firstTerm p → Follows v p 0 k (replicate trailWords 0) w n → n ≡ policyRefusal v p
     unfolding policyRefusal
-    walked {k} g ek eu whole =
+    walked {k} g ek whole =
         rw (right-size p e h, right-header p es g, sym ek)
         (fault-is (whole .arrives (length p) [] (first p es g ek, omega (arith, falling-le (lastOf 6 p) k))
-        (rw eu (record { whole = refl; same = λ j _ _. in-zeros trailWords j }))))
+        (record { whole = refl; same = λ j _ _. in-zeros trailWords j })))
 
 -- ---- the refusals in order
 

@@ -1,4 +1,4 @@
--- What the walk carries: the records reached so far as bits, or a fault, and when it agrees with the definition's walk.
+-- What the walk leaves behind: the records reached so far as bits, and a fault, and when they agree with the definition's walk.
 use Prim.Native.Nat.{_/_, _≤_, suc, ℕ}
 use mathlib.Core.Bool.{Bool, cond}
 use mathlib.Core.List.{List}
@@ -9,7 +9,6 @@ use Rattle.meaning.proofs.Links.{Enough}
 use Rattle.meaning.specs.Lists.{any}
 use Rattle.meaning.specs.Policy.{Walk, fault, reached, walk}
 use Rattle.meaning.specs.Records.{lastOf}
-use Rattle.policy.specs.declared.Trail.{Trail}
 use Rattle.words.specs.Sets.{inSet}
 
 -- "At most 512 records follow."
@@ -29,11 +28,13 @@ pub record Marks (words seen : List ℕ) : Type 0 where
   pub whole : length words ≡ trailWords
   pub same : (j : ℕ) → 1 ≤ j → j ≤ mostRecords → inSet words j ≡ any (eqb j) seen
 
--- the trail is what a walk ends with: the records reached and no fault, or the fault
-pub data Arrived (t : Trail) : Walk → Type 0 where
-  going : {seen : List ℕ} → t .fault ≡ 0 → Marks (t .seen) seen → Arrived t (reached seen)
-  stopped : {n : ℕ} → t .fault ≡ suc n → Arrived t (fault (suc n))
+-- the words' bits and the number are what a walk ends with: the records reached and 0, or the fault
+pub data Arrived (words : List ℕ) (n : ℕ) : Walk → Type 0 where
+  going : {seen : List ℕ} → n ≡ 0 → Marks words seen → Arrived words n (reached seen)
+  stopped : {m : ℕ} → n ≡ suc m → Arrived words n (fault (suc m))
 
--- with trail t, the walk from record k on at a depth ends with trail r: for every fuel that is enough, and every list that t's bits are
-pub record Follows (v p : List ℕ) (depth k : ℕ) (t r : Trail) : Type 0 where
-  pub arrives : (f : ℕ) (seen : List ℕ) → Enough (lastOf 6 p) f k → Marks (t .seen) seen → Arrived r (walk f v p depth k seen)
+-- with the bits s, the walk from record k on at a depth ends with the bits s′ and the number n: for every fuel that is enough, and every
+-- list that s is of
+pub record Follows (v p : List ℕ) (depth k : ℕ) (s s′ : List ℕ) (n : ℕ) : Type 0 where
+  pub arrives : (f : ℕ) (seen : List ℕ) → Enough (lastOf 6 p) f k → Marks s seen → Arrived s′ n (walk f v p depth k seen)
+  pub size : length s′ ≡ length s

@@ -9,11 +9,13 @@ use vocabulary::is_class;
 use vocabulary::is_feature;
 use vocabulary::is_role;
 use vocabulary::vocabulary_refusal;
+use words::has;
+use words::insert;
 ghost use mathlib.Core.Path.{_≡_};
 ghost use mathlib.Core.Bool.{cond, not};
 ghost use Prim.Native.Nat.{_≤_};
 ghost use lib.Dec.{eqb};
-ghost use lib.ListN.{length, replicate};
+ghost use lib.ListN.{length};
 ghost use Rattle.meaning.specs.Answers.{readingAnswer};
 ghost use Rattle.meaning.specs.Operations.{inputRefusal, readPolicy, readSecondPolicy};
 ghost use Rattle.meaning.specs.Policy.{childOf, firstTerm, headedPolicy, hiOf, kindOf, loOf, nameOf, nextOf, policyRefusal};
@@ -21,8 +23,7 @@ ghost use Rattle.meaning.specs.Policy.{recordFits, second, soundRecord};
 ghost use Rattle.meaning.specs.Records.{lastOf, orElse};
 ghost use Rattle.meaning.specs.Vocabulary.{vocabularyRefusal};
 ghost use Rattle.policy.specs.Numbers.{numbered};
-ghost use Rattle.policy.specs.Trails.{Follows, faultAt, mostRecords, trailWords};
-ghost use Rattle.words.specs.Sets.{inSet, including};
+ghost use Rattle.policy.specs.Trails.{Follows, faultAt, mostRecords};
 
 // The most records behind the header.
 const MOST_RECORDS: usize = 512;
@@ -119,52 +120,8 @@ fn is_sound(v: &[u32], p: &[u32], depth: u32, k: u32) -> bool
     is_fit(v, p, depth, k) & (links(last, k, child_of(p, k)) & links(last, k, next_of(p, k)))
 }
 
-// The records reached so far, a bit each, and the first fault, 0 for none.
-struct Trail {
-    seen: [u32; Trail::WORDS],
-    fault: u32,
-}
-
-impl Trail {
-    const WORDS: usize = MOST_RECORDS / 32;
-
-    // No record reached.
-    fn new() -> Self
-        ensures { λ r. ⌜ (r .seen ≡ replicate trailWords 0) × (r .fault ≡ 0) ⌝ }
-    {
-        Trail {
-            seen: [0; Trail::WORDS],
-            fault: 0,
-        }
-    }
-
-    // Whether record k was reached before.
-    fn has(self, k: u32) -> bool
-        ensures { λ r. ⌜ r ≡ inSet (self .seen) k ⌝ }
-    {
-        words::has(&self.seen, k)
-    }
-
-    // The trail with record k reached.
-    fn with(self, k: u32) -> Self
-        ensures { λ r. ⌜ (r .seen ≡ including (self .seen) k) × (r .fault ≡ self .fault) ⌝ }
-    {
-        let mut seen = self.seen;
-        words::insert(&mut seen, k);
-        Trail {
-            seen,
-            fault: self.fault,
-        }
-    }
-
-    // The trail with a fault.
-    fn at_fault(self, n: u32) -> Self
-        ensures { λ r. ⌜ r .fault ≡ n ⌝ }
-    {
-        let seen = self.seen;
-        Trail { seen, fault: n }
-    }
-}
+// Words with a bit for each record.
+const MARKS: usize = MOST_RECORDS / 32;
 
 // The fault at record k, 0 for none, in the order 7, 6, 8.
 fn fault_at(v: &[u32], p: &[u32], depth: u32, k: u32, reached: bool) -> u32
@@ -181,25 +138,27 @@ fn fault_at(v: &[u32], p: &[u32], depth: u32, k: u32, reached: bool) -> u32
     if DEEPEST < depth { 8 } else { 0 }
 }
 
-// The walk from record k on. It ends, since the links of a sound record rise.
-fn walk_from(v: &[u32], p: &[u32], depth: u32, k: u32, trail: Trail) -> Trail
-    requires { ⌜ (6 ≤ length (now p)) × (lastOf 6 (now p) ≤ mostRecords) × (k ≤ lastOf 6 (now p)) × (depth ≤ 17) × (trail .fault ≡ 0) ⌝ }
-    ensures { λ r. ⌜ Follows (now (v .entry)) (now (p .entry)) depth k trail r ⌝ }
+// The first fault of the walk from record k on, 0 for none; the records reached are marked. It ends, since the links of a sound record
+// rise.
+fn walk_from(v: &[u32], p: &[u32], depth: u32, k: u32, seen: &mut [u32]) -> u32
+    requires { ⌜ (6 ≤ length (now p)) × (lastOf 6 (now p) ≤ mostRecords) × (k ≤ lastOf 6 (now p)) × (depth ≤ 17) ⌝ }
+    ensures { λ r. ⌜ Follows (now (v .entry)) (now (p .entry)) depth k (now (seen .entry)) (now (seen .exit)) r ⌝ }
 {
     if k == 0 {
-        return trail;
+        return 0;
     }
-    let fault = fault_at(v, p, depth, k, trail.has(k));
+    let fault = fault_at(v, p, depth, k, has(seen, k));
     if fault != 0 {
-        return trail.at_fault(fault);
+        return fault;
     }
     let child = child_of(p, k);
     let next = next_of(p, k);
-    let inner = walk_from(v, p, depth + 1, child, trail.with(k));
-    if inner.fault != 0 {
+    insert(seen, k);
+    let inner = walk_from(v, p, depth + 1, child, seen);
+    if inner != 0 {
         return inner;
     }
-    walk_from(v, p, depth, next, inner)
+    walk_from(v, p, depth, next, seen)
 }
 
 fn is_headed(p: &[u32]) -> bool
@@ -221,8 +180,8 @@ pub fn policy_refusal(v: &[u32], p: &[u32]) -> u32
     if !is_headed(p) {
         return 5;
     }
-    let trail = walk_from(v, p, 0, first_term(p), Trail::new());
-    trail.fault
+    let mut seen = [0; MARKS];
+    walk_from(v, p, 0, first_term(p), &mut seen)
 }
 
 // A second policy's refusals are 10 greater.

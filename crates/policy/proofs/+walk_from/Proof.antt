@@ -1,3 +1,4 @@
+-- `walk_from`: a fault at the record, no record left, or the child chain and then the next. The records left fall.
 use borrow.Author.Needs.{needs}
 use Prim.Native.Nat.{ℕ, _<_}
 use borrow.Fn.Kinds.{In}
@@ -8,24 +9,23 @@ use Rattle.policy.proofs.Laws.{deeper, fewer, inside, walk-ends, walk-f
 use Rattle.policy.proofs.walk_from.Reads as walk-from
 use Rattle.policy.proofs.walk_from.Kinds as walk-from-kinds
 use Rattle.policy.proofs.+walk_from.Lts-walk_from as walk-from-lts
-use Rattle.policy.proofs.Trail.at_fault.Reads as at-fault-reads
-use Rattle.policy.proofs.Trail.has.Reads as has-reads
-use Rattle.policy.proofs.Trail.with.Reads as with-reads
 use Rattle.policy.proofs.child_of.Reads as child-of-reads
 use Rattle.policy.proofs.fault_at.Reads as fault-at-reads
 use Rattle.policy.proofs.next_of.Reads as next-of-reads
+use Rattle.words.proofs.has.Reads as has-reads
+use Rattle.words.proofs.insert.Reads as insert-reads
 use Rattle.policy.proofs.+walk_from.{statement}
 use Rattle.policy.proofs.+walk_from.Tie.{close}
 
-abbrev μ-walk-from : Measures 2 walk-from-kinds.ps ℕ
+abbrev μ-walk-from : Measures 3 walk-from-kinds.ps ℕ
 μ-walk-from κs a = falling (lastOf 6 (a .1 .0 .now)) (a .1 .1 .1 .0)
 
-abbrev walk-from-at : ℕ → In 2 walk-from-kinds.ps
-walk-from-at t = and 2 walk-from-kinds.ps (is 2 walk-from-kinds.ps μ-walk-from t) walk-from.Pre
+abbrev walk-from-at : ℕ → In 3 walk-from-kinds.ps
+walk-from-at t = and 3 walk-from-kinds.ps (is 3 walk-from-kinds.ps μ-walk-from t) walk-from.Pre
 
-abbrev walk-from-below : ℕ → In 2 walk-from-kinds.ps
+abbrev walk-from-below : ℕ → In 3 walk-from-kinds.ps
 walk-from-below t =
-    and 2 walk-from-kinds.ps (falls 2 walk-from-kinds.ps _<_ μ-walk-from t) walk-from.Pre
+    and 3 walk-from-kinds.ps (falls 3 walk-from-kinds.ps _<_ μ-walk-from t) walk-from.Pre
 
 pub +walk-from-spec : {M : Type 1} → statement M
 +walk-from-spec = close μ-walk-from λ t. walk-from-lts.spec (
@@ -33,29 +33,44 @@ pub +walk-from-spec : {M : Type 1} → statement M
   has-reads.Learnt,
   fault-at-reads.Asked,
   fault-at-reads.Learnt,
-  at-fault-reads.Asked,
-  at-fault-reads.Learnt,
   child-of-reads.Asked,
   child-of-reads.Learnt,
   next-of-reads.Asked,
   next-of-reads.Learnt,
-  with-reads.Asked,
-  with-reads.Learnt,
+  insert-reads.Asked,
+  insert-reads.Learnt,
   walk-from-below t,
   walk-from.Post,
 )
     (walk-from-at t)
     walk-from.Post
+    -- returns
     (λ c. search walk-ends)
+    -- has-requires
     (λ c κs. search needs)
+    -- fault-at-requires
     (λ c κs. search needs)
-    (λ c κs. search needs)
-    (λ c. search walk-faults)
-    (λ c κs. search needs)
-    (λ c κs. search needs)
+    -- same-length
     (λ c. search needs)
+    -- returns-2
+    (λ c. search walk-faults)
+    -- child-of-requires
     (λ c κs. search needs)
-    (λ c κs. (search fewer, (search needs, search needs, search inside, search deeper, search needs)))
+    -- next-of-requires
+    (λ c κs. search needs)
+    -- insert-requires
+    (λ c κs. search needs)
+    -- add-walk-from
+    (λ c. search needs)
+    -- walk-from-requires
+    (λ c κs. (search fewer, (search needs, search needs, search inside, search deeper)))
+    -- same-length-2
+    (λ c. search needs)
+    -- returns-3
     (λ c. search walk-stops)
-    (λ c κs. (search fewer, (search needs, search needs, search inside, search needs, search needs)))
-    (λ c. let pre = c .before .before .before .before .before .before .before .before .before .before .before .before .before .pre .1 in search walk-on)
+    -- walk-from-requires-2
+    (λ c κs. (search fewer, (search needs, search needs, search inside, search needs)))
+    -- same-length-3
+    (λ c. search needs)
+    -- returns-4
+    (λ c. search walk-on)
