@@ -1,15 +1,18 @@
 -- A union never lowers the words' sum, and leaves it only where it adds nothing: what a search that only adds ends by. Assumes nothing.
 use Prim.Native.Nat.{_*_, _+_, _/_, _<_, _≤_, suc, zero, ℕ}
 use lib.Bits.{bitOr, or-step}
-use lib.Dec.{T}
+use lib.Dec.{T, eqb}
 use lib.ListN.{drop, getD, length, take, take-append-drop}
 use lib.Seq.{drop-drop, ext-getD}
-use mathlib.Core.Bool.{false, true, true≢false}
+use mathlib.Core.Bool.{Bool, _&&_, true}
 use mathlib.Core.List.{List, [], _++_, _∷_}
 use mathlib.Core.Logic.{_↔_}
 use mathlib.Core.Path.{_≡_, _∙_, ap, ap₂, refl, subst, sym}
+use borrow.Author.Count.{below-more}
+use borrow.Author.Tests.{eq-eqb}
 use native.Mathlib.Nat.{suc-mul}
 use native.Mathlib.Omega.{arith}
+use Rattle.meaning.proofs.Links.{tests}
 use Rattle.meaning.proofs.Rules.{or-right}
 use Rattle.words.specs.Rows.{putAt, rowAt}
 use Rattle.words.specs.Sets.{inSet, unionOf, wordSum}
@@ -65,14 +68,25 @@ unfolding wordSum
 sum-most [] b h = omega arith
 sum-most (w ∷ ws) b h = let first : w < b = h 0 in omega (arith, sum-most ws b (λ k. h (suc k)), suc-mul (length ws) b)
 
--- ---- `covers`: a word that the union changes, and none
+-- ---- `covers`: the union changes no word
 
-module _ (ws vs : List ℕ) (l : length vs ≤ length ws) where
-  pub uncovered : (i : ℕ) → (bitOr (getD ws i 0) (getD vs i 0) ≡ getD ws i 0 → ⊥) → (false ≡ true) ↔ (unionOf ws vs ≡ ws)
-  uncovered i n = (
-    λ f. absurd (true≢false (sym f)),
-    λ e. absurd (n (sym (union-at ws vs l i) ∙ ap (λ (s : List ℕ). getD s i 0) e)),
+-- none of the first i
+abbrev pub KeptTo : List ℕ → List ℕ → ℕ → Type 0
+KeptTo ws vs i = (j : ℕ) → j < i → bitOr (getD ws j 0) (getD vs j 0) ≡ getD ws j 0
+
+module _ (ws vs : List ℕ) where
+  pub covers-none : (true ≡ true) ↔ KeptTo ws vs 0
+  covers-none = (λ _ j h. absurd (omega arith), λ _. refl)
+
+  pub covers-more : (b : Bool) (i : ℕ) → (b ≡ true) ↔ KeptTo ws vs i →
+      (b && eqb (bitOr (getD ws i 0) (getD vs i 0)) (getD ws i 0) ≡ true) ↔ KeptTo ws vs (i + 1)
+  covers-more b i r = (
+    λ e. let u = simp tests at e in below-more _ _ (r .0 (u .0)) (u .1),
+    λ h. rw (r .1 (λ j l. h j (omega arith))) (eq-eqb _ _ (h i (omega arith))),
   )
 
-  pub covers-all : (i : ℕ) → length ws ≤ i → ((j : ℕ) → j < i → bitOr (getD ws j 0) (getD vs j 0) ≡ getD ws j 0) → (true ≡ true) ↔ (unionOf ws vs ≡ ws)
-  covers-all i m h = (λ _. ext-getD 0 (unionOf ws vs) ws (length-union ws vs) (λ j q. union-at ws vs l j ∙ h j (omega (arith, length-union ws vs))), λ _. refl)
+  pub covers-all : length vs ≤ length ws → (b : Bool) (i : ℕ) → length ws ≤ i → (b ≡ true) ↔ KeptTo ws vs i → (b ≡ true) ↔ (unionOf ws vs ≡ ws)
+  covers-all l b i m r = (
+    λ e. ext-getD 0 (unionOf ws vs) ws (length-union ws vs) (λ j q. union-at ws vs l j ∙ r .0 e j (omega (arith, length-union ws vs))),
+    λ e. r .1 (λ j q. sym (union-at ws vs l j) ∙ ap (λ (s : List ℕ). getD s j 0) e),
+  )

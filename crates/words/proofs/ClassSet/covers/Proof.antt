@@ -1,43 +1,35 @@
--- `ClassSet::covers`: word by word, to the first that the union changes.
-use Prim.Native.Nat.{_-_, _<_, _≤_, ℕ}
-use borrow.Author.Count.{below-more}
+-- `ClassSet::covers`: word by word, whether the union has changed none so far.
+use Prim.Native.Nat.{_-_, _≤_}
 use borrow.Author.Needs.{needs}
-use lib.Bits.{bitOr}
-use lib.ListN.{getD, length}
+use lib.ListN.{length}
+use mathlib.Core.Bool.{true}
+use mathlib.Core.Logic.{_↔_}
 use mathlib.Core.Path.{_≡_}
 use native.Mathlib.Omega.{arith}
 use Rattle.words.specs.Rows.{classWords}
-use Rattle.words.proofs.Growth.{covers-all, uncovered}
+use Rattle.words.proofs.Growth.{KeptTo, covers-all, covers-more, covers-none}
 use Rattle.words.proofs.ClassSet.covers.Statement.{statement}
 use Rattle.words.proofs.ClassSet.covers.Tie as tie
 
 abbrev Inv-loop : tie.InvT-loop
-Inv-loop self other i₀ i =
-    (i ≤ classWords) × ((j : ℕ) → j < i → bitOr (getD (self .words) j 0) (getD (other .words) j 0) ≡ getD (self .words) j 0)
+Inv-loop self other same₀ i₀ same i = (i ≤ classWords) × ((same ≡ true) ↔ KeptTo (self .words) (other .words) i)
 
 abbrev μ-loop : tie.MeasureT-loop
-μ-loop self other i₀ i = classWords - i
+μ-loop self other same₀ i₀ same i = classWords - i
 
-loop-holds : tie.Need-loop-holds Inv-loop μ-loop
-loop-holds c = (search needs, λ j h. absurd (omega arith))
+loop-again : tie.Need-loop-again Inv-loop μ-loop
+loop-again c =
+    let l = c .before .before .before .before .loop in
+    let a = c .before .before .before .before .before .args in
+    (search needs, covers-more (a .t1 .words) (a .t2 .words) (l .same) (l .i) (l .inv .1))
 
 returns : tie.Need-returns Inv-loop μ-loop
 returns c =
-    let a = c .before .before .before .before .before .before .args in
-    let left : length (a .t1 .words) ≡ classWords = search needs in
-    let right : length (a .t2 .words) ≡ classWords = search needs in
-    uncovered (a .t1 .words) (a .t2 .words) (omega arith) (c .before .before .before .before .before .loop .i) (c .if1 .taken)
-
-loop-again : tie.Need-loop-again Inv-loop μ-loop
-loop-again c = (search needs, below-more _ _ (c .before .before .before .before .before .loop .inv .1) (c .if1 .left))
-
-returns-2 : tie.Need-returns-2 Inv-loop μ-loop
-returns-2 c =
     let l = c .before .loop in
     let a = c .before .before .args in
     let left : length (a .t1 .words) ≡ classWords = search needs in
     let right : length (a .t2 .words) ≡ classWords = search needs in
-    covers-all (a .t1 .words) (a .t2 .words) (omega arith) (l .i) (omega arith) (l .inv .1)
+    covers-all (a .t1 .words) (a .t2 .words) (omega arith) (l .same) (l .i) (omega arith) (l .inv .1)
 
 pub covers-spec : {M : Type 1} → statement M
 covers-spec =
@@ -45,15 +37,14 @@ covers-spec =
     (tie.spec
     Inv-loop
     μ-loop
-    loop-holds
+    (λ c. (search needs, covers-none (c .args .t1 .words) (c .args .t2 .words)))
     (λ c. search needs)
     (λ c. search needs)
     (λ c. search needs)
     (λ c. search needs)
     (λ c. search needs)
     (λ c. search needs)
-    returns
     (λ c. search needs)
     (λ c. search needs)
     loop-again
-    returns-2)
+    returns)
