@@ -1,5 +1,7 @@
 #!/usr/bin/env python3
-"""examples.py PROGRAM: the consent desk's examples through the program, against the output stored in tests/examples.
+"""examples.py PROGRAM [WRAPPER...]: the consent desk's examples through the program, against the output stored in tests/examples.
+
+The wrapper is a command to put before the program, such as valgrind -q --error-exitcode=99.
 
 Document 01, "The consent desk's examples": those that go through the program, the starred ones (which are also proved) and the
 rest. Each case is a vocabulary and two policies; what the program must print stands in tests/examples/NAME.txt, written by hand
@@ -124,19 +126,19 @@ def inputs():
 
 
 def main():
-    program, failed, seen = sys.argv[1], 0, set()
+    command, failed, seen = sys.argv[2:] + sys.argv[1:2], 0, set()
     for name, data in inputs():
         seen.add(name + '.txt')
-        printed = subprocess.run([program], input=data, stdout=subprocess.PIPE, check=True).stdout
+        run = subprocess.run(command, input=data, stdout=subprocess.PIPE)
         with open(os.path.join(HERE, name + '.txt'), 'rb') as stored:
             wanted = stored.read()
-        if printed != wanted:
+        if run.returncode or run.stdout != wanted:
             failed += 1
-            print('%s: printed %r, wanted %r' % (name, printed[:200], wanted[:200]))
+            print('%s: status %d, printed %r, wanted %r' % (name, run.returncode, run.stdout[:200], wanted[:200]))
     for name in sorted(set(os.listdir(HERE)) - seen):
         failed += 1
         print('%s: no such case' % name)
-    print('%d examples through the program, %d failed' % (len(seen), failed))
+    print('%d examples through %s, %d failed' % (len(seen), os.path.basename(command[0]), failed))
     sys.exit(1 if failed else 0)
 
 

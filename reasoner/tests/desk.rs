@@ -69,6 +69,24 @@ fn spans_and_special_classes() {
 }
 
 #[test]
+fn policies_are_owl_classes() {
+    let document = desk(
+        "Policy(ObjectIntersectionOf(:Data ObjectSomeValuesFrom(:has owl:Thing)) owl:Nothing
+          DataSomeValuesFrom(:days DatatypeRestriction(xsd:integer
+            xsd:minInclusive 1 xsd:maxInclusive 30)))
+         Policy()",
+    );
+    let span = r#"DatatypeRestriction(xsd:integer xsd:minInclusive "1"^^xsd:integer xsd:maxInclusive "30"^^xsd:integer)"#;
+    let inside = format!(
+        "ObjectUnionOf(ObjectIntersectionOf(:Data ObjectSomeValuesFrom(:has owl:Thing)) \
+         owl:Nothing DataSomeValuesFrom(:days {span}))"
+    );
+    assert_eq!(document.expressions(), [inside, "owl:Nothing".to_owned()]);
+    assert!(document.axioms().starts_with("Declaration(Class(:Data))\n"));
+    assert!(document.axioms().ends_with("ObjectPropertyRange(:shows :Data)\n"));
+}
+
+#[test]
 fn mistakes_have_a_place() {
     let cases = [
         ("Policy()", "line 1, column 9: a text has two policies, the first and the second; this one has 1"),

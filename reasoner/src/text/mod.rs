@@ -13,7 +13,8 @@
 //! Policy(owl:Thing)
 //! ```
 //!
-//! Declarations number the names in their order. The first policy stands before the second. A
+//! Declarations number the names in their order. The first policy stands before the second. OWL
+//! writes a number as `"30"^^xsd:integer`, and so does the printer; 30 alone is read too. A
 //! policy's records are laid out in the order of the walk, unless `Annotation(:recordOrder "1 3 2")`
 //! at its front gives each record of the walk another number.
 
@@ -59,11 +60,11 @@ pub struct Names {
 }
 
 impl Names {
-    /// Names made of numbers: :C1, :r1, :f1.
+    /// Names made of numbers, behind a beginning such as ":": then they are :C1, :r1, :f1.
     #[must_use]
-    pub fn numbered(vocabulary: &Vocabulary) -> Self {
+    pub fn numbered(beginning: &str, vocabulary: &Vocabulary) -> Self {
         let series = |letter: &str, count: u32| {
-            (1..=count).map(|number| format!(":{letter}{number}")).collect()
+            (1..=count).map(|number| format!("{beginning}{letter}{number}")).collect()
         };
         Self {
             classes: series("C", vocabulary.classes),
@@ -130,7 +131,7 @@ impl Document {
         let first = Policy::read(&vocabulary, &p, Place::First)?;
         let second = Policy::read(&vocabulary, &q, Place::Second)?;
         Ok(Self {
-            names: Names::numbered(&vocabulary),
+            names: Names::numbered(":", &vocabulary),
             first: PolicyText::of(first, &p),
             second: PolicyText::of(second, &q),
             vocabulary,
@@ -148,6 +149,21 @@ impl Document {
     pub fn encode(&self) -> Vec<u8> {
         let [v, p, q] = self.words();
         bytes_of_parts(&v, &p, &q)
+    }
+
+    /// The declarations and axioms of the vocabulary, which are OWL as they stand.
+    #[must_use]
+    pub fn axioms(&self) -> String {
+        let mut text = String::new();
+        printer::vocabulary(&self.names, &self.vocabulary, &mut text)
+            .expect("a string takes every line");
+        text
+    }
+
+    /// The two policies as class expressions, which are OWL as they stand.
+    #[must_use]
+    pub fn expressions(&self) -> [String; 2] {
+        [&self.first, &self.second].map(|policy| printer::union(&self.names, &policy.terms))
     }
 
     /// Decides compliance, with room for every countermodel, and says the answer in words.

@@ -1,13 +1,21 @@
 //! From a document to text, and a countermodel read aloud.
 
 use super::{Document, Names, PolicyText};
-use crate::policy::Conjunct;
-use crate::vocabulary::Axiom;
+use crate::policy::{Conjunct, Term};
+use crate::vocabulary::{Axiom, Vocabulary};
 use std::fmt::{self, Write as _};
 
 /// Writes a document so that it reads back.
 pub fn document(document: &Document, f: &mut fmt::Formatter<'_>) -> fmt::Result {
-    let Document { names, vocabulary, first, second } = document;
+    vocabulary(&document.names, &document.vocabulary, f)?;
+    for one in [&document.first, &document.second] {
+        policy(&document.names, one, f)?;
+    }
+    Ok(())
+}
+
+/// The names' declarations and what the vocabulary states, a line each.
+pub fn vocabulary(names: &Names, stated: &Vocabulary, f: &mut impl fmt::Write) -> fmt::Result {
     let series = [
         ("Class", &names.classes),
         ("ObjectProperty", &names.roles),
@@ -18,11 +26,8 @@ pub fn document(document: &Document, f: &mut fmt::Formatter<'_>) -> fmt::Result 
             writeln!(f, "Declaration({keyword}({name}))")?;
         }
     }
-    for &one in &vocabulary.axioms {
+    for &one in &stated.axioms {
         writeln!(f, "{}", axiom(names, one))?;
-    }
-    for one in [first, second] {
-        policy(names, one, f)?;
     }
     Ok(())
 }
@@ -78,6 +83,7 @@ fn conjunct(names: &Names, one: &Conjunct) -> String {
         }
         Conjunct::Within(feature, lo, hi) => {
             let feature = name(&names.features, feature.0);
+            let [lo, hi] = [lo, hi].map(|end| format!("\"{end}\"^^xsd:integer"));
             format!(
                 "DataSomeValuesFrom({feature} DatatypeRestriction(xsd:integer \
                  xsd:minInclusive {lo} xsd:maxInclusive {hi}))"
@@ -87,13 +93,22 @@ fn conjunct(names: &Names, one: &Conjunct) -> String {
 }
 
 fn concept(names: &Names, inner: &[Conjunct]) -> String {
-    match inner {
-        [] => "owl:Thing".to_owned(),
-        [one] => conjunct(names, one),
-        many => {
-            let all: Vec<String> = many.iter().map(|one| conjunct(names, one)).collect();
-            format!("ObjectIntersectionOf({})", all.join(" "))
-        }
+    let all = inner.iter().map(|one| conjunct(names, one)).collect();
+    joined("ObjectIntersectionOf", all, "owl:Thing")
+}
+
+/// Simple policies as one class expression.
+pub fn union(names: &Names, terms: &[Term]) -> String {
+    let all = terms.iter().map(|term| concept(names, term)).collect();
+    joined("ObjectUnionOf", all, "owl:Nothing")
+}
+
+/// OWL has no union or intersection of fewer than two: one stands for itself, none for `neutral`.
+fn joined(keyword: &str, mut all: Vec<String>, neutral: &str) -> String {
+    match all.len() {
+        0 => neutral.to_owned(),
+        1 => all.remove(0),
+        _ => format!("{keyword}({})", all.join(" ")),
     }
 }
 

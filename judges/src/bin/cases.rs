@@ -1,0 +1,119 @@
+//! The proved library beside the reasoner, in one process.
+//!
+//! `cases [FIRST [COUNT]]` holds every operation's answer, and what it leaves in the lent slices, to the reasoner's: for every
+//! case at a limit, every directed fault, and COUNT seeded cases from seed FIRST on (100,000 from 0). On a difference it prints
+//! the case, made as small as still differs, and fails. An answer that no case has is a failure too: then the cases do not
+//! reach it.
+
+use judges::{Given, Tally};
+use reasoner::random::{shrink::shrink, Case};
+use std::process::ExitCode;
+
+/// What the operations answer for a case, and the slices that they were lent afterwards.
+#[derive(PartialEq, Eq)]
+struct Told {
+    answers: [String; 7],
+    work: [Vec<u32>; 4],
+    out: [Vec<u32>; 2],
+}
+
+const OPERATIONS: [&str; 7] = [
+    "read_vocabulary",
+    "read_policy",
+    "read_second_policy",
+    "possible",
+    "compliance",
+    "equality",
+    "model_check",
+];
+
+/// Both sides have the same functions, so one text calls either.
+macro_rules! told {
+    ($side:ident, $case:expr) => {{
+        let case: &Case = $case;
+        let mut work = [case.work(), case.work(), case.work(), case.work()];
+        let mut out = [case.out(), case.out()];
+        let answers = [
+            format!("{:?}", $side::read_vocabulary(&case.v)),
+            format!("{:?}", $side::read_policy(&case.v, &case.p)),
+            format!("{:?}", $side::read_second_policy(&case.v, &case.q)),
+            format!("{:?}", $side::possible(&case.v, &case.p, &mut work[0])),
+            format!(
+                "{:?}",
+                $side::compliance(&case.v, &case.p, &case.q, &mut work[1], &mut out[0])
+            ),
+            format!("{:?}", $side::equality(&case.v, &case.p, &case.q, &mut work[2], &mut out[1])),
+            format!("{:?}", $side::model_check(&case.v, &case.p, &case.q, &case.m, &mut work[3])),
+        ];
+        Told { answers, work, out }
+    }};
+}
+
+fn differs(case: &Case) -> bool {
+    told!(gimbuka, case) != told!(reasoner, case)
+}
+
+/// Counts a case's answers, or gives the case where the sides differ.
+fn judge(tally: &mut Tally, case: &Case) -> Result<(), Box<Case>> {
+    let told = told!(gimbuka, case);
+    if told != told!(reasoner, case) {
+        return Err(Box::new(case.clone()));
+    }
+    for (operation, answer) in OPERATIONS.iter().zip(&told.answers) {
+        let kind = if answer.starts_with("Refused") {
+            answer
+        } else {
+            answer.split('(').next().unwrap_or("")
+        };
+        tally.count(format!("{operation} {kind}"));
+    }
+    Ok(())
+}
+
+/// The answers that document 01 has.
+fn answers() -> impl Iterator<Item = String> {
+    const READ: [u32; 3] = [1, 2, 3];
+    const FIRST: [u32; 5] = [4, 5, 6, 7, 8];
+    const SECOND: [u32; 5] = [14, 15, 16, 17, 18];
+    let expected: [(&[&str], Vec<u32>); 7] = [
+        (&["Accepted"], READ.to_vec()),
+        (&["Accepted"], [&READ[..], &FIRST].concat()),
+        (&["Accepted"], [&READ[..], &SECOND].concat()),
+        (&["Possible", "Impossible"], [&READ[..], &FIRST, &[21]].concat()),
+        (&["Compliant", "Outside"], [&READ[..], &FIRST, &SECOND, &[21, 22, 23]].concat()),
+        (&["Equal", "Differs"], [&READ[..], &FIRST, &SECOND, &[21, 22, 23]].concat()),
+        (&["Yes", "No"], [&READ[..], &FIRST, &SECOND, &[31, 32, 33, 21]].concat()),
+    ];
+    OPERATIONS.into_iter().zip(expected).flat_map(|(operation, (kinds, refusals))| {
+        let kinds = kinds.iter().map(move |kind| format!("{operation} {kind}"));
+        kinds
+            .chain(refusals.into_iter().map(move |number| format!("{operation} Refused({number})")))
+    })
+}
+
+fn report(name: &str, small: &Case) {
+    println!("{name} differs; made small:\n{small}");
+    let (ours, theirs) = (told!(gimbuka, small), told!(reasoner, small));
+    for (at, operation) in OPERATIONS.iter().enumerate() {
+        println!("{operation}: library {}, reasoner {}", ours.answers[at], theirs.answers[at]);
+    }
+}
+
+fn main() -> ExitCode {
+    let seeds = judges::seeds(std::env::args().skip(1), 100_000);
+    let count = seeds.end - seeds.start;
+    let told = judges::sweep(seeds, |tally, given| match given {
+        Given::Directed(case) => judge(tally, case),
+        Given::Seed(seed) => judge(tally, &Case::any(seed)),
+    });
+    match told {
+        Err((name, case)) => report(&name, &shrink(&case, &mut differs)),
+        Ok(tally) => {
+            println!("{count} seeded cases, those at the limits and the directed faults: library and reasoner agree");
+            if tally.has_all(answers()) {
+                return ExitCode::SUCCESS;
+            }
+        }
+    }
+    ExitCode::FAILURE
+}

@@ -1,0 +1,155 @@
+//! What the judges share: the cases that no seed makes, a run over numbers on both cores, a count of the answers.
+
+use reasoner::random::{damage, limits, Case};
+use std::collections::BTreeMap;
+use std::ops::Range;
+use std::sync::atomic::{AtomicU64, Ordering};
+use std::thread;
+
+const THREADS: usize = 2;
+
+/// The seeds that the words of a command line ask for, `[FIRST [COUNT]]`: from 0, and `usual` many, where nothing is said.
+pub fn seeds(words: impl Iterator<Item = String>, usual: u64) -> Range<u64> {
+    let mut numbers = words.map(|word| word.parse::<u64>().expect("a number"));
+    let (first, count) = (numbers.next().unwrap_or(0), numbers.next().unwrap_or(usual));
+    first..first + count
+}
+
+/// What a judge is given: a case that no seed makes, or a seed.
+pub enum Given<'a> {
+    /// A case at a limit, or with a directed fault.
+    Directed(&'a Case),
+    /// A seed, to make a case of.
+    Seed(u64),
+}
+
+/// The cases at every limit and one for every directed fault, with their names.
+fn directed() -> Vec<(String, Case)> {
+    let limits =
+        limits::cases().into_iter().map(|(name, case)| (format!("limit \"{name}\""), case));
+    let faults = damage::faults().into_iter().map(|fault| {
+        let mut case = damage::base();
+        (fault.apply)(&mut case);
+        (format!("fault \"{}\"", fault.name), case)
+    });
+    limits.chain(faults).collect()
+}
+
+/// The answers so far, with how many cases had each.
+#[derive(Default)]
+pub struct Tally(BTreeMap<String, u64>);
+
+impl Tally {
+    /// One more case with this answer.
+    pub fn count(&mut self, answer: String) {
+        *self.0.entry(answer).or_default() += 1;
+    }
+
+    /// How many cases had this answer.
+    #[must_use]
+    pub fn of(&self, answer: &str) -> u64 {
+        self.0.get(answer).copied().unwrap_or(0)
+    }
+
+    fn add(&mut self, other: Tally) {
+        for (answer, times) in other.0 {
+            *self.0.entry(answer).or_default() += times;
+        }
+    }
+
+    /// Says which of these answers no case had; true if there is none such.
+    #[must_use]
+    pub fn has_all(&self, answers: impl Iterator<Item = String>) -> bool {
+        let missing: Vec<String> = answers.filter(|answer| self.of(answer) == 0).collect();
+        for answer in &missing {
+            println!("no case has the answer {answer}");
+        }
+        missing.is_empty()
+    }
+}
+
+/// Judges the directed cases, then the seeds, on both cores. What fails is told with its name, and of several the first, so that
+/// a run tells the same every time.
+pub fn sweep<E: Send>(
+    seeds: Range<u64>,
+    judge: impl Fn(&mut Tally, Given) -> Result<(), E> + Sync,
+) -> Result<Tally, (String, E)> {
+    let directed = directed();
+    let before = directed.len() as u64;
+    let given = |number: u64| match directed.get(number as usize) {
+        Some((_, case)) => Given::Directed(case),
+        None => Given::Seed(seeds.start + number - before),
+    };
+    let told =
+        numbers(before + seeds.end - seeds.start, |tally, number| judge(tally, given(number)));
+    told.map_err(|(number, failure)| match given(number) {
+        Given::Directed(_) => (directed[number as usize].0.clone(), failure),
+        Given::Seed(seed) => (format!("seed {seed}"), failure),
+    })
+}
+
+/// Judges the numbers from 0 to `count`, in rising order; of those that fail the lowest is told.
+fn numbers<E: Send>(
+    count: u64,
+    judge: impl Fn(&mut Tally, u64) -> Result<(), E> + Sync,
+) -> Result<Tally, (u64, E)> {
+    let next = AtomicU64::new(0);
+    let end = AtomicU64::new(count);
+    let work = || {
+        let mut tally = Tally::default();
+        loop {
+            let number = next.fetch_add(1, Ordering::Relaxed);
+            if number >= end.load(Ordering::Relaxed) {
+                return Ok(tally);
+            }
+            if let Err(failure) = judge(&mut tally, number) {
+                // Lower numbers are all taken and will be judged; higher ones need not be.
+                end.fetch_min(number, Ordering::Relaxed);
+                return Err((number, failure));
+            }
+        }
+    };
+    let told: Vec<_> = thread::scope(|scope| {
+        let threads: Vec<_> = (0..THREADS).map(|_| scope.spawn(work)).collect();
+        threads.into_iter().map(|thread| thread.join().expect("a judge that ends")).collect()
+    });
+    merged(told)
+}
+
+/// All tallies together, or the failure with the lowest number.
+fn merged<E>(told: Vec<Result<Tally, (u64, E)>>) -> Result<Tally, (u64, E)> {
+    let mut all = Tally::default();
+    let mut lowest = None;
+    for one in told {
+        match (one, &lowest) {
+            (Ok(tally), _) => all.add(tally),
+            (Err((number, _)), Some((least, _))) if number > *least => {}
+            (Err(failure), _) => lowest = Some(failure),
+        }
+    }
+    lowest.map_or(Ok(all), Err)
+}
+
+#[cfg(test)]
+mod tests {
+    use super::numbers;
+
+    #[test]
+    fn the_lowest_failure_is_told() {
+        for _ in 0..200 {
+            let told =
+                numbers(1_000, |_, number| if number % 97 == 96 { Err(number) } else { Ok(()) });
+            assert_eq!(told.err(), Some((96, 96)));
+        }
+    }
+
+    #[test]
+    fn every_number_is_judged_once() {
+        let tally = numbers(1_000, |tally, number| {
+            tally.count((number % 10).to_string());
+            Ok::<_, ()>(())
+        });
+        let tally = tally.unwrap_or_else(|_| unreachable!());
+        assert!((0..10).all(|digit: u64| tally.of(&digit.to_string()) == 100));
+    }
+}
