@@ -1,4 +1,6 @@
-//! What the judges share: the cases that no seed makes, a run over numbers on both cores, a count of the answers.
+//! What the judges share: the cases that no seed makes, a run over numbers on both cores, a count of the answers, Konclude.
+
+pub mod konclude;
 
 use reasoner::random::{damage, limits, Case};
 use std::collections::BTreeMap;

@@ -4,39 +4,33 @@
 //! (400 from 0); a pair that the library refuses is left out. On a difference it prints the pair, made as small as still differs, as
 //! words and as the desk's text, and fails. It fails too where Konclude gives no answer in time, and where fewer than one pair in five
 //! complies, or fewer than one in five does not: then the pairs are no test. Without Konclude it ends with status 3.
-//!
-//! One ontology asks for many pairs. Each has names of its own, and no axiom speaks of two pairs or of an individual, so that what
-//! holds of a pair is what its own axioms say.
 
 use gimbuka::{compliance, equality, possible, Comparison, Possibility, Verdict};
+use judges::konclude::{empty_classes, Missing};
 use judges::Tally;
 use reasoner::random::{shrink::shrink, Case, Family};
-use reasoner::text::{Document, Names};
+use reasoner::text::Document;
 use reasoner::FULL_WORK;
-use std::collections::HashSet;
+use std::env;
 use std::ops::Range;
-use std::process::{Command, ExitCode};
-use std::{env, fs, io, process};
+use std::process::ExitCode;
 
 /// What is said of a pair: Possible, Compliance, Compliance with the policies changed over, Equality.
 type Answers = [&'static str; 4];
 
 const OPERATIONS: Answers = ["possible", "compliance", "compliance back", "equality"];
 
-const SETTINGS: &str = concat!(env!("CARGO_MANIFEST_DIR"), "/konclude.xml");
 /// Pairs in one ontology.
 const BATCH: usize = 200;
 /// Seconds for one ontology, of which a full one takes about one.
-const LIMIT: &str = "120";
+const LIMIT: u32 = 120;
 /// Words with room for every countermodel.
 const ROOM: usize = 700_005;
 
 /// Why the library is not confirmed.
 enum Failure {
-    /// Konclude is not on this machine.
-    NotThere,
     /// Konclude has no answer.
-    Silent(String),
+    Unanswered(Missing),
     /// The answers for the pair of this seed differ.
     Differs(u64, Box<Case>),
 }
@@ -87,10 +81,8 @@ fn verdict(verdict: Verdict) -> Option<&'static str> {
     }
 }
 
-/// The classes of a pair that Konclude is asked about: the first policy, the first without the second, the second without the first.
-const CLASSES: [&str; 3] = ["First", "Forth", "Back"];
-
-/// What follows for the answers from which of these classes are empty in every interpretation.
+/// What follows for the answers from which of the first policy, the first without the second and the second without the first are
+/// empty in every interpretation.
 fn follows([first, forth, back]: [bool; 3]) -> Answers {
     let contained = |empty| if empty { "compliant" } else { "outside" };
     let equality = match (forth, back) {
@@ -102,88 +94,8 @@ fn follows([first, forth, back]: [bool; 3]) -> Answers {
 }
 
 /// Konclude's answers for all of the pairs, in their order.
-fn konclude<'a>(pairs: impl ExactSizeIterator<Item = &'a Case>) -> Result<Vec<Answers>, Failure> {
-    let count = pairs.len();
-    let answer = classified(&ontology(pairs))?;
-    let named: HashSet<&str> = names(&answer).collect();
-    let empty = empty(&answer);
-    let is_empty = |name: String| match named.contains(name.as_str()) {
-        true => Ok(empty.contains(name.as_str())),
-        false => Err(Failure::Silent(format!("it says nothing of {name}"))),
-    };
-    let of_pair = |number: usize| {
-        let [first, forth, back] = CLASSES.map(|class| is_empty(format!("p{number}-{class}")));
-        Ok(follows([first?, forth?, back?]))
-    };
-    (0..count).map(of_pair).collect()
-}
-
-fn ontology<'a>(pairs: impl Iterator<Item = &'a Case>) -> String {
-    let axioms: String = pairs.enumerate().map(|(number, case)| axioms(number, case)).collect();
-    format!(
-        "Prefix(:=<urn:pairs:>)\n\
-         Prefix(owl:=<http://www.w3.org/2002/07/owl#>)\n\
-         Prefix(xsd:=<http://www.w3.org/2001/XMLSchema#>)\n\
-         Ontology(\n{axioms})\n"
-    )
-}
-
-/// A pair's vocabulary and its classes. To be below an expression is enough for a class that no other axiom names: it is empty in
-/// every interpretation exactly when the expression is. Konclude classifies that much faster than an equivalence.
-fn axioms(number: usize, case: &Case) -> String {
-    let mut document = Document::decode(&case.bytes()).expect("tables that the library reads");
-    document.names = Names::numbered(&format!(":p{number}-"), &document.vocabulary);
-    let [first, second] = document.expressions();
-    let without =
-        |one: &str, other: &str| format!("ObjectIntersectionOf({one} ObjectComplementOf({other}))");
-    let expressions = [first.clone(), without(&first, &second), without(&second, &first)];
-    let below = |(class, expression)| format!("SubClassOf(:p{number}-{class} {expression})\n");
-    let classes: String = CLASSES.into_iter().zip(expressions).map(below).collect();
-    document.axioms() + &classes
-}
-
-/// Konclude's classification of an ontology. With one worker it never ends.
-fn classified(ontology: &str) -> Result<String, Failure> {
-    let file = |name| env::temp_dir().join(format!("konclude-{}-{name}", process::id()));
-    let (question, answer) = (file("question.ofn"), file("answer.owl"));
-    let unable = |error: io::Error| Failure::Silent(error.to_string());
-    fs::write(&question, ontology).map_err(unable)?;
-    let mut command = Command::new("timeout");
-    command.args([LIMIT, "Konclude", "classification", "-w", "2", "-c", SETTINGS, "-i"]);
-    let run = command.arg(&question).arg("-o").arg(&answer).output();
-    let text = fs::read_to_string(&answer);
-    for file in [question, answer] {
-        // One that was never written need not be removed.
-        let _ = fs::remove_file(file);
-    }
-    let run = run.map_err(unable)?;
-    match run.status.code() {
-        Some(0) => {}
-        Some(127) => return Err(Failure::NotThere),
-        Some(124) => return Err(Failure::Silent(format!("it took over {LIMIT} seconds"))),
-        _ => return Err(Failure::Silent(run.status.to_string())),
-    }
-    // It ends with status 0 also where it could not read the ontology.
-    let log = String::from_utf8_lossy(&run.stdout);
-    match log.lines().find(|line| line.contains("{error}") || line.contains("{warning}")) {
-        Some(line) => Err(Failure::Silent(line.to_owned())),
-        None => text.map_err(unable),
-    }
-}
-
-/// The names of our own that stand in a part of the answer.
-fn names(part: &str) -> impl Iterator<Item = &str> {
-    part.split("IRI=\"urn:pairs:").skip(1).filter_map(|rest| rest.split('"').next())
-}
-
-/// The names that the answer has as equivalent to owl:Nothing.
-fn empty(answer: &str) -> HashSet<&str> {
-    let groups = answer.split("<EquivalentClasses>").skip(1);
-    groups
-        .filter_map(|rest| rest.split("</EquivalentClasses>").next())
-        .filter(|group| group.contains("owl#Nothing\""))
-        .flat_map(names)
-        .collect()
+fn konclude<'a>(pairs: impl ExactSizeIterator<Item = &'a Case>) -> Result<Vec<Answers>, Missing> {
+    Ok(empty_classes(pairs, LIMIT)?.into_iter().map(follows).collect())
 }
 
 /// Judges the pairs of some seeds, all in one ontology.
@@ -196,7 +108,7 @@ fn judge(tally: &mut Tally, seeds: Range<u64>) -> Result<(), Failure> {
             Some(answers) => pairs.push((seed, case, answers)),
         }
     }
-    let told = konclude(pairs.iter().map(|(_, case, _)| case))?;
+    let told = konclude(pairs.iter().map(|(_, case, _)| case)).map_err(Failure::Unanswered)?;
     for ((seed, case, ours), theirs) in pairs.into_iter().zip(told) {
         if ours != theirs {
             return Err(Failure::Differs(seed, Box::new(case)));
@@ -213,7 +125,9 @@ fn run(seeds: Range<u64>) -> Result<Tally, Failure> {
     for start in seeds.clone().step_by(BATCH) {
         let batch = start..seeds.end.min(start + BATCH as u64);
         judge(&mut tally, batch.clone()).map_err(|failure| match failure {
-            Failure::Silent(why) => Failure::Silent(format!("seeds {batch:?}: {why}")),
+            Failure::Unanswered(Missing::Silent(why)) => {
+                Failure::Unanswered(Missing::Silent(format!("seeds {batch:?}: {why}")))
+            }
             other => other,
         })?;
     }
@@ -262,8 +176,10 @@ fn main() -> ExitCode {
         Ok(tally) if is_enough(&tally) => return ExitCode::SUCCESS,
         Ok(_) => {}
         Err(Failure::Differs(seed, case)) => report(seed, &case),
-        Err(Failure::Silent(why)) => println!("Konclude gave no answer: {why}"),
-        Err(Failure::NotThere) => {
+        Err(Failure::Unanswered(Missing::Silent(why))) => {
+            println!("Konclude gave no answer: {why}");
+        }
+        Err(Failure::Unanswered(Missing::NotThere)) => {
             println!("Konclude was NOT run: it is not on this machine. This is no pass.");
             return ExitCode::from(3);
         }

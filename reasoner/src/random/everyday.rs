@@ -11,7 +11,6 @@ const PURPOSE: RoleNo = RoleNo(1);
 const DATA: RoleNo = RoleNo(2);
 const STORAGE: RoleNo = RoleNo(3);
 const DURATION: FeatureNo = FeatureNo(1);
-const TERMS: usize = 10;
 
 /// What the pair answers.
 #[derive(Clone, Copy, Debug, PartialEq, Eq)]
@@ -22,16 +21,23 @@ pub enum Answer {
     Outside,
 }
 
-/// A pair of ten simple policies and about 70 records each side.
+/// A pair of everyday size: 256 classes, ten simple policies and about 70 records each side.
 #[must_use]
 pub fn case(seed: u64, answer: Answer) -> Case {
+    sized(seed, answer, 256, 10)
+}
+
+/// A pair over so many classes, 16 or more, and of so many simple policies each side; with five or more of them the consent has one
+/// more, since one of the company's is inside two together.
+#[must_use]
+pub fn sized(seed: u64, answer: Answer, classes: u32, terms: usize) -> Case {
     let mut rng = Rng::new(seed);
-    let vocabulary = vocabulary(&mut rng);
+    let vocabulary = vocabulary(&mut rng, classes);
     let mut company = Vec::new();
     let mut consent = Vec::new();
-    while company.len() < TERMS {
-        let (purpose, data) = (class(&mut rng), class(&mut rng));
-        let last = company.len() + 1 == TERMS;
+    while company.len() < terms {
+        let (purpose, data) = (class(&mut rng, classes), class(&mut rng, classes));
+        let last = company.len() + 1 == terms;
         let days = if last { 1_000 } else { rng.between(20, 400) };
         company.push(term(purpose, data, 1, days));
         let purpose = above(&mut rng, &vocabulary, purpose);
@@ -51,25 +57,29 @@ pub fn case(seed: u64, answer: Answer) -> Case {
     case
 }
 
-/// A tree of 256 classes, 20 disjoint pairs, functional roles and features, ranges.
-fn vocabulary(rng: &mut Rng) -> Vocabulary {
+/// A tree of classes, some disjoint pairs, functional roles and features, ranges.
+fn vocabulary(rng: &mut Rng, classes: u32) -> Vocabulary {
     let mut axioms = Vec::new();
-    for number in 2..=256u32 {
+    for number in 2..=classes {
         let parent =
             rng.between(number.saturating_sub(1).div_ceil(3), number.div_ceil(2).min(number - 1));
         axioms.push(Axiom::Below(ClassNo(number), ClassNo(parent)));
     }
     // Leaves: no class is below two of them.
-    axioms.extend((0..20).map(|at| Axiom::Disjoint(ClassNo(200 + at), ClassNo(230 + at))));
+    let pairs = classes / 12;
+    axioms.extend(
+        (0..pairs)
+            .map(|at| Axiom::Disjoint(ClassNo(classes - at), ClassNo(classes - pairs - at))),
+    );
     axioms.extend((1..=12).map(|role| Axiom::FunctionalRole(RoleNo(role))));
     axioms.extend((1..=4).map(|feature| Axiom::FunctionalFeature(FeatureNo(feature))));
     axioms.extend((1..=9).map(|role| Axiom::Range(RoleNo(role), ClassNo(1))));
     rng.shuffle(&mut axioms);
-    Vocabulary { classes: 256, roles: 16, features: 4, axioms }
+    Vocabulary { classes, roles: 16, features: 4, axioms }
 }
 
-fn class(rng: &mut Rng) -> ClassNo {
-    ClassNo(rng.between(30, 256))
+fn class(rng: &mut Rng, classes: u32) -> ClassNo {
+    ClassNo(rng.between(classes / 8, classes))
 }
 
 /// The class itself, or one some steps up.

@@ -188,14 +188,17 @@ fn comb(depth: u32) -> Case {
     case(&vocabulary, &[term], &[consent, rest])
 }
 
-fn binary(features: u32, covered: bool) -> Case {
+/// Two pieces of each of so many features: as many combinations as that power of two, all of which three consent terms cover
+/// together, or none.
+#[must_use]
+pub fn binary(features: u32, covered: bool) -> Case {
     let vocabulary = names(1, 0, 64);
     let term: Term = (1..=features).map(|feature| within(feature, 0, 1)).collect();
     let second = if covered {
         vec![
-            vec![within(16, 1, 1)],
-            vec![within(1, 1, 1), within(16, 0, 0)],
-            vec![within(1, 0, 0), within(16, 0, 0)],
+            vec![within(features, 1, 1)],
+            vec![within(1, 1, 1), within(features, 0, 0)],
+            vec![within(1, 0, 0), within(features, 0, 0)],
         ]
     } else {
         Vec::new()
