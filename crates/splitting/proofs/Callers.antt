@@ -24,6 +24,7 @@ use Rattle.normal_form.specs.declared.Tables.{Tables}
 use Rattle.splitting.proofs.Storing.{full-kept}
 pub use Rattle.splitting.proofs.Places.{stands-combination, stands-lt}
 pub use Rattle.splitting.proofs.Storing.{constraints-kept, kept-refl, kept-trans}
+pub use Rattle.splitting.proofs.Whole.{widened-form}
 use Rattle.splitting.specs.Ends.{Collectable, endWords}
 use Rattle.splitting.specs.Odometer.{Full, Kept, Splittable, constraintAt, constraintsAt}
 

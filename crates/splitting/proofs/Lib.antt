@@ -7,4 +7,5 @@ pub mod Storing
 pub mod Ways
 pub mod Turning
 pub mod Places
+pub mod Whole
 pub mod Callers

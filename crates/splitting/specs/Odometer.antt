@@ -50,6 +50,11 @@ pub record Kept (n : ℕ) (w w′ : List ℕ) : Type 0 where
   pub same : length w′ ≡ length w
   pub others : (i : ℕ) → ((m : ℕ) → m < n → (i ≡ intervalPlace m + 4 → ⊥) × (i ≡ intervalPlace m + 5 → ⊥)) → getD w′ i 0 ≡ getD w i 0
 
+-- the piece of each of the first n constraints is the constraint
+pub record Widened (n : ℕ) (w w′ : List ℕ) : Type 0 where
+  pub whole : (m : ℕ) → m < n → pieceAt w′ m ≡ constraintAt w′ m
+  pub kept : Kept n w w′
+
 -- what a step's answer says, from combination q, counted from 1: the next one's number, and 0 after the last
 abbrev pub Turned : Policy → ℕ → List ℕ → List ℕ → ℕ → ℕ → Type 0
 Turned Q n w w′ q zero = q ≡ product Q (constraintsAt w n)

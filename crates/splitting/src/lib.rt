@@ -20,7 +20,7 @@ ghost use Rattle.normal_form.specs.Parts.{chainAt};
 ghost use Rattle.normal_form.specs.Steps.{intervalOf};
 ghost use Rattle.normal_form.specs.Tables.{mostEntries, tablesEnd};
 ghost use Rattle.splitting.specs.Ends.{Chained, Collectable, Collected, Ends, Paired, endsIn, least, nearer, pairsPut, upper};
-ghost use Rattle.splitting.specs.Odometer.{Splittable, Started, Stepped, constraintsAt, piecePut};
+ghost use Rattle.splitting.specs.Odometer.{Splittable, Started, Stepped, Widened, constraintsAt, piecePut};
 
 // The most combinations that a call tries.
 const MOST: usize = 65536;
@@ -151,6 +151,18 @@ fn put_piece(work: &mut [u32], i: usize, lo: u32, hi: u32)
     let at = INTERVALS + INTERVAL * i;
     work[at + 4] = lo;
     work[at + 5] = hi;
+}
+
+// Each of the first n constraints whole, before it is split.
+pub fn widen(work: &mut [u32], n: usize)
+    requires { ⌜ Splittable (now work) n ⌝ }
+    ensures { λ _. ⌜ Widened n (now (work .entry)) (now (work .exit)) ⌝ }
+{
+    for i in 0..n {
+        let lo = work[INTERVALS + INTERVAL * i + 2];
+        let hi = work[INTERVALS + INTERVAL * i + 3];
+        put_piece(work, i, lo, hi);
+    }
 }
 
 // The first combination: each of the first n constraints at its first piece.

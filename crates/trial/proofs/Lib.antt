@@ -1,2 +1,3 @@
-pub mod Trying
 pub mod Passing
+pub mod Whole
+pub mod Trying

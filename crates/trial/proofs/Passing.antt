@@ -1,12 +1,13 @@
 -- Laws of the test of one combination against the simple policies of the other policy, one after another.
 use Prim.Native.Nat.{_+_, ℕ}
 use mathlib.Core.Bool.{Bool, _||_, false, true}
-use mathlib.Core.List.{List, _∷_}
+use mathlib.Core.List.{List, [], _∷_}
 use mathlib.Core.Path.{_∙_, _≡_, ap, refl, sym}
 use Rattle.combination.specs.Combination.{Combined}
+use Rattle.meaning.proofs.Rules.{all-of, any-in, at-any, head, isTrue, same-test, tail}
 use Rattle.meaning.proofs.Terms.{Reads}
 use Rattle.meaning.specs.Containment.{passes}
-use Rattle.meaning.specs.Lists.{any}
+use Rattle.meaning.specs.Lists.{All, _∈_, any}
 use Rattle.meaning.specs.NormalForm.{Form}
 use Rattle.meaning.specs.Policy.{Policy, childOf, policyOf}
 use Rattle.meaning.specs.Subsumption.{subsumed}
@@ -15,31 +16,48 @@ use Rattle.normal_form.specs.Tables.{termAt}
 use Rattle.normal_form.specs.declared.Tables.{Tables}
 use Rattle.subsumption.proofs.Callers.{root-tells}
 use Rattle.subsumption.specs.Tests.{Tells, Testable, conjunctsAt}
-use Rattle.trial.specs.Trials.{Askable}
+use Rattle.trial.specs.Trials.{Askable, Taker, Term}
 
--- of whatever combination the tables hold, what the rest tells is what all tell
-abbrev pub Rest : List ℕ → List ℕ → Tables → ℕ → Policy → Type 0
-Rest q w t s l =
-    (K : Vocabulary) (u : Form) → Combined K u w t → any (λ c. subsumed K c (u .node) (u .successors)) l ≡ passes K (policyOf q) u
+-- the rest are simple policies of q, and of whatever combination the tables hold, what the rest tells is what all tell
+pub record Rest (q w : List ℕ) (t : Tables) (s : ℕ) (l : Policy) : Type 0 where
+  pub within : All (λ c. c ∈ policyOf q) l
+  pub told : (K : Vocabulary) (u : Form) → Combined K u w t → any (λ c. subsumed K c (u .node) (u .successors)) l ≡ passes K (policyOf q) u
 
 module _ (q w : List ℕ) (t : Tables) where
   pub rest-starts : Rest q w t 1 (policyOf q)
   unfolding passes
-  rest-starts K u d = refl
+  rest-starts = record { within = all-of (policyOf q) (λ c m. m); told = λ K u d. refl }
 
+  pub rest-ends : (s : ℕ) → Rest q w t s [] → Taker q w t 0
+  rest-ends s r = record { known = λ z. absurd (z refl); takes = λ z. absurd (z refl); none = λ z K u d. sym (r .told K u d) }
+
+  -- the simple policy at record k
   module _ (k : ℕ) {j : ℕ} (e : j ≡ childOf q k) where
     pub testable-term : Askable q w t → Reads q (childOf q k) (termAt q k) → Testable q w t j
     testable-term a r = record { long = a .long; individuals = a .individuals; intervals = a .intervals; reads = rw e r }
 
-    module _ (s : ℕ) (l : Policy) {b : Bool} (f : Tells q w t j 1 b) (r : Rest q w t s (termAt q k ∷ l)) where
-      told : (K : Vocabulary) (u : Form) → Combined K u w t → (b || any (λ c. subsumed K c (u .node) (u .successors)) l) ≡ passes K (policyOf q) u
-      told K u d =
-          ap (λ (x : Bool). x || any (λ c. subsumed K c (u .node) (u .successors)) l)
-          (root-tells d q j f ∙ ap (λ (i : ℕ). subsumed K (conjunctsAt q i) (u .node) (u .successors)) e)
-          ∙ r K u d
+    module _ {b : Bool} (f : Tells q w t j 1 b) where
+      tells-term : (K : Vocabulary) (u : Form) → Combined K u w t → b ≡ subsumed K (termAt q k) (u .node) (u .successors)
+      tells-term K u d = root-tells d q j f ∙ ap (λ (i : ℕ). subsumed K (conjunctsAt q i) (u .node) (u .successors)) e
 
-      pub rest-found : b ≡ true → (K : Vocabulary) (u : Form) → Combined K u w t → true ≡ passes K (policyOf q) u
-      rest-found h K u d = ap (λ (x : Bool). x || any (λ c. subsumed K c (u .node) (u .successors)) l) (sym h) ∙ told K u d
+      pub term-takes : b ≡ true → (k ≡ 0 → ⊥) → Term q k → Taker q w t k
+      term-takes h n m = record { known = λ z. m; takes = λ z K u d. sym (tells-term K u d) ∙ h; none = λ z. absurd (n z) }
 
-      pub rest-on : b ≡ false → Rest q w t (s + 1) l
-      rest-on h K u d = ap (λ (x : Bool). x || any (λ c. subsumed K c (u .node) (u .successors)) l) (sym h) ∙ told K u d
+      module _ (s : ℕ) (l : Policy) (r : Rest q w t s (termAt q k ∷ l)) where
+        pub rest-found : b ≡ true → (k ≡ 0 → ⊥) → Reads q (childOf q k) (termAt q k) → Taker q w t k
+        rest-found h n i = term-takes h n (record { reads = i; within = head (r .within) })
+
+        pub rest-on : b ≡ false → Rest q w t (s + 1) l
+        rest-on h = record {
+          within = tail (r .within);
+          told = λ K u d.
+              ap (λ (x : Bool). x || any (λ c. subsumed K c (u .node) (u .successors)) l) (sym h ∙ tells-term K u d) ∙ r .told K u d;
+        }
+
+-- what one of them takes passes
+pub taken : {q w : List ℕ} {t : Tables} {k : ℕ} → Taker q w t k → (k ≡ 0 → ⊥) →
+    (K : Vocabulary) (u : Form) → Combined K u w t → passes K (policyOf q) u ≡ true
+unfolding passes
+taken {q} a n K u d =
+    let s = any-in (λ c. subsumed K c (u .node) (u .successors)) (at-any (a .known n .within) (isTrue (a .takes n K u d))) in
+    same-test (passes K (policyOf q) u) true (λ x. tt) (λ x. s)

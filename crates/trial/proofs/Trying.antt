@@ -1,8 +1,8 @@
 -- Laws of the trial: the combinations before the one that the tables stand at have passed.
 use Prim.Native.Nat.{_-_, _<_, suc, zero, ℕ}
-use mathlib.Core.Bool.{Bool, false, true}
+use mathlib.Core.Bool.{false, true}
 use mathlib.Core.List.{List, [], _∷_}
-use mathlib.Core.Path.{_∙_, _≡_, ap, refl, sym}
+use mathlib.Core.Path.{_∙_, _≡_, ap, refl, subst, sym}
 use lib.ListN.{drop, length}
 use native.Mathlib.Omega.{arith}
 use Rattle.combination.proofs.Filling.{combined}
@@ -18,8 +18,9 @@ use Rattle.meaning.specs.Vocabulary.{Vocabulary}
 use Rattle.normal_form.specs.Tables.{Tabled}
 use Rattle.normal_form.specs.declared.Tables.{Tables}
 use Rattle.splitting.proofs.Callers.{constraints-at, constraints-kept, kept-refl, kept-trans, splittable-kept}
-use Rattle.splitting.proofs.Callers.{stands-combination, stands-lt, tabled-turned}
-use Rattle.splitting.specs.Odometer.{Kept, Splittable, Stands, Started, Stepped, Turned, constraintsAt}
+use Rattle.splitting.proofs.Callers.{stands-combination, stands-lt, tabled-turned, widened-form}
+use Rattle.splitting.specs.Odometer.{Kept, Splittable, Stands, Started, Stepped, Turned, Widened, constraintsAt}
+use Rattle.trial.proofs.Whole.{Filled, filled-at, whole-passes}
 use Rattle.trial.specs.Trials.{Askable, Triable, Tried}
 
 -- ---- the list of combinations, from one place on
@@ -55,6 +56,18 @@ counted Q F = count-combinations Q F
 
 -- ---- the loop
 
+askable-kept : {q w w′ : List ℕ} {t : Tables} {n : ℕ} → Kept n w w′ → Askable q w t → Askable q w′ t
+askable-kept k a =
+    let s = k .same in
+    record {
+      long = let l = a .long in omega arith;
+      some = a .some;
+      individuals = a .individuals;
+      intervals = a .intervals;
+      vocabulary = a .vocabulary;
+      accepted = a .accepted;
+    }
+
 -- the tables stand at combination c, counted from 1; at 0 nothing is left
 abbrev pub Standing : Policy → List ℕ → ℕ → ℕ → Type 0
 Standing Q w n zero = Unit {0}
@@ -83,10 +96,7 @@ module _ {q e w₀ : List ℕ} {t : Tables} (r : Triable q e w₀ t) where
 
   module _ {w : List ℕ} {c : ℕ} (y : Trying q w₀ w t c) where
     pub trying-askable : Askable q w t
-    trying-askable =
-        let a = r .askable in
-        let s = y .kept .same in
-        record { long = omega arith; some = a .some; individuals = a .individuals; intervals = a .intervals; vocabulary = a .vocabulary; accepted = a .accepted }
+    trying-askable = askable-kept (y .kept) (r .askable)
 
     pub trying-splittable : Splittable w n
     trying-splittable = splittable-kept (y .kept) (r .splittable)
@@ -113,38 +123,39 @@ module _ {q e w₀ : List ℕ} {t : Tables} (r : Triable q e w₀ t) where
     below : k < mostCombinations
     below = let l = stands-lt Q w n k (y .standing) in let f = r .few in omega (arith, ap (product Q) (constraints-kept (y .kept) n))
 
-    module _ {b : Bool} (p : (K : Vocabulary) (u : Form) → Combined K u w t → b ≡ passes K Q u) where
-      fails-here : b ≡ false → Tried Q w₀ w t (suc k)
-      fails-here e = record {
-        told = λ K F h. (fill (pieceAt w) F, fails K Q F _ k (here K F h) (y .going K F h) (sym (p K _ (now-combined y K F h)) ∙ e), now-combined y K F h);
-        kept = y .kept;
-      }
+    fails-here : ((K : Vocabulary) (u : Form) → Combined K u w t → passes K Q u ≡ false) → Tried Q w₀ w t (suc k)
+    fails-here p = record {
+      told = λ K F h.
+          let d = now-combined y K F h in
+          (fill (pieceAt w) F, fails K Q F _ k (here K F h) (y .going K F h) (p K _ d), d);
+      kept = y .kept;
+    }
 
-      module _ {w′ : List ℕ} {d : ℕ} (s : Stepped e n (suc k) w w′ d) (g : b ≡ true) where
-        last : Turned Q n w w′ (suc k) 0 → (K : Vocabulary) (F : Form) → Tabled K F w₀ t → suc k ≡ length (combinations Q F)
-        last m K F h = m ∙ ap (product Q) (sym (constraints-now y K F h)) ∙ sym (counted Q F)
+    module _ {w′ : List ℕ} {d : ℕ} (s : Stepped e n (suc k) w w′ d) where
+      last : Turned Q n w w′ (suc k) 0 → (K : Vocabulary) (F : Form) → Tabled K F w₀ t → suc k ≡ length (combinations Q F)
+      last m K F h = m ∙ ap (product Q) (sym (constraints-now y K F h)) ∙ sym (counted Q F)
 
-        on-here : Trying q w₀ w′ t d
-        on-here = go d (s .turned Q k (r .ends) refl (y .standing))
-          where
-            go : (d : ℕ) → Turned Q n w w′ (suc k) d → Trying q w₀ w′ t d
-            go zero m = record {
-              kept = kept-trans (y .kept) (s .kept);
-              standing = tt;
-              going = λ K F h. ends K Q F _ k (here K F h) (y .going K F h) (sym (p K _ (now-combined y K F h)) ∙ g) (last m K F h);
-            }
-            go (suc j) m = record {
-              kept = kept-trans (y .kept) (s .kept);
-              standing = rw (m .0) (m .1);
-              going = λ K F h. rw (m .0) (goes K Q F _ k (here K F h) (y .going K F h) (sym (p K _ (now-combined y K F h)) ∙ g));
-            }
+      on-here : ((K : Vocabulary) (u : Form) → Combined K u w t → passes K Q u ≡ true) → Trying q w₀ w′ t d
+      on-here p = go d (s .turned Q k (r .ends) refl (y .standing))
+        where
+          go : (d : ℕ) → Turned Q n w w′ (suc k) d → Trying q w₀ w′ t d
+          go zero m = record {
+            kept = kept-trans (y .kept) (s .kept);
+            standing = tt;
+            going = λ K F h. ends K Q F _ k (here K F h) (y .going K F h) (p K _ (now-combined y K F h)) (last m K F h);
+          }
+          go (suc j) m = record {
+            kept = kept-trans (y .kept) (s .kept);
+            standing = rw (m .0) (m .1);
+            going = λ K F h. rw (m .0) (goes K Q F _ k (here K F h) (y .going K F h) (p K _ (now-combined y K F h)));
+          }
 
-        falls-here : left d < left (suc k)
-        falls-here = go d (s .turned Q k (r .ends) refl (y .standing))
-          where
-            go : (d : ℕ) → Turned Q n w w′ (suc k) d → left d < left (suc k)
-            go zero m = omega arith
-            go (suc j) m = let l = below in let x = m .0 in omega arith
+      falls-here : left d < left (suc k)
+      falls-here = go d (s .turned Q k (r .ends) refl (y .standing))
+        where
+          go : (d : ℕ) → Turned Q n w w′ (suc k) d → left d < left (suc k)
+          go zero m = omega arith
+          go (suc j) m = let l = below in let x = m .0 in omega arith
 
   -- the same for a counter that is not 0
   module _ {w : List ℕ} {c : ℕ} (y : Trying q w₀ w t c) (z : c ≡ 0 → ⊥) where
@@ -155,45 +166,53 @@ module _ {q e w₀ : List ℕ} {t : Tables} (r : Triable q e w₀ t) where
         go zero y z = absurd (z refl)
         go (suc k) y z = omega (arith, below k y)
 
-    module _ {b : Bool} (p : (K : Vocabulary) (u : Form) → Combined K u w t → b ≡ passes K Q u) where
-      pub trying-fails : b ≡ false → Tried Q w₀ w t c
-      trying-fails e = go c y z
+    pub trying-fails : ((K : Vocabulary) (u : Form) → Combined K u w t → passes K Q u ≡ false) → Tried Q w₀ w t c
+    trying-fails p = go c y z
+      where
+        go : (c : ℕ) → Trying q w₀ w t c → (c ≡ 0 → ⊥) → Tried Q w₀ w t c
+        go zero y z = absurd (z refl)
+        go (suc k) y z = fails-here k y p
+
+    module _ {w′ : List ℕ} {d : ℕ} (s : Stepped e n c w w′ d) where
+      pub trying-on : ((K : Vocabulary) (u : Form) → Combined K u w t → passes K Q u ≡ true) → Trying q w₀ w′ t d
+      trying-on p = go c y z s
         where
-          go : (c : ℕ) → Trying q w₀ w t c → (c ≡ 0 → ⊥) → Tried Q w₀ w t c
-          go zero y z = absurd (z refl)
-          go (suc k) y z = fails-here k y p e
+          go : (c : ℕ) → Trying q w₀ w t c → (c ≡ 0 → ⊥) → Stepped e n c w w′ d → Trying q w₀ w′ t d
+          go zero y z s = absurd (z refl)
+          go (suc k) y z s = on-here k y s p
 
-      module _ {w′ : List ℕ} {d : ℕ} (s : Stepped e n c w w′ d) (g : b ≡ true) where
-        pub trying-on : Trying q w₀ w′ t d
-        trying-on = go c y z s
-          where
-            go : (c : ℕ) → Trying q w₀ w t c → (c ≡ 0 → ⊥) → Stepped e n c w w′ d → Trying q w₀ w′ t d
-            go zero y z s = absurd (z refl)
-            go (suc k) y z s = on-here k y p s g
+      pub trying-falls : left d < left c
+      trying-falls = go c y z s
+        where
+          go : (c : ℕ) → Trying q w₀ w t c → (c ≡ 0 → ⊥) → Stepped e n c w w′ d → left d < left c
+          go zero y z s = absurd (z refl)
+          go (suc k) y z s = falls-here k y s
 
-        pub trying-falls : left d < left c
-        trying-falls = go c y z s
-          where
-            go : (c : ℕ) → Trying q w₀ w t c → (c ≡ 0 → ⊥) → Stepped e n c w w′ d → left d < left c
-            go zero y z s = absurd (z refl)
-            go (suc k) y z s = falls-here k y p s g
+-- ---- before the first combination stands there
 
--- ---- from the tables before the first combination was put there
-
-module _ {q e w w₀ : List ℕ} {t : Tables} (r : Triable q e w t) (s : Started (t .intervals) w w₀) where
-  pub started-triable : Triable q e w₀ t
-  started-triable =
-      let a = r .askable in
-      let l = s .kept .same in
-      record {
-        askable = record { long = omega arith; some = a .some; individuals = a .individuals; intervals = a .intervals; vocabulary = a .vocabulary; accepted = a .accepted };
-        splittable = splittable-kept (s .kept) (r .splittable);
-        ends = r .ends;
-        few = rw (constraints-kept (s .kept) (t .intervals)) (r .few);
-      }
-
-  pub started-tried : {w′ : List ℕ} {c : ℕ} → Tried (policyOf q) w₀ w′ t c → Tried (policyOf q) w w′ t c
-  started-tried y = record {
-    told = λ K F h. y .told K F (tabled-turned h (s .kept) (r .askable .individuals, r .askable .intervals));
-    kept = kept-trans (s .kept) (y .kept);
+module _ {q e w w₀ : List ℕ} {t : Tables} (r : Triable q e w t) (k : Kept (t .intervals) w w₀) where
+  pub kept-triable : Triable q e w₀ t
+  kept-triable = record {
+    askable = askable-kept k (r .askable);
+    splittable = splittable-kept k (r .splittable);
+    ends = r .ends;
+    few = rw (constraints-kept k (t .intervals)) (r .few);
   }
+
+  pub kept-tried : {w′ : List ℕ} {c : ℕ} → Tried (policyOf q) w₀ w′ t c → Tried (policyOf q) w w′ t c
+  kept-tried y = record {
+    told = λ K F h. y .told K F (tabled-turned h k (r .askable .individuals, r .askable .intervals));
+    kept = kept-trans k (y .kept);
+  }
+
+-- the constraints whole have passed
+pub whole-tried : {q e w w′ : List ℕ} {t : Tables} → Triable q e w t → (a : Widened (t .intervals) w w′) →
+    ((K : Vocabulary) (u : Form) → Combined K u w′ t → passes K (policyOf q) u ≡ true) → Tried (policyOf q) w w′ t 0
+whole-tried {q} {w = w} {w′ = w′} {t = t} r a p = record {
+  told = λ K F h.
+      let g : Tabled K F w′ t = tabled-turned h (a .kept) (r .askable .individuals, r .askable .intervals) in
+      let e : fill (pieceAt w′) F ≡ F = widened-form a F (sym (constraints-at g)) in
+      whole-passes K (policyOf q) F (subst Filled (constraints-at h) (filled-at w (t .intervals) (r .splittable .full)))
+      (rw e at (p K (fill (pieceAt w′) F) (combined K F w′ t g)));
+  kept = a .kept;
+}

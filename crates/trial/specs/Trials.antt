@@ -1,16 +1,19 @@
 -- Trying the combinations of a simple policy one after another: what is asked, and what the answer says.
 use Prim.Native.Nat.{_≤_, suc, zero, ℕ}
+use mathlib.Core.Bool.{false, true}
 use mathlib.Core.List.{List}
 use mathlib.Core.Path.{_≡_}
 use lib.ListN.{length}
 use Rattle.combination.specs.Combination.{Combined}
+use Rattle.meaning.proofs.Terms.{Reads}
 use Rattle.meaning.specs.Containment.{mostCombinations, passes}
-use Rattle.meaning.specs.Lists.{firstFailing, found, nowhere}
+use Rattle.meaning.specs.Lists.{_∈_, firstFailing, found, nowhere}
 use Rattle.meaning.specs.NormalForm.{Form}
-use Rattle.meaning.specs.Policy.{Policy, policyOf, policyRefusal}
+use Rattle.meaning.specs.Policy.{Policy, childOf, policyOf, policyRefusal}
 use Rattle.meaning.specs.Splitting.{combinations, product}
+use Rattle.meaning.specs.Subsumption.{subsumed}
 use Rattle.meaning.specs.Vocabulary.{Vocabulary}
-use Rattle.normal_form.specs.Tables.{Tabled, mostEntries, tablesEnd}
+use Rattle.normal_form.specs.Tables.{Tabled, mostEntries, tablesEnd, termAt}
 use Rattle.normal_form.specs.declared.Tables.{Tables}
 use Rattle.splitting.specs.Ends.{Ends}
 use Rattle.splitting.specs.Odometer.{Kept, Splittable, constraintsAt}
@@ -23,6 +26,21 @@ pub record Askable (q w : List ℕ) (t : Tables) : Type 0 where
   pub intervals : t .intervals ≤ mostEntries
   pub vocabulary : List ℕ
   pub accepted : policyRefusal vocabulary q ≡ 0
+
+-- record k is a simple policy of q
+pub record Term (q : List ℕ) (k : ℕ) : Type 0 where
+  pub reads : Reads q (childOf q k) (termAt q k)
+  pub within : termAt q k ∈ policyOf q
+
+-- unless k is 0
+abbrev pub Known : List ℕ → ℕ → Type 0
+Known q k = (k ≡ 0 → ⊥) → Term q k
+
+-- k is a simple policy of q that takes the combination, whichever the tables hold, by whatever vocabulary; 0: none does
+pub record Taker (q w : List ℕ) (t : Tables) (k : ℕ) : Type 0 where
+  pub known : Known q k
+  pub takes : (k ≡ 0 → ⊥) → (K : Vocabulary) (u : Form) → Combined K u w t → subsumed K (termAt q k) (u .node) (u .successors) ≡ true
+  pub none : k ≡ 0 → (K : Vocabulary) (u : Form) → Combined K u w t → passes K (policyOf q) u ≡ false
 
 -- the tables are a simple policy's, with few enough combinations, and e has the ends of the other policy q
 pub record Triable (q e w : List ℕ) (t : Tables) : Type 0 where
