@@ -1,0 +1,72 @@
+/* Every operation called from C: the desk's example, whose answers document 01 gives. Compile with crates/exports/gimbuka.h at hand and
+ * link target/staticlib/libexports.a; .ci/judge does so and runs it. */
+#include <stdio.h>
+#include <string.h>
+
+#include "../crates/exports/gimbuka.h"
+
+#define LENGTH(words) (sizeof(words) / sizeof *(words))
+
+/* 2 below 1, 4 below 1 and 3, 1 and 3 disjoint; roles 1, 2 and feature 1 functional; role 3 has range 1 */
+static const uint32_t v[] = {4, 3, 1, 1, 1, 2, 1, 2, 1, 4, 1, 3, 1, 4, 3, 4, 2, 1, 3, 5, 3, 1, 0, 6, 3, 2, 0, 7, 4, 1, 0, 8, 5, 3, 1, 0};
+/* role 1 reaching class 1, and role 1 reaching class 2 */
+static const uint32_t p[] = {1, 0, 0, 0, 0, 0, 5, 0, 0, 0, 2, 0, 3, 1, 0, 0, 3, 0, 1, 1, 0, 0, 0, 0};
+static const uint32_t q[] = {1, 0, 0, 0, 0, 0, 5, 0, 0, 0, 2, 0, 3, 1, 0, 0, 3, 0, 1, 2, 0, 0, 0, 0};
+/* class 4 */
+static const uint32_t none[] = {1, 0, 0, 0, 0, 0, 5, 0, 0, 0, 2, 0, 1, 4, 0, 0, 0, 0};
+/* individual 1 reaches individual 2 by role 1, and 2 is in class 1 */
+static const uint32_t model[] = {1, 2, 0, 0, 0, 2, 1, 1, 2, 2, 1, 1, 2, 0, 0};
+
+static uint32_t work[16384], out[100];
+static int failed;
+
+static void expect(const char *name, int holds) {
+    if (holds) return;
+    printf("call.c: %s is not as it must be\n", name);
+    failed = 1;
+}
+
+static int is_clear(void) {
+    for (size_t i = 0; i < LENGTH(work); i++)
+        if (work[i] != 0) return 0;
+    return 1;
+}
+
+int main(void) {
+    uint32_t number = 9, term = 9, combination = 9;
+    size_t words = 9;
+
+    expect("read vocabulary", gimbuka_read_vocabulary(v, LENGTH(v), &number) == 1 && number == 0);
+    expect("read vocabulary, cut short", gimbuka_read_vocabulary(v, LENGTH(v) - 1, &number) == 0 && number == 1);
+    expect("read policy", gimbuka_read_policy(v, LENGTH(v), p, LENGTH(p), &number) == 1 && number == 0);
+    expect("read policy, header link", gimbuka_read_policy(v, LENGTH(v), p, 6, &number) == 0 && number == 5);
+    expect("read second policy", gimbuka_read_second_policy(v, LENGTH(v), p, 6, &number) == 0 && number == 15);
+
+    memset(work, 1, sizeof work);
+    expect("possible", gimbuka_possible(v, LENGTH(v), p, LENGTH(p), work, LENGTH(work), &number) == 1 && number == 1 && is_clear());
+    expect("impossible", gimbuka_possible(v, LENGTH(v), none, LENGTH(none), work, LENGTH(work), &number) == 2 && number == 0);
+    expect("no work slice", gimbuka_possible(v, LENGTH(v), p, LENGTH(p), work, LENGTH(work) - 1, &number) == 0 && number == 21);
+
+    memset(work, 1, sizeof work);
+    expect("compliance", gimbuka_compliance(v, LENGTH(v), q, LENGTH(q), p, LENGTH(p), work, LENGTH(work), out, LENGTH(out), &number,
+                                            &combination, &words) == 1);
+    expect("compliance's values", number == 0 && combination == 0 && words == 0 && is_clear());
+    expect("outside", gimbuka_compliance(v, LENGTH(v), p, LENGTH(p), q, LENGTH(q), work, LENGTH(work), out, LENGTH(out), &number,
+                                         &combination, &words) == 2);
+    expect("outside's values", number == 1 && combination == 1 && words == LENGTH(model) && memcmp(out, model, sizeof model) == 0);
+    expect("output too short", gimbuka_compliance(v, LENGTH(v), p, LENGTH(p), q, LENGTH(q), work, LENGTH(work), out, words - 1, &number,
+                                                  &combination, &words) == 0 && number == 23);
+
+    expect("equality", gimbuka_equality(v, LENGTH(v), p, LENGTH(p), p, LENGTH(p), work, LENGTH(work), out, LENGTH(out), &number, &term,
+                                        &combination, &words) == 1);
+    expect("different", gimbuka_equality(v, LENGTH(v), q, LENGTH(q), p, LENGTH(p), work, LENGTH(work), out, LENGTH(out), &number, &term,
+                                         &combination, &words) == 2);
+    expect("different's values", number == 2 && term == 1 && combination == 1 && words == LENGTH(model));
+
+    expect("model check", gimbuka_model_check(v, LENGTH(v), p, LENGTH(p), q, LENGTH(q), out, words, work, LENGTH(work), &number) == 1);
+    expect("model check, no", gimbuka_model_check(v, LENGTH(v), q, LENGTH(q), p, LENGTH(p), out, words, work, LENGTH(work), &number) == 2);
+    expect("the work slice", is_clear());
+
+    if (!failed) puts("every operation called from C: as it must be");
+    return failed;
+}
