@@ -7,10 +7,11 @@ use mathlib.Core.Path.{_∙_, _≡_, ap, refl, subst, subst₂, sym}
 use lib.Dec.{leb}
 use lib.ListN.{length}
 use native.Mathlib.Omega.{arith}
-use Rattle.containment.proofs.Complying.{in-order}
-use Rattle.containment.specs.Verdicts.{Compares, Few, RightComparison, compared, difference, reverse, sidedAnswer}
+use Rattle.containment.proofs.Complying.{in-order, ready-back, ready-stays}
+use Rattle.containment.specs.Verdicts.{Comparable, Compares, RightComparison, compared, difference, reverse, sidedAnswer}
 use Rattle.decision.proofs.Deciding.{outputs-none, taken}
-use Rattle.decision.specs.Decisions.{Delivers, decision}
+use Rattle.decision.specs.Decisions.{Countable, Delivers, Ready, decision}
+use Rattle.hierarchy.specs.declared.Functional.{Functional}
 use Rattle.meaning.proofs.Compliance.{no-escape}
 use Rattle.meaning.proofs.Equality.{equality-compared}
 use Rattle.meaning.proofs.Interpretations.{tested-finite}
@@ -28,7 +29,7 @@ use Rattle.meaning.specs.declared.Comparison.{Comparison}
 use Rattle.meaning.specs.declared.Verdict.the-variants as verdict
 use Rattle.meaning.specs.declared.Verdict.{Verdict}
 use Rattle.workspace.proofs.Laws.{beyond-then, zeroed-beyond}
-use Rattle.workspace.specs.Work.{Beyond}
+use Rattle.workspace.specs.Work.{Beyond, Stays}
 
 -- ---- the sides
 
@@ -112,6 +113,15 @@ module _ (v p q : List ℕ) where
     pub differs-refused : {n : ℕ} → y ≡ verdict.Refused n → Compares (difference v p q (length o)) o o′ (comparison.Refused n)
     differs-refused h = forth-refused (classCount v) (vocabularyOf v) o o′ (reverse v p q (length o)) decided (is h)
 
+-- ---- one direction, then the other
+
+module _ {v p q w : List ℕ} {f : Functional} (h : Comparable v p q w f) where
+  pub countable-forth : Countable v p q w f
+  countable-forth = record { ready = h .ready; few = h .forth }
+
+  pub countable-back : {w′ : List ℕ} → Stays f w w′ → Beyond w w′ → Countable v q p w′ f
+  countable-back g b = record { ready = ready-back (ready-stays (h .ready) g b); few = h .back }
+
 -- ---- 22 looks at both directions
 
 module _ (v p q o : List ℕ) {a b : Bool} (e : a ≡ tooMany (vocabularyOf v) (policyOf p) (policyOf q)) (f : b ≡ tooMany (vocabularyOf v) (policyOf q) (policyOf p)) where
@@ -120,8 +130,8 @@ module _ (v p q o : List ℕ) {a b : Bool} (e : a ≡ tooMany (vocabularyOf v) (
   compares-22 h = rw (sym e, sym f, h) (record { answer = refl; output = outputs-none o })
 
   module _ (h : (a || b) ≡ false) where
-    pub compares-none : Few v p q
-    compares-none = (sym e ∙ go a b h .0, sym f ∙ go a b h .1)
+    pub compares-none : {w : List ℕ} {x : Functional} → Ready v p q w x → Comparable v p q w x
+    compares-none r = record { ready = r; forth = sym e ∙ go a b h .0; back = sym f ∙ go a b h .1 }
       where
         go : (a b : Bool) → (a || b) ≡ false → (a ≡ false) × (b ≡ false)
         go true b h = absurd (let z : _≡_ {A = ℕ} 0 1 = cc in omega arith)

@@ -8,7 +8,8 @@ use lib.ListN.{length}
 use native.Mathlib.Omega.{arith}
 use Rattle.containment.specs.Verdicts.{Right, settled}
 use Rattle.decision.proofs.Deciding.{outputs-none, taken}
-use Rattle.decision.specs.Decisions.{Delivers, decision}
+use Rattle.decision.specs.Decisions.{Delivers, Ready, decision}
+use Rattle.hierarchy.specs.declared.Functional.{Functional}
 use Rattle.meaning.proofs.Compliance.{compliance-told, no-escape}
 use Rattle.meaning.proofs.Interpretations.{tested-finite}
 use Rattle.meaning.proofs.Refusals.{AcceptedInput, accepted-input, or-few, policy-few, vocabulary-few}
@@ -23,8 +24,23 @@ use Rattle.meaning.specs.Records.{orElse}
 use Rattle.meaning.specs.Vocabulary.{Vocabulary, classCount, vocabularyOf, vocabularyRefusal}
 use Rattle.meaning.specs.declared.Verdict.the-variants as verdict
 use Rattle.meaning.specs.declared.Verdict.{Verdict}
+use Rattle.normal_form.specs.Tables.{Prepared}
 use Rattle.workspace.proofs.Laws.{beyond-then, none-before, none-full, work-few, zeroed-beyond}
-use Rattle.workspace.specs.Work.{Beyond}
+use Rattle.workspace.specs.Work.{Accepting, Beyond, Stays}
+
+-- ---- what is ready
+
+module _ {v p q w : List ℕ} {f : Functional} (r : Ready v p q w f) where
+  pub ready-accepts : Accepting v p w f
+  ready-accepts = record { prepared = r .prepared; policy = r .first }
+
+  -- the other way round
+  pub ready-back : Ready v q p w f
+  ready-back = record { prepared = r .prepared; full = r .full; first = r .second; second = r .first }
+
+  -- still
+  pub ready-stays : {w′ : List ℕ} → Stays f w w′ → Beyond w w′ → Ready v p q w′ f
+  ready-stays g b = let s = b .size in let l = r .full in record { prepared = g v (r .prepared); full = omega arith; first = r .first; second = r .second }
 
 -- ---- 22 and the verdict
 
@@ -71,6 +87,12 @@ module _ (v p q : List ℕ) (w : ℕ) (o : List ℕ) {m r : ℕ} (e : m ≡ inpu
 
     pub complies-full : workSize ≤ w
     complies-full = none-full (inputRefusal v p q) w (sym in-order ∙ z)
+
+    -- behind `prepare`
+    pub complies-ready : {w′ : List ℕ} {x : Functional} → Prepared v w′ x → length w′ ≡ w → Ready v p q w′ x
+    complies-ready g s =
+        let l = complies-full in
+        record { prepared = g; full = omega arith; first = complies-accepted .firstPolicy; second = complies-accepted .secondPolicy }
 
     pub complies : {o′ : List ℕ} {d : Verdict} → Delivers (complianceOf (classCount v) (vocabularyOf v) (policyOf p) (policyOf q) (length o)) o o′ d →
         Delivers (compliance v p q w (length o)) o o′ d

@@ -5,6 +5,7 @@ use mathlib.Core.List.{List, [], _∷_}
 use mathlib.Core.Path.{_∙_, _≡_, ap, refl, sym}
 use native.Mathlib.Omega.{arith}
 use borrow.Author.Tests.{ne-eqb}
+use Rattle.hierarchy.specs.declared.Functional.{Functional}
 use Rattle.meaning.proofs.Refusals.{or-assoc, or-few, or-zero, policy-few, unless-some, vocabulary-few}
 use Rattle.meaning.specs.Answers.{Answer, firstPossible, refused}
 use Rattle.meaning.specs.NormalForm.{possible}
@@ -12,8 +13,9 @@ use Rattle.meaning.specs.Operations.{comesLate, possibility, possibleFrom, unle
 use Rattle.meaning.specs.Policy.{Chain, Policy, policyOf, policyRefusal}
 use Rattle.meaning.specs.Records.{orElse}
 use Rattle.meaning.specs.Vocabulary.{Vocabulary, vocabularyOf, vocabularyRefusal}
+use Rattle.normal_form.specs.Tables.{Prepared}
 use Rattle.workspace.proofs.Laws.{beyond-then, none-before, none-full, work-few, zeroed-beyond}
-use Rattle.workspace.specs.Work.{Beyond}
+use Rattle.workspace.specs.Work.{Accepting, Beyond}
 
 -- ---- the first that is possible
 
@@ -53,11 +55,12 @@ module _ (v p : List ℕ) (w : ℕ) {m r : ℕ} (e : m ≡ orElse (vocabularyRef
     pub vocabulary-accepted : vocabularyRefusal v ≡ 0
     vocabulary-accepted = both-accepted .0
 
-    pub policy-accepted : policyRefusal v p ≡ 0
-    policy-accepted = both-accepted .1
-
     pub work-full : workSize ≤ w
     work-full = none-full m w (sym f ∙ z)
+
+    -- behind `prepare`
+    pub accepting : {w′ : List ℕ} {x : Functional} → Prepared v w′ x → Accepting v p w′ x
+    accepting g = record { prepared = g; policy = both-accepted .1 }
 
     pub answers : {a : Answer} → a ≡ possibleFrom (vocabularyOf v) 1 (policyOf p) → a ≡ possibility v p w
     answers q = q ∙ sym (in-order ∙ ap (λ (n : ℕ). unless refused n (possibleFrom (vocabularyOf v) 1 (policyOf p))) z)

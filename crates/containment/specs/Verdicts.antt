@@ -5,25 +5,39 @@ use mathlib.Core.List.{List}
 use mathlib.Core.Logic.{_⊎_}
 use mathlib.Core.Path.{_≡_}
 use lib.ListN.{length, take}
+use Rattle.decision.specs.Decisions.{Delivers, Ready}
+use Rattle.hierarchy.specs.declared.Functional.{Functional}
 use Rattle.meaning.specs.Answers.{Answer, accepted, answeredNo, answeredYes, comparisonAnswer, compliant, differs, equal}
-use Rattle.meaning.specs.Answers.{firstPossible, nonePossible, outside, refused, verdictAnswer}
+use Rattle.meaning.specs.Answers.{firstPossible, nonePossible, outside, possibilityAnswer, refused, verdictAnswer}
 use Rattle.meaning.specs.Containment.{ContainedTested, IndistinctTested, Refutes, decide, tooMany}
 use Rattle.meaning.specs.ModelCheck.{factsOf, individualCount}
-use Rattle.meaning.specs.Operations.{Outcome, compliance, complianceOf, equality, equalityOf, outputAfter}
+use Rattle.meaning.specs.Operations.{Outcome, compliance, complianceOf, equality, equalityOf, outputAfter, possibleFrom}
 use Rattle.meaning.specs.Operations.{reported, says, workAfter}
 use Rattle.meaning.specs.Policy.{policyOf}
 use Rattle.meaning.specs.Vocabulary.{classCount, vocabularyOf}
 use Rattle.meaning.specs.declared.Comparison.the-variants as comparison
 use Rattle.meaning.specs.declared.Comparison.{Comparison}
+use Rattle.meaning.specs.declared.Possibility.{Possibility}
 use Rattle.meaning.specs.declared.Verdict.the-variants as verdict
 use Rattle.meaning.specs.declared.Verdict.{Verdict}
 use Rattle.splitting.specs.Ends.{Ends}
+use Rattle.workspace.specs.Work.{Accepting}
+
+-- ---- Possible
+
+-- the answer is Possible's, by whatever vocabulary is prepared and accepts the policy
+abbrev pub PossibleBy : List ℕ → List ℕ → Functional → Possibility → Type 0
+PossibleBy p w f r = (v : List ℕ) → Accepting v p w f → possibilityAnswer r ≡ possibleFrom (vocabularyOf v) 1 (policyOf p)
 
 -- ---- Compliance
 
 -- Compliance behind 21, with an output of so many words
 abbrev pub settled : List ℕ → List ℕ → List ℕ → ℕ → Outcome
 settled v p q o = complianceOf (classCount v) (vocabularyOf v) (policyOf p) (policyOf q) o
+
+-- it is delivered, by whatever vocabulary is ready
+abbrev pub SettledBy : List ℕ → List ℕ → List ℕ → Functional → List ℕ → List ℕ → Verdict → Type 0
+SettledBy p q w f o o′ r = (v : List ℕ) → Ready v p q w f → Delivers (settled v p q (length o)) o o′ r
 
 -- demand 2, over interpretations given by tests: compliant where each individual of the policy is in the consent; else the words
 -- stand for a finite interpretation with individual 1 in the policy and outside the consent
@@ -76,10 +90,18 @@ compared v p q o = equalityOf (classCount v) (vocabularyOf v) (policyOf p) (poli
 abbrev pub BothEnds : List ℕ → List ℕ → List ℕ → List ℕ → Type 0
 BothEnds p q first second = Ends (policyOf p) first × Ends (policyOf q) second
 
--- no 22 in either direction
-abbrev pub Few : List ℕ → List ℕ → List ℕ → Type 0
-Few v p q =
-    (tooMany (vocabularyOf v) (policyOf p) (policyOf q) ≡ false) × (tooMany (vocabularyOf v) (policyOf q) (policyOf p) ≡ false)
+-- the vocabulary is ready, and there is no 22 in either direction
+pub record Comparable (v p q w : List ℕ) (f : Functional) : Type 0 where
+  pub ready : Ready v p q w f
+  pub forth : tooMany (vocabularyOf v) (policyOf p) (policyOf q) ≡ false
+  pub back : tooMany (vocabularyOf v) (policyOf q) (policyOf p) ≡ false
+
+-- what both directions tell, by whatever vocabulary
+abbrev pub DifferenceBy : List ℕ → List ℕ → List ℕ → Functional → List ℕ → List ℕ → Comparison → Type 0
+DifferenceBy p q w f o o′ r = (v : List ℕ) → Comparable v p q w f → Compares (difference v p q (length o)) o o′ r
+
+abbrev pub ComparedBy : List ℕ → List ℕ → List ℕ → Functional → List ℕ → List ℕ → Comparison → Type 0
+ComparedBy p q w f o o′ r = (v : List ℕ) → Ready v p q w f → Compares (compared v p q (length o)) o o′ r
 
 -- demand 3, over interpretations given by tests: equal where none tells the policies apart; else the words stand for a finite
 -- interpretation with individual 1 in the side's policy and outside the other

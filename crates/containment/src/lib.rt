@@ -12,28 +12,27 @@ use workspace::clear;
 use workspace::prepare;
 use workspace::tabulate;
 use workspace::work_refusal;
+ghost use mathlib.Core.List.{List};
 ghost use mathlib.Core.Path.{_≡_};
-ghost use Prim.Native.Nat.{_≤_};
+ghost use Prim.Native.Nat.{ℕ, _≤_};
 ghost use lib.ListN.{length};
-ghost use Rattle.containment.specs.Verdicts.{BothEnds, Compares, Complied, Equated, Few, compared, difference, settled, sidedAnswer};
-ghost use Rattle.decision.specs.Decisions.{Delivers, Ready};
+ghost use Rattle.containment.specs.Verdicts.{BothEnds, Comparable, ComparedBy, Complied, DifferenceBy, Equated, PossibleBy};
+ghost use Rattle.containment.specs.Verdicts.{SettledBy, sidedAnswer};
+ghost use Rattle.decision.specs.Decisions.{Ready};
 ghost use Rattle.meaning.specs.Answers.{comparisonAnswer, possibilityAnswer, verdictAnswer};
-ghost use Rattle.meaning.specs.Operations.{possibility, possibleFrom, workAfter, workSize};
-ghost use Rattle.meaning.specs.Policy.{policyOf, policyRefusal};
-ghost use Rattle.meaning.specs.Vocabulary.{vocabularyOf};
-ghost use Rattle.normal_form.specs.Tables.{Prepared};
-ghost use Rattle.workspace.specs.Work.{Beyond};
+ghost use Rattle.meaning.specs.Operations.{possibility, workAfter, workSize};
+ghost use Rattle.workspace.specs.Work.{Accepting, Beyond};
 
 // The first simple policy that is possible, counted from 1, impossible ones too.
-fn first_possible(v: &[u32], p: &[u32], work: &mut [u32], f: Functional) -> Possibility
-    requires { ⌜ Prepared (now v) (now work) f × (workSize ≤ length (now work)) × (policyRefusal (now v) (now p) ≡ 0) ⌝ }
-    ensures { λ r. ⌜ possibilityAnswer r ≡ possibleFrom (vocabularyOf (now (v .entry))) 1 (policyOf (now (p .entry))) ⌝ }
+fn first_possible(p: &[u32], work: &mut [u32], f: Functional) -> Possibility
+    requires { ⌜ (workSize ≤ length (now work)) × ((v : List ℕ) × Accepting v (now p) (now work) f) ⌝ }
+    ensures { λ r. ⌜ PossibleBy (now (p .entry)) (now (work .entry)) f r ⌝ }
     ensures { λ _. ⌜ Beyond (now (work .entry)) (now (work .exit)) ⌝ }
 {
     let mut s: u32 = 1;
     let mut k = first_term(p);
     while k != 0 {
-        let t = tabulate(v, p, work, f, k);
+        let t = tabulate(p, work, f, k);
         if !t.blocked {
             return Possibility::Possible(s);
         }
@@ -47,26 +46,19 @@ fn first_possible(v: &[u32], p: &[u32], work: &mut [u32], f: Functional) -> Poss
 const ENDS: usize = 2048;
 
 // What Compliance answers behind 21: 22 for every simple policy of p before any verdict.
-fn settle(
-    v: &[u32],
-    p: &[u32],
-    q: &[u32],
-    work: &mut [u32],
-    f: Functional,
-    out: &mut [u32],
-) -> Verdict
-    requires { ⌜ Ready (now v) (now p) (now q) (now work) f ⌝ }
-    ensures { λ r. ⌜ Delivers (settled (now (v .entry)) (now (p .entry)) (now (q .entry)) (length (now (out .entry)))) (now (out .entry)) (now (out .exit)) r ⌝ }
+fn settle(p: &[u32], q: &[u32], work: &mut [u32], f: Functional, out: &mut [u32]) -> Verdict
+    requires { ⌜ ((v : List ℕ) × Ready v (now p) (now q) (now work) f) ⌝ }
+    ensures { λ r. ⌜ SettledBy (now (p .entry)) (now (q .entry)) (now (work .entry)) f (now (out .entry)) (now (out .exit)) r ⌝ }
     ensures { λ _. ⌜ Beyond (now (work .entry)) (now (work .exit)) × (length (now (out .exit)) ≡ length (now (out .entry))) ⌝ }
 {
     let mut space = [0; ENDS];
     let n = collect(q, &mut space);
     let ends = &space[..n];
-    let many = has_too_many(v, p, work, f, ends);
+    let many = has_too_many(p, work, f, ends);
     if many {
         return Verdict::Refused(22);
     }
-    decide(v, p, q, work, f, ends, out)
+    decide(p, q, work, f, ends, out)
 }
 
 // Possible: the vocabulary's refusals, the policy's, 21, then the answer. Time grows with the vocabulary's records times its
@@ -80,7 +72,7 @@ pub fn possible(v: &[u32], p: &[u32], work: &mut [u32]) -> Possibility
         return Possibility::Refused(refusal);
     }
     let f = prepare(v, work);
-    let answer = first_possible(v, p, work, f);
+    let answer = first_possible(p, work, f);
     clear(work);
     answer
 }
@@ -95,7 +87,7 @@ pub fn compliance(v: &[u32], p: &[u32], q: &[u32], work: &mut [u32], out: &mut [
         return Verdict::Refused(refusal);
     }
     let f = prepare(v, work);
-    let verdict = settle(v, p, q, work, f, out);
+    let verdict = settle(p, q, work, f, out);
     clear(work);
     verdict
 }
@@ -113,7 +105,6 @@ fn sided(side: u32, verdict: Verdict) -> Comparison
 
 // The first direction's difference, else the second's.
 fn differ(
-    v: &[u32],
     p: &[u32],
     q: &[u32],
     work: &mut [u32],
@@ -122,29 +113,22 @@ fn differ(
     second: &[u32],
     out: &mut [u32],
 ) -> Comparison
-    requires { ⌜ Ready (now v) (now p) (now q) (now work) f × BothEnds (now p) (now q) (now first) (now second) × Few (now v) (now p) (now q) ⌝ }
-    ensures { λ r. ⌜ Compares (difference (now (v .entry)) (now (p .entry)) (now (q .entry)) (length (now (out .entry)))) (now (out .entry)) (now (out .exit)) r ⌝ }
+    requires { ⌜ ((v : List ℕ) × Comparable v (now p) (now q) (now work) f) × BothEnds (now p) (now q) (now first) (now second) ⌝ }
+    ensures { λ r. ⌜ DifferenceBy (now (p .entry)) (now (q .entry)) (now (work .entry)) f (now (out .entry)) (now (out .exit)) r ⌝ }
     ensures { λ _. ⌜ Beyond (now (work .entry)) (now (work .exit)) × (length (now (out .exit)) ≡ length (now (out .entry))) ⌝ }
 {
-    let forth = decide(v, p, q, work, f, second, out);
+    let forth = decide(p, q, work, f, second, out);
     match forth {
-        Verdict::Compliant => sided(2, decide(v, q, p, work, f, first, out)),
+        Verdict::Compliant => sided(2, decide(q, p, work, f, first, out)),
         Verdict::Outside(s, c, n) => Comparison::Differs(1, s, c, n),
         Verdict::Refused(n) => Comparison::Refused(n),
     }
 }
 
 // What Equality answers behind 21: 22 for both directions before any verdict.
-fn compare(
-    v: &[u32],
-    p: &[u32],
-    q: &[u32],
-    work: &mut [u32],
-    f: Functional,
-    out: &mut [u32],
-) -> Comparison
-    requires { ⌜ Ready (now v) (now p) (now q) (now work) f ⌝ }
-    ensures { λ r. ⌜ Compares (compared (now (v .entry)) (now (p .entry)) (now (q .entry)) (length (now (out .entry)))) (now (out .entry)) (now (out .exit)) r ⌝ }
+fn compare(p: &[u32], q: &[u32], work: &mut [u32], f: Functional, out: &mut [u32]) -> Comparison
+    requires { ⌜ ((v : List ℕ) × Ready v (now p) (now q) (now work) f) ⌝ }
+    ensures { λ r. ⌜ ComparedBy (now (p .entry)) (now (q .entry)) (now (work .entry)) f (now (out .entry)) (now (out .exit)) r ⌝ }
     ensures { λ _. ⌜ Beyond (now (work .entry)) (now (work .exit)) × (length (now (out .exit)) ≡ length (now (out .entry))) ⌝ }
 {
     let mut room = [0; ENDS];
@@ -153,12 +137,12 @@ fn compare(
     let mut space = [0; ENDS];
     let m = collect(q, &mut space);
     let second = &space[..m];
-    let forth = has_too_many(v, p, work, f, second);
-    let back = has_too_many(v, q, work, f, first);
+    let forth = has_too_many(p, work, f, second);
+    let back = has_too_many(q, work, f, first);
     if forth | back {
         return Comparison::Refused(22);
     }
-    differ(v, p, q, work, f, first, second, out)
+    differ(p, q, work, f, first, second, out)
 }
 
 // Equality: the same refusals in the same order, 22 for both directions; then the first direction's difference, the second's, or
@@ -171,7 +155,7 @@ pub fn equality(v: &[u32], p: &[u32], q: &[u32], work: &mut [u32], out: &mut [u3
         return Comparison::Refused(refusal);
     }
     let f = prepare(v, work);
-    let comparison = compare(v, p, q, work, f, out);
+    let comparison = compare(p, q, work, f, out);
     clear(work);
     comparison
 }

@@ -33,7 +33,8 @@ use Rattle.meaning.specs.Vocabulary.{Vocabulary, classCount, vocabularyOf}
 use Rattle.meaning.specs.declared.Verdict.the-variants as verdict
 use Rattle.meaning.specs.declared.Verdict.{Verdict}
 use Rattle.hierarchy.specs.declared.Functional.{Functional}
-use Rattle.normal_form.specs.Clean.{cleanForm}
+use Rattle.normal_form.proofs.Groups.{prepared-same}
+use Rattle.normal_form.specs.Clean.{TellsClean, cleanForm}
 use Rattle.normal_form.specs.Tables.{Prepared, mostEntries, termAt}
 use Rattle.normal_form.specs.declared.Tables.{Tables}
 use Rattle.splitting.proofs.Callers.{full-clean, full-filled, kept-refl, product-at}
@@ -41,9 +42,9 @@ use Rattle.splitting.specs.Ends.{Ends}
 use Rattle.splitting.specs.Odometer.{Kept, Splittable, constraintsAt}
 use Rattle.trial.specs.Trials as Tries
 use Rattle.trial.specs.Trials.{Triable, Tried}
-use Rattle.workspace.proofs.Laws.{beyond-then, prepared-kept}
+use Rattle.workspace.proofs.Laws.{beyond-then}
 use Rattle.workspace.proofs.Walk.{Asking, asking-found, asking-named, asking-on}
-use Rattle.workspace.specs.Work.{Beyond, Shaped, Tabulated}
+use Rattle.workspace.specs.Work.{Beyond, Shaped, Stays, Tabulated}
 
 -- ---- 22: too many combinations
 
@@ -92,15 +93,15 @@ clean-is K c h = go (not (blocked c)) h
     go true h = h
     go false h = cc
 
-module _ {v : List ℕ} {c : Chain} {f : Functional} {w w′ : List ℕ} {t : Tables} (g : Prepared v w f) (o : ChainOf v c) (d : Shaped c f w w′ t) where
-  pub shape-impossible : (Q : Policy) → t .blocked ≡ true → false ≡ exceeds (vocabularyOf v) Q c
-  shape-impossible Q h = rw (d .barred v g o h)
+module _ {c : Chain} {f : Functional} {w w′ : List ℕ} {t : Tables} (d : Shaped c f w w′ t) where
+  pub shape-splittable : workSize ≤ length w → t .blocked ≡ false → Splittable w′ (t .intervals)
+  shape-splittable full h = let s = d .beyond .size in record { few = d .most .1; long = omega arith; full = full-filled w′ (t .intervals) (d .filled h) }
 
-  module _ (full : workSize ≤ length w) (h : t .blocked ≡ false) where
-    pub shape-splittable : Splittable w′ (t .intervals)
-    shape-splittable = let s = d .beyond .size in record { few = d .most .1; long = omega arith; full = full-filled w′ (t .intervals) (d .filled h) }
+  module _ {v : List ℕ} (g : Prepared v w f) (o : ChainOf v c) (Q : Policy) where
+    pub shape-impossible : t .blocked ≡ true → false ≡ exceeds (vocabularyOf v) Q c
+    shape-impossible h = rw (d .barred v g o h)
 
-    module _ (Q : Policy) {n : ℕ} (e : n ≡ min (product Q (constraintsAt w′ (t .intervals))) (suc mostCombinations)) where
+    module _ {n : ℕ} (e : n ≡ min (product Q (constraintsAt w′ (t .intervals))) (suc mostCombinations)) where
       counted : ltb mostCombinations n ≡ ltb mostCombinations (combinationCount Q (normalForm (vocabularyOf v) c))
       counted = capped n _ (e ∙ ap (λ (m : ℕ). min m (suc mostCombinations)) (product-at (d .tabled v g o) Q))
 
@@ -111,32 +112,36 @@ module _ {v : List ℕ} {c : Chain} {f : Functional} {w w′ : List ℕ} {t : Ta
           go true = refl
           go false = refl
 
-      pub shape-many : {b : Bool} → mostCombinations < n → b ≡ cleanForm (vocabularyOf v) (normalForm (vocabularyOf v) c) → b ≡ exceeds (vocabularyOf v) Q c
-      shape-many l q = rw (sym counted ∙ lt-ltb mostCombinations n l, d .unbarred v h) (go _ q)
+      pub shape-many : {b : Bool} → t .blocked ≡ false → mostCombinations < n → TellsClean w′ t b → b ≡ exceeds (vocabularyOf v) Q c
+      shape-many h l q =
+          rw (sym counted ∙ lt-ltb mostCombinations n l, d .unbarred v h) (go _ (q v (normalForm (vocabularyOf v) c) (d .prepared v g .paired) (d .tabled v g o)))
         where
           go : {b : Bool} (x : Bool) → b ≡ x → b ≡ (x && true)
           go true h = h
           go false h = h
 
-module _ {v : List ℕ} {c : Chain} {f : Functional} {w w′ : List ℕ} {t : Tables} (d : Tabulated v c f w w′ t) where
+module _ {v : List ℕ} {c : Chain} {f : Functional} {w w′ : List ℕ} {t : Tables} (g : Prepared v w f) (o : ChainOf v c) (d : Tabulated c f w w′ t) where
   abbrev K : Vocabulary
   K = vocabularyOf v
 
   module _ (full : workSize ≤ length w) (h : t .blocked ≡ false) where
+    is-possible : possible K c ≡ true
+    is-possible = is-true (possible K c) (d .impossible v g o) h
+
     pub term-splittable : Splittable w′ (t .intervals)
     term-splittable =
         let s = d .beyond .size in
-        record { few = d .most .1; long = omega arith; full = full-clean (d .tabled) (clean-is K c (is-true (possible K c) (d .impossible) h)) }
+        record { few = d .most .1; long = omega arith; full = full-clean (d .tabled v g o) (clean-is K c is-possible) }
 
     pub term-triable : {q e : List ℕ} → policyRefusal v q ≡ 0 → Ends (policyOf q) e → exceeds K (policyOf q) c ≡ false → Triable q e w′ t
     term-triable {q} a n x =
         let s = d .beyond .size in
-        let i = d .tabled .count in
+        let i = d .tabled v g o .count in
         record {
           askable = record { long = omega arith; some = omega arith; individuals = d .most .0; intervals = d .most .1; vocabulary = v; accepted = a };
           splittable = term-splittable;
           ends = n;
-          few = rw (product-at (d .tabled) (policyOf q)) (le-of (combinationCount (policyOf q) (normalForm K c)) (rw (is-true (possible K c) (d .impossible) h) at x));
+          few = rw (product-at (d .tabled v g o) (policyOf q)) (le-of (combinationCount (policyOf q) (normalForm K c)) (rw is-possible at x));
         }
       where
         le-of : (m : ℕ) → ltb mostCombinations m ≡ false → m ≤ mostCombinations
@@ -159,8 +164,8 @@ module _ (Q : Policy) {w : List ℕ} {t : Tables} where
 
 -- a piece put beside a constraint leaves what was prepared, and what stands behind
 module _ {n : ℕ} {w w′ : List ℕ} (k : Kept n w w′) (few : n ≤ mostEntries) where
-  pub pieces-prepared : {v : List ℕ} {f : Functional} → workSize ≤ length w → Prepared v w f → Prepared v w′ f
-  pieces-prepared full g = prepared-kept full (k .same) (λ i h. k .others i (λ m l. (λ z. omega arith, λ z. omega arith))) g
+  pub pieces-stay : {f : Functional} → Stays f w w′
+  pieces-stay v g = prepared-same (k .same) (λ i h. k .others i (λ m l. (λ z. omega arith, λ z. omega arith))) g
 
   pub pieces-beyond : Beyond w w′
   pieces-beyond = record { size = k .same; rest = λ i h. k .others i (λ m l. (λ z. omega arith, λ z. omega arith)) }
@@ -265,31 +270,32 @@ module _ (N : ℕ) (K : Vocabulary) (P Q : Policy) (o : List ℕ) where
 
 -- ---- one term of the loop
 
+module _ {c : Chain} {f : Functional} {Q : Policy} {w w′ w″ : List ℕ} {t : Tables} {r : ℕ} (d : Tabulated c f w w′ t) (g : Failed Q w′ w″ t r) where
+  pub term-standing : workSize ≤ length w → Standing w″ t
+  term-standing h = let x = d .beyond .size in let y = g .kept .same in record { long = omega arith; individuals = d .most .0; intervals = d .most .1 }
+
+  pub term-stays : Stays f w w″
+  term-stays v b = pieces-stay (g .kept) (d .most .1) v (d .prepared v b)
+
+  pub term-beyond : Beyond w w″
+  term-beyond = beyond-then (d .beyond) (pieces-beyond (g .kept) (d .most .1))
+
 module _ {v p : List ℕ} (q : List ℕ) {s k : ℕ} (a : Asking (Undecided v p q) v p s k) (n : k ≡ 0 → ⊥) where
   pub term-few : exceeds (vocabularyOf v) (policyOf q) (termAt p k) ≡ false
   term-few = asking-found a n (λ l u. undecided-few v p q s (termAt p k) l u)
 
-  module _ {f : Functional} {w w′ w″ : List ℕ} {t : Tables} {r : ℕ} (d : Tabulated v (termAt p k) f w w′ t) (g : Failed (policyOf q) w′ w″ t r) where
+  module _ {f : Functional} {w w′ w″ : List ℕ} {t : Tables} {r : ℕ} (b : Prepared v w f) (d : Tabulated (termAt p k) f w w′ t) (g : Failed (policyOf q) w′ w″ t r) where
     abbrev failure : Failure (vocabularyOf v) (policyOf q) (termAt p k) w″ t r
-    failure = g .told v (termAt p k) (d .impossible) (d .tabled)
-
-    pub term-standing : workSize ≤ length w → Standing w″ t
-    term-standing h = let x = d .beyond .size in let y = g .kept .same in record { long = omega arith; individuals = d .most .0; intervals = d .most .1 }
-
-    pub term-prepared : workSize ≤ length w → Prepared v w″ f
-    term-prepared h = let x = d .beyond .size in pieces-prepared (g .kept) (d .most .1) (omega arith) (d .prepared)
-
-    pub term-beyond : Beyond w w″
-    term-beyond = beyond-then (d .beyond) (pieces-beyond (g .kept) (d .most .1))
+    failure = g .told v (termAt p k) (d .impossible v b (asking-named a n)) (d .tabled v b (asking-named a n))
 
     pub term-fails : {o o₀ o′ : List ℕ} {x : Verdict} → (r ≡ 0 → ⊥) → o ≡ o₀ → Reports s r w″ t o o′ x → Delivers (decision v p q (length o₀)) o₀ o′ x
     term-fails {o} {o₀} {o′} {x} z e y =
         let i = fails-some (vocabularyOf v) (policyOf q) (termAt p k) w″ t z failure in
-        let b = bounded v (d .prepared .accepted) in
-        let m = fails-neat (classCount v) (vocabularyOf v) b (policyOf q) (termAt p k) r (i .0) (chain-bounded _ _ _ (termAt p k) (asking-named a n)) (i .1) in
+        let h = bounded v (b .accepted) in
+        let m = fails-neat (classCount v) (vocabularyOf v) h (policyOf q) (termAt p k) r (i .0) (chain-bounded _ _ _ (termAt p k) (asking-named a n)) (i .1) in
         delivers-report (classCount v) (vocabularyOf v) (policyOf p) (policyOf q) o₀ (asking-found a n (λ l u. undecided-found v p q s (termAt p k) l u (i .1)))
         (subst (λ (l : List ℕ). Delivers (written (length l) (outside s r) (countermodel (classCount v) (vocabularyOf v) (i .0))) l o′ x) e
-        (y (classCount v) (vocabularyOf v) (i .0) (accepted-counts v (d .prepared .accepted) .0 .1) b m (i .2)))
+        (y (classCount v) (vocabularyOf v) (i .0) (accepted-counts v (b .accepted) .0 .1) h m (i .2)))
 
     pub term-passes : {j : ℕ} → r ≡ 0 → j ≡ nextOf p k → Asking (Undecided v p q) v p (s + 1) j
     term-passes z e = asking-on a n e (λ l u. undecided-on v p q s (termAt p k) l u (fails-none (vocabularyOf v) (policyOf q) (termAt p k) w″ t z failure))

@@ -1,6 +1,6 @@
 -- What a decision asks of its caller, and what it tells.
 use Prim.Native.Nat.{_≤_, suc, zero, ℕ}
-use mathlib.Core.Bool.{Bool, _&&_, not}
+use mathlib.Core.Bool.{Bool, _&&_, false, not}
 use mathlib.Core.List.{List}
 use mathlib.Core.Path.{_≡_}
 use lib.Dec.{ltb}
@@ -10,8 +10,9 @@ use Rattle.hierarchy.specs.declared.Functional.{Functional}
 use Rattle.meaning.proofs.Links.{Name}
 use Rattle.meaning.proofs.Neat.{NeatForm}
 use Rattle.meaning.proofs.Stated.{Bounded}
+use Rattle.meaning.proofs.Terms.{ChainOf}
 use Rattle.meaning.specs.Answers.{compliant, outside, verdictAnswer}
-use Rattle.meaning.specs.Containment.{decide, firstFailure, mostCombinations}
+use Rattle.meaning.specs.Containment.{decide, firstFailure, mostCombinations, tooMany}
 use Rattle.meaning.specs.Countermodel.{countermodel}
 use Rattle.meaning.specs.Lists.{found, nowhere}
 use Rattle.meaning.specs.NormalForm.{Form, normalForm, possible}
@@ -22,7 +23,9 @@ use Rattle.meaning.specs.Vocabulary.{Vocabulary, classCount, mostClasses, vocab
 use Rattle.meaning.specs.declared.Verdict.{Verdict}
 use Rattle.normal_form.specs.Tables.{Prepared, Tabled}
 use Rattle.normal_form.specs.declared.Tables.{Tables}
+use Rattle.splitting.specs.Ends.{Ends}
 use Rattle.splitting.specs.Odometer.{Kept}
+use Rattle.workspace.specs.Work.{Accepting}
 
 -- the answer is the outcome's, and the output holds the outcome's words
 pub record Delivers (x : Outcome) (o o′ : List ℕ) (r : Verdict) : Type 0 where
@@ -35,6 +38,11 @@ pub record Ready (v p q w : List ℕ) (f : Functional) : Type 0 where
   pub full : workSize ≤ length w
   pub first : policyRefusal v p ≡ 0
   pub second : policyRefusal v q ≡ 0
+
+-- and by it no simple policy of the first has too many combinations
+pub record Countable (v p q w : List ℕ) (f : Functional) : Type 0 where
+  pub ready : Ready v p q w f
+  pub few : tooMany (vocabularyOf v) (policyOf p) (policyOf q) ≡ false
 
 -- what is reported of the combination that the tables hold, by whatever vocabulary of N classes
 abbrev pub Reports : ℕ → ℕ → List ℕ → Tables → List ℕ → List ℕ → Verdict → Type 0
@@ -49,6 +57,18 @@ decision v p q o = reported (classCount v) (vocabularyOf v) o outside (decide (v
 -- "22: some possible simple policy of the first has over 65,536 combinations": one of them
 abbrev pub exceeds : Vocabulary → Policy → Chain → Bool
 exceeds K Q c = possible K c && ltb mostCombinations (combinationCount Q (normalForm K c))
+
+-- whether the term c is one, by whatever vocabulary is prepared and has its names, against the policy whose ends these are
+abbrev pub Exceeds : Chain → List ℕ → List ℕ → Functional → Bool → Type 0
+Exceeds c e w f r = (v : List ℕ) → Prepared v w f → ChainOf v c → (Q : Policy) → Ends Q e → r ≡ exceeds (vocabularyOf v) Q c
+
+-- whether there is one in p, by whatever vocabulary is prepared and accepts it
+abbrev pub Counts : List ℕ → List ℕ → List ℕ → Functional → Bool → Type 0
+Counts p e w f r = (v : List ℕ) → Accepting v p w f → (Q : Policy) → Ends Q e → r ≡ tooMany (vocabularyOf v) (policyOf p) Q
+
+-- the decision is delivered, by whatever vocabulary it can be made
+abbrev pub Decides : List ℕ → List ℕ → List ℕ → Functional → List ℕ → List ℕ → Verdict → Type 0
+Decides p q w f o o′ r = (v : List ℕ) → Countable v p q w f → Delivers (decision v p q (length o)) o o′ r
 
 -- the first combination of a term to fail, counted from 1, which the tables hold; 0 for none
 abbrev pub Failure : Vocabulary → Policy → Chain → List ℕ → Tables → ℕ → Type 0

@@ -10,29 +10,28 @@ use trial::first_failure;
 use workspace::shape;
 use workspace::tabulate;
 ghost use mathlib.Core.Bool.{false};
+ghost use mathlib.Core.List.{List};
 ghost use mathlib.Core.Path.{_≡_};
-ghost use Prim.Native.Nat.{_≤_};
+ghost use Prim.Native.Nat.{ℕ, _≤_};
 ghost use lib.ListN.{length};
 ghost use Rattle.countermodel.specs.Facts.{Standing};
-ghost use Rattle.decision.specs.Decisions.{Delivers, Failed, Ready, Reports, decision, exceeds};
-ghost use Rattle.meaning.proofs.Terms.{ChainOf};
-ghost use Rattle.meaning.specs.Containment.{tooMany};
+ghost use Rattle.decision.specs.Decisions.{Countable, Counts, Decides, Exceeds, Failed, Reports};
+ghost use Rattle.hierarchy.specs.Pairs.{mostPairs, pairCount};
 ghost use Rattle.meaning.specs.Operations.{workSize};
-ghost use Rattle.meaning.specs.Policy.{Policy, policyOf, policyRefusal};
-ghost use Rattle.meaning.specs.Vocabulary.{vocabularyOf};
-ghost use Rattle.normal_form.specs.Tables.{Fit, Prepared, termAt};
+ghost use Rattle.meaning.specs.Policy.{policyOf};
+ghost use Rattle.normal_form.specs.Tables.{Fit, termAt};
 ghost use Rattle.splitting.specs.Ends.{Ends};
 ghost use Rattle.trial.specs.Trials.{Triable};
-ghost use Rattle.workspace.specs.Work.{Beyond};
+ghost use Rattle.workspace.specs.Work.{Accepting, Beyond, Stays};
 
 // The most combinations of a simple policy.
 const MOST: usize = 65536;
 
-// Whether the simple policy at record k is possible and has too many combinations. Few do, so the look at the vocabulary comes last.
-fn is_too_many(v: &[u32], p: &[u32], work: &mut [u32], f: Functional, ends: &[u32], k: u32) -> bool
-    requires { ⌜ Prepared (now v) (now work) f × (workSize ≤ length (now work)) × Fit (now p) (now work) k × ChainOf (now v) (termAt (now p) k) ⌝ }
-    ensures { λ r. ⌜ ((Q : Policy) → Ends Q (now (ends .entry)) → r ≡ exceeds (vocabularyOf (now (v .entry))) Q (termAt (now (p .entry)) k)) ⌝ }
-    ensures { λ _. ⌜ Prepared (now (v .entry)) (now (work .exit)) f × Beyond (now (work .entry)) (now (work .exit)) ⌝ }
+// Whether the simple policy at record k is possible and has too many combinations. Few do, so the look at the pairs comes last.
+fn is_too_many(p: &[u32], work: &mut [u32], f: Functional, ends: &[u32], k: u32) -> bool
+    requires { ⌜ (workSize ≤ length (now work)) × Fit (now p) (now work) k × (pairCount (now work) ≤ mostPairs) ⌝ }
+    ensures { λ r. ⌜ Exceeds (termAt (now (p .entry)) k) (now (ends .entry)) (now (work .entry)) f r ⌝ }
+    ensures { λ _. ⌜ Stays f (now (work .entry)) (now (work .exit)) × Beyond (now (work .entry)) (now (work .exit)) ⌝ }
 {
     let t = shape(p, work, f, k);
     if t.blocked {
@@ -41,19 +40,19 @@ fn is_too_many(v: &[u32], p: &[u32], work: &mut [u32], f: Functional, ends: &[u3
     if combinations(ends, work, t.intervals) <= MOST {
         return false;
     }
-    is_clean(v, work, t)
+    is_clean(work, t)
 }
 
 // Whether some simple policy of p is, wherever it stands.
-pub fn has_too_many(v: &[u32], p: &[u32], work: &mut [u32], f: Functional, ends: &[u32]) -> bool
-    requires { ⌜ Prepared (now v) (now work) f × (workSize ≤ length (now work)) × (policyRefusal (now v) (now p) ≡ 0) ⌝ }
-    ensures { λ r. ⌜ ((Q : Policy) → Ends Q (now (ends .entry)) → r ≡ tooMany (vocabularyOf (now (v .entry))) (policyOf (now (p .entry))) Q) ⌝ }
-    ensures { λ _. ⌜ Prepared (now (v .entry)) (now (work .exit)) f × Beyond (now (work .entry)) (now (work .exit)) ⌝ }
+pub fn has_too_many(p: &[u32], work: &mut [u32], f: Functional, ends: &[u32]) -> bool
+    requires { ⌜ (workSize ≤ length (now work)) × ((v : List ℕ) × Accepting v (now p) (now work) f) ⌝ }
+    ensures { λ r. ⌜ Counts (now (p .entry)) (now (ends .entry)) (now (work .entry)) f r ⌝ }
+    ensures { λ _. ⌜ Stays f (now (work .entry)) (now (work .exit)) × Beyond (now (work .entry)) (now (work .exit)) ⌝ }
 {
     let first = first_term(p);
     let mut k = first;
     while k != 0 {
-        if is_too_many(v, p, work, f, ends, k) {
+        if is_too_many(p, work, f, ends, k) {
             return true;
         }
         k = next_of(p, k);
@@ -90,7 +89,6 @@ fn report(work: &[u32], t: Tables, s: u32, c: u32, out: &mut [u32]) -> Verdict
 
 // The first simple policy of p with a combination that fails, and the first of those.
 pub fn decide(
-    v: &[u32],
     p: &[u32],
     q: &[u32],
     work: &mut [u32],
@@ -98,14 +96,15 @@ pub fn decide(
     ends: &[u32],
     out: &mut [u32],
 ) -> Verdict
-    requires { ⌜ Ready (now v) (now p) (now q) (now work) f × Ends (policyOf (now q)) (now ends) × (tooMany (vocabularyOf (now v)) (policyOf (now p)) (policyOf (now q)) ≡ false) ⌝ }
-    ensures { λ r. ⌜ Delivers (decision (now (v .entry)) (now (p .entry)) (now (q .entry)) (length (now (out .entry)))) (now (out .entry)) (now (out .exit)) r ⌝ }
-    ensures { λ _. ⌜ Beyond (now (work .entry)) (now (work .exit)) × (length (now (out .exit)) ≡ length (now (out .entry))) × Prepared (now (v .entry)) (now (work .exit)) f ⌝ }
+    requires { ⌜ ((v : List ℕ) × Countable v (now p) (now q) (now work) f) × Ends (policyOf (now q)) (now ends) ⌝ }
+    ensures { λ r. ⌜ Decides (now (p .entry)) (now (q .entry)) (now (work .entry)) f (now (out .entry)) (now (out .exit)) r ⌝ }
+    ensures { λ _. ⌜ Stays f (now (work .entry)) (now (work .exit)) × Beyond (now (work .entry)) (now (work .exit)) ⌝ }
+    ensures { λ _. ⌜ length (now (out .exit)) ≡ length (now (out .entry)) ⌝ }
 {
     let mut s: u32 = 1;
     let mut k = first_term(p);
     while k != 0 {
-        let t = tabulate(v, p, work, f, k);
+        let t = tabulate(p, work, f, k);
         let c = failure_of(q, work, ends, t);
         if c != 0 {
             return report(work, t, s, c, out);

@@ -4,3 +4,4 @@ pub mod Passes
 pub mod Steps
 pub mod Singles
 pub mod Ranges
+pub mod Pairs

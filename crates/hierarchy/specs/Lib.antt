@@ -1,3 +1,4 @@
 -- What the work slice holds through a call.
 pub mod Rows
+pub mod Pairs
 pub mod Singles

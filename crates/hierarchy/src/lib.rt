@@ -1,6 +1,6 @@
 // What an accepted vocabulary states, worked out once a call: nothing else looks through its records again.
 // The work slice begins with rows of ClassSet::WORDS words, counted from 1: row c is the set of the classes above class c, itself
-// among them, and row ROLES + r that of the classes above the ranges of role r.
+// among them, and row ROLES + r that of the classes above the ranges of role r. Behind the rows stand the pairs of disjoint classes.
 use meaning::ClassNo;
 use meaning::FeatureNo;
 use meaning::RoleNo;
@@ -24,6 +24,7 @@ ghost use Rattle.meaning.specs.NormalForm.{single, singleFeature};
 ghost use Rattle.meaning.specs.Vocabulary.{axiomAt, axiomFits, classCount, roleCount, vocabularyOf, vocabularyRefusal};
 ghost use Rattle.words.specs.Rows.{classWords};
 ghost use Rattle.words.specs.Sets.{inSet};
+ghost use Rattle.hierarchy.specs.Pairs.{Listed, PairRoom, enlisted, pairPlace, pairsEnd, withPair};
 ghost use Rattle.hierarchy.specs.Rows.{begun, Closed, ClosedRows, emptied, Grown, joined, lifted, Ranged};
 ghost use Rattle.hierarchy.specs.Rows.{RoleRoom, roleRow, rowOf, rowPlace, TellsAbove, TellsBelow, TellsRanged, widened};
 ghost use Rattle.hierarchy.specs.Singles.{marked, Singles, withFeature, withRole};
@@ -176,6 +177,56 @@ pub fn range_above(work: &[u32], r: RoleNo) -> ClassSet
     ensures { λ s. ⌜ TellsRanged (now (work .entry)) (r .0) (s .words) ⌝ }
 {
     row(work, ROLES + r.0)
+}
+
+// Behind room for the rows of the most roles: the number of pairs of disjoint classes, then two words a pair.
+pub const PAIRS: usize = (ClassSet::MOST as usize + 64) * ClassSet::WORDS;
+
+// There are at most 1,024 pairs: a vocabulary has no more records.
+pub const PAIRS_END: usize = PAIRS + 1 + 2 * 1024;
+
+// Where pair i starts, counted from 0.
+pub fn pair_at(i: u32) -> usize
+    ensures { λ r. ⌜ r ≡ pairPlace i ⌝ }
+{
+    PAIRS + 1 + 2 * place(i)
+}
+
+fn add_pair(work: &mut [u32], a: u32, b: u32)
+    requires { ⌜ PairRoom (now work) ⌝ }
+    ensures { λ _. ⌜ now (work .exit) ≡ withPair (now (work .entry)) a b ⌝ }
+{
+    let n = work[PAIRS];
+    let at = pair_at(n);
+    work[at] = a;
+    work[at + 1] = b;
+    work[PAIRS] = n + 1;
+}
+
+// What record k says, where it says that two classes share no individual.
+fn enlist(v: &[u32], work: &mut [u32], k: u32)
+    requires { ⌜ PairRoom (now work) ⌝ }
+    ensures { λ _. ⌜ now (work .exit) ≡ enlisted (now (work .entry)) (axiomAt (now (v .entry)) k) ⌝ }
+{
+    if axiom_kind(v, k) != 2 {
+        return;
+    }
+    let a = axiom_left(v, k);
+    let b = axiom_right(v, k);
+    add_pair(work, a, b);
+}
+
+// Writes the list of the pairs, by one walk over the records.
+pub fn list_pairs(v: &[u32], work: &mut [u32])
+    requires { ⌜ (vocabularyRefusal (now v) ≡ 0) × (pairsEnd ≤ length (now work)) ⌝ }
+    ensures { λ _. ⌜ Listed (now (v .entry)) (now (work .entry)) (now (work .exit)) ⌝ }
+{
+    work[PAIRS] = 0;
+    let mut k = first_axiom(v);
+    while k != 0 {
+        enlist(v, work, k);
+        k = axiom_next(v, k);
+    }
 }
 
 // The names of which no individual has two values: a bit for each of the 64 roles and features that a vocabulary may count.

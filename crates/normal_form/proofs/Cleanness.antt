@@ -1,23 +1,21 @@
 -- The tests of the tables are those of the form.
 use Prim.Native.Nat.{_+_, _-_, _<_, _≤_, suc, zero, ℕ}
 use mathlib.Core.Bool.{Bool, _&&_, and-assoc, and-false, and-true, false, not, true}
-use mathlib.Core.List.{List, [], _++_, _∷_, append-nil, foldl}
-use mathlib.Core.Path.{_∙_, _≡_, ap, refl, sym}
+use mathlib.Core.List.{List, [], _++_, _∷_, append-nil, map}
+use mathlib.Core.Path.{_∙_, _≡_, ap, ap₂, refl, sym}
 use native.Mathlib.Omega.{arith}
-use lib.Dec.{T, eqb, leb}
-use lib.ListN.{length}
-use borrow.Author.Tests.{ne-eqb}
-use Rattle.meaning.proofs.Links.{split}
+use lib.Dec.{T, leb}
+use lib.ListN.{getD, length}
+use Rattle.hierarchy.specs.Pairs.{PairRows, pairAt, pairCount, pairPlace, parting}
 use Rattle.meaning.proofs.Rules.{T-and, all-at, all-in, all-of, all-out, and-T, any-at, any-in, any-out, at-any, same-test}
 use Rattle.meaning.specs.Countermodel.{size}
-use Rattle.meaning.specs.Lists.{Any, _∈_, all, counting}
+use Rattle.meaning.specs.Lists.{Any, _∈_, all, counting, flatMap}
 use Rattle.meaning.specs.NormalForm.{Form, Interval, Successors, clash, cleanNode, cleanSuccessors, compatible, filled, isBelow, none, separates, successor}
-use Rattle.meaning.specs.Vocabulary.{Axiom, Vocabulary, axiomAt, axiomKind, axiomLeft, axiomNext, axiomRight, below, disjoint, functionalFeature, functionalRole, range, vocabularyOf}
+use Rattle.meaning.specs.Vocabulary.{Axiom, Vocabulary, below, disjoint, functionalFeature, functionalRole, range, vocabularyOf}
 use Rattle.normal_form.proofs.Nodes.{held-in}
-use Rattle.normal_form.specs.Clean.{agree, cleanForm, filledAt, parted, setAt}
+use Rattle.normal_form.specs.Clean.{TellsClean, agree, agreeIn, cleanForm, filledAt, parted, setAt}
 use Rattle.normal_form.specs.Tables.{Above, Held, IntervalsStand, RowsStand, Tabled, heldBelow, heldBy, heldIn}
 use Rattle.normal_form.specs.declared.Tables.{Tables}
-use Rattle.vocabulary.proofs.Chain.{Walking, walking-ends, walking-on}
 use Rattle.words.specs.Sets.{inSet}
 
 -- ---- all of a list
@@ -25,6 +23,14 @@ use Rattle.words.specs.Sets.{inSet}
 all-append : {A : Type 0} (p : A → Bool) (l m : List A) → all p (l ++ m) ≡ all p l && all p m
 all-append p [] m = refl
 all-append p (x ∷ l) m = ap (λ (b : Bool). p x && b) (all-append p l m) ∙ sym (and-assoc (p x) (all p l) (all p m))
+
+all-map : {A B : Type 0} (p : B → Bool) (f : A → B) (l : List A) → all p (map f l) ≡ all (λ x. p (f x)) l
+all-map p f [] = refl
+all-map p f (x ∷ l) = ap (λ (b : Bool). p (f x) && b) (all-map p f l)
+
+all-same : (p q : ℕ → Bool) → ((i : ℕ) → p i ≡ q i) → (l : List ℕ) → all p l ≡ all q l
+all-same p q h [] = refl
+all-same p q h (x ∷ l) = ap₂ (λ (a b : Bool). a && b) (h x) (all-same p q h l)
 
 counting-append : (k m n : ℕ) → counting k (m + n) ≡ counting k m ++ counting (k + m) n
 counting-append k zero n = rw (zero-add n) (ap (λ (i : ℕ). counting i n) (omega arith))
@@ -127,6 +133,24 @@ module _ (K : Vocabulary) (ws cs : List ℕ) (told : Above K ws cs) where
           (all-at (all-out (λ b. not (clash K (s .0) b)) cs (all-at (all-out (λ a. all (λ b. not (clash K a b)) cs) cs t) (s .2))) (s .3))
           (any-in (separates K (s .0) (s .1)) (at-any m (s .4))))))
 
+-- ---- the list of pairs
+
+-- no other axiom parts
+agree-parting : (K : Vocabulary) (ws : List ℕ) → agree (flatMap parting K) ws ≡ agree K ws
+unfolding agree
+agree-parting [] ws = refl
+agree-parting (below a b ∷ K) ws = agree-parting K ws
+agree-parting (disjoint a b ∷ K) ws = ap (λ (t : Bool). not (inSet ws a && inSet ws b) && t) (agree-parting K ws)
+agree-parting (functionalRole r ∷ K) ws = agree-parting K ws
+agree-parting (functionalFeature f ∷ K) ws = agree-parting K ws
+agree-parting (range r c ∷ K) ws = agree-parting K ws
+
+-- the list tells what the vocabulary says
+listed-agree : {v w : List ℕ} → PairRows v w → (ws : List ℕ) → agreeIn w ws ≡ agree (vocabularyOf v) ws
+unfolding agree agreeIn
+listed-agree {v} {w} h ws =
+    sym (all-map (λ x. not (parted ws x)) (pairAt w) (counting 0 (pairCount w))) ∙ ap (all (λ x. not (parted ws x))) (h .rows) ∙ agree-parting (vocabularyOf v) ws
+
 -- ---- the form
 
 -- three tests of two parts, as two of three
@@ -193,53 +217,27 @@ module _ (K : Vocabulary) (w : List ℕ) (r : Tables) {a : Bool} (ea : a ≡ all
   pub clean-not : a ≡ false → (t : Form) → Tabled K t w r → a ≡ cleanForm K t
   clean-not h t s = sym (clean-form t s ∙ rw h)
 
-  pub clean-both : {b : Bool} → a ≡ true → b ≡ all (λ j. agree K (setAt w j)) (counting 0 (r .individuals)) → (t : Form) → Tabled K t w r → b ≡ cleanForm K t
+  clean-both : {b : Bool} → a ≡ true → b ≡ all (λ j. agree K (setAt w j)) (counting 0 (r .individuals)) → (t : Form) → Tabled K t w r → b ≡ cleanForm K t
   clean-both h eb t s = eb ∙ sym (clean-form t s ∙ rw h)
 
+-- so by the list, of whatever vocabulary it is
+module _ (w : List ℕ) (r : Tables) {a : Bool} (ea : a ≡ all (filledAt w) (counting 0 (r .intervals))) where
+  pub clean-listed : {b : Bool} → a ≡ true → b ≡ all (λ j. agreeIn w (setAt w j)) (counting 0 (r .individuals)) → TellsClean w r b
+  clean-listed h eb v t p s =
+      clean-both (vocabularyOf v) w r ea h (eb ∙ all-same (λ j. agreeIn w (setAt w j)) (λ j. agree (vocabularyOf v) (setAt w j)) (λ j. listed-agree p (setAt w j)) (counting 0 (r .individuals))) t s
+
+  pub clean-empty : a ≡ false → TellsClean w r a
+  clean-empty h v t p s = clean-not (vocabularyOf v) w r ea h t s
+
 -- the test of an individual's set, once it is loaded
-pub row-agrees : (K : Vocabulary) (w : List ℕ) (i : ℕ) {s : List ℕ} {t : Bool} → s ≡ setAt w i → t ≡ agree K s → agree K (setAt w i) ≡ t
-row-agrees K w i e d = sym (d ∙ ap (agree K) e)
+pub row-agrees : (w : List ℕ) (i : ℕ) {s : List ℕ} {t : Bool} → s ≡ setAt w i → t ≡ agreeIn w s → agreeIn w (setAt w i) ≡ t
+row-agrees w i e d = sym (d ∙ ap (agreeIn w) e)
 
--- ---- one set against the chain of disjoint classes
+-- ---- one pair: the second class is looked for where the set has the first
 
--- record k parts the classes of the set, or not
-module _ (v : List ℕ) (k : ℕ) (ws : List ℕ) {kind : ℕ} (ek : kind ≡ axiomKind v k) where
-  pub parts-not : (kind ≡ 2 → ⊥) → false ≡ parted ws (axiomAt v k)
-  parts-not n = rw (← ek, ne-eqb kind 2 n) (
-      split P (eqb kind 1) (λ _. refl) (λ _. split P (eqb kind 3) (λ _. refl) (λ _. split P (eqb kind 4) (λ _. refl) (λ _. refl))))
-    where
-      P : Axiom → Type 0
-      P x = false ≡ parted ws x
+module _ (w ws : List ℕ) (i : ℕ) {at : ℕ} {s : Bool} (ea : at ≡ pairPlace i) (es : s ≡ inSet ws (getD w at 0)) where
+  pub parts-none : s ≡ false → s ≡ parted ws (pairAt w i)
+  parts-none h = sym (rw (← ea, ← es, h))
 
-  module _ {a : ℕ} {s : Bool} (is : kind ≡ 2) (ea : a ≡ axiomLeft v k) (es : s ≡ inSet ws a) where
-    parts-two : parted ws (axiomAt v k) ≡ inSet ws (axiomLeft v k) && inSet ws (axiomRight v k)
-    parts-two = rw (sym ek ∙ is)
-
-    pub parts-none : s ≡ false → s ≡ parted ws (axiomAt v k)
-    parts-none h = sym (parts-two ∙ rw (← ea, ← es, h))
-
-    pub parts-both : {b : ℕ} {t : Bool} → s ≡ true → b ≡ axiomRight v k → t ≡ inSet ws b → t ≡ parted ws (axiomAt v k)
-    parts-both h eb et = et ∙ sym (parts-two ∙ rw (← ea, ← es, h, ← eb))
-
--- the test so far, and with one axiom more
-abbrev pub agreeing : List ℕ → Bool → Axiom → Bool
-agreeing ws so x = so && not (parted ws x)
-
-fold-agree : (ws : List ℕ) (b : Bool) (K : Vocabulary) → foldl (agreeing ws) b K ≡ b && agree K ws
-unfolding agree
-fold-agree ws b [] = sym (and-true b)
-fold-agree ws b (x ∷ K) = fold-agree ws (b && not (parted ws x)) K ∙ and-assoc b (not (parted ws x)) (all (λ y. not (parted ws y)) K)
-
-module _ {v ws : List ℕ} {k : ℕ} (walk : Walking v (agreeing ws) true k true) where
-  pub agree-ends : k ≡ 0 → true ≡ agree (vocabularyOf v) ws
-  agree-ends z = walking-ends walk z ∙ fold-agree ws true (vocabularyOf v)
-
-  module _ (n : k ≡ 0 → ⊥) {d : Bool} (ed : d ≡ parted ws (axiomAt v k)) where
-    pub agree-stops : d ≡ true → false ≡ agree (vocabularyOf v) ws
-    agree-stops h = go (walking-on walk n {x = axiomNext v k} refl {t = false} (rw (← ed, h)))
-      where
-        go : Walking v (agreeing ws) true (axiomNext v k) false → false ≡ agree (vocabularyOf v) ws
-        go u = sym (fold-agree ws false (u .left)) ∙ u .same ∙ fold-agree ws true (vocabularyOf v)
-
-    pub agree-on : d ≡ false → {x : ℕ} → x ≡ axiomNext v k → Walking v (agreeing ws) true x true
-    agree-on h p = walking-on walk n p (rw (← ed, h))
+  pub parts-both : {t : Bool} → s ≡ true → t ≡ inSet ws (getD w (at + 1) 0) → t ≡ parted ws (pairAt w i)
+  parts-both h et = et ∙ sym (rw (← ea, ← es, h))

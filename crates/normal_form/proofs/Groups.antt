@@ -1,14 +1,16 @@
 -- A normal form by groups: the first arm of a functional role takes those that join it, the others stand behind it. The numbers, names
 -- and impossible concepts of a group, and its classes.
-use Prim.Native.Nat.{_+_, _≤_, suc, ℕ}
+use Prim.Native.Nat.{_+_, _<_, _≤_, suc, ℕ}
 use mathlib.Core.Bool.{Bool, _||_, cond, false, not, or-assoc, true}
 use mathlib.Core.List.{List, [], _++_, _∷_}
 use mathlib.Core.Path.{_∙_, _≡_, ap, refl, sym}
 use native.Mathlib.Omega.{arith}
 use lib.Dec.{eqb}
-use lib.ListN.{length, length-append}
+use lib.ListN.{getD, length, length-append}
 use borrow.Author.Tests.{eqb-false, eqb-true, ne-eqb}
-use Rattle.hierarchy.specs.Rows.{roleRow, rowOf, rowPlace}
+use Rattle.hierarchy.proofs.Pairs.{pairs-kept}
+use Rattle.hierarchy.specs.Pairs.{pairsAt}
+use Rattle.hierarchy.specs.Rows.{ClosedRows, RangeRows, roleRow, rowOf, rowPlace}
 use Rattle.hierarchy.specs.declared.Functional.{Functional}
 use Rattle.meaning.proofs.Links.{Name}
 use Rattle.meaning.proofs.Rules.{all-append, head, tail}
@@ -17,11 +19,11 @@ use Rattle.meaning.proofs.Wellformed.{NamedAxiom, accepted-axioms, accepted-cou
 use Rattle.meaning.specs.Lists.{All, any, cons, filter, nil}
 use Rattle.meaning.specs.NormalForm.{Form, Interval, Node, Successors, add, bare, blocked, graft, isBelow, none, normalForm, placeSuccessor, ranges, single, singleFeature, successor}
 use Rattle.meaning.specs.Policy.{Chain, class, end, impossible, interval, some}
-use Rattle.meaning.specs.Vocabulary.{Vocabulary, below, classCount, disjoint, featureCount, functionalFeature, functionalRole, mostClasses, range, roleCount, vocabularyOf}
+use Rattle.meaning.specs.Vocabulary.{Vocabulary, below, classCount, disjoint, featureCount, functionalFeature, functionalRole, mostClasses, range, roleCount, vocabularyOf, vocabularyRefusal}
 use Rattle.normal_form.proofs.Laws.{front-row, row-kept}
 use Rattle.normal_form.specs.Parts.{Arm, barred, barredAll, blockedAll, classesAll, classesIn, countAll, intervalCount, intervalsAll, intervalsIn, joins, parts, placeAll, roles, rolesAll, successorsOf, weigh}
 use Rattle.normal_form.specs.Steps.{ArmOf, Kept, Told, front, startOf}
-use Rattle.normal_form.specs.Tables.{Above, Prepared, tablesEnd}
+use Rattle.normal_form.specs.Tables.{Above, Prepared, pendingAt, tablesEnd}
 use Rattle.words.proofs.Laws.{in-zeros}
 use Rattle.words.specs.Rows.{classWords}
 use Rattle.words.specs.Sets.{inSet}
@@ -234,6 +236,35 @@ all-append-classes : (l : List Arm) (cs ds : List ℕ) → classesAll l (cs ++ d
 all-append-classes [] cs ds = refl
 all-append-classes (a ∷ l) cs ds = ap (classesAll l) (classes-append (a .child) cs ds) ∙ all-append-classes l (classesIn (a .child) cs) ds
 
+-- ---- what writes behind the rows keeps them
+
+module _ (w w′ : List ℕ) (e : length w′ ≡ length w) (before : (i : ℕ) → i < pairsAt → getD w′ i 0 ≡ getD w i 0) where
+  same-row : (i : ℕ) → i ≤ roleRow 64 → rowOf w′ i ≡ rowOf w i
+  same-row i h = row-kept classWords w w′ (rowPlace i) e (λ j p q. before j (omega arith))
+
+  module _ {v : List ℕ} where
+    pub closed-kept : vocabularyRefusal v ≡ 0 → ClosedRows v w → ClosedRows v w′
+    closed-kept a h = record {
+      fits = rw e (h .fits);
+      rows = λ c b n. rw (same-row c (let u = accepted-counts v a in omega arith)) (h .rows c b n);
+    }
+
+    pub ranged-kept : vocabularyRefusal v ≡ 0 → RangeRows v w → RangeRows v w′
+    ranged-kept a h = record {
+      fits = rw e (h .fits);
+      rows = λ r b n. rw (same-row (roleRow r) (let u = accepted-counts v a in omega arith)) (h .rows r b n);
+    }
+
+-- what stands in front of the tables is kept, and so what is prepared
+pub prepared-same : {v w w′ : List ℕ} {f : Functional} → length w′ ≡ length w → ((i : ℕ) → i < pendingAt → getD w′ i 0 ≡ getD w i 0) → Prepared v w f → Prepared v w′ f
+prepared-same {w = w} {w′ = w′} e before g = record {
+  accepted = g .accepted;
+  closed = closed-kept w w′ e (λ i l. before i (omega arith)) (g .accepted) (g .closed);
+  ranged = ranged-kept w w′ e (λ i l. before i (omega arith)) (g .accepted) (g .ranged);
+  paired = pairs-kept w w′ before (g .paired);
+  singles = g .singles;
+}
+
 -- what the rows say is what the vocabulary says
 module _ {v w : List ℕ} {f : Functional} (prepared : Prepared v w f) where
   counts : Name mostClasses (classCount v) × (roleCount v ≤ 64) × (featureCount v ≤ 64)
@@ -243,21 +274,7 @@ module _ {v w : List ℕ} {f : Functional} (prepared : Prepared v w f) where
   unranged = no-range (accepted-axioms v (prepared .accepted))
 
   pub prepared-kept : {j e u n m : ℕ} {w′ : List ℕ} → Kept j e u n m w w′ → Prepared v w′ f
-  prepared-kept {w′ = w′} k = record {
-    accepted = prepared .accepted;
-    closed = record {
-      fits = rw (k .same) (prepared .closed .fits);
-      rows = λ a b n. rw (same a (let u = counts in omega arith)) (prepared .closed .rows a b n);
-    };
-    ranged = record {
-      fits = rw (k .same) (prepared .ranged .fits);
-      rows = λ r b n. rw (same (roleRow r) (let u = counts in omega arith)) (prepared .ranged .rows r b n);
-    };
-    singles = prepared .singles;
-  }
-    where
-      same : (i : ℕ) → i ≤ roleRow 64 → rowOf w′ i ≡ rowOf w i
-      same i h = row-kept classWords w w′ (rowPlace i) (k .same) (λ j p q. k .before j (omega arith))
+  prepared-kept k = prepared-same (k .same) (k .before) prepared
 
   module _ (long : tablesEnd ≤ length w) (b : ℕ) where
     rows-say : {cs : List ℕ} → All (Name (classCount v)) cs → any (λ c. inSet (rowOf (front w) c) b) cs ≡ any (λ c. isBelow (vocabularyOf v) c b) cs

@@ -2,12 +2,15 @@
 use Prim.Native.Nat.{_+_, ℕ}
 use mathlib.Core.Bool.{Bool, _&&_, false, not}
 use mathlib.Core.List.{List}
+use mathlib.Core.Path.{_≡_}
 use lib.Dec.{leb}
 use lib.ListN.{getD}
-use Rattle.meaning.specs.Lists.{all}
+use Rattle.hierarchy.specs.Pairs.{PairRows, pairAt, pairCount}
+use Rattle.meaning.specs.Lists.{all, counting}
 use Rattle.meaning.specs.NormalForm.{Form, cleanNode, cleanSuccessors}
-use Rattle.meaning.specs.Vocabulary.{Axiom, Vocabulary, below, disjoint, functionalFeature, functionalRole, range}
-use Rattle.normal_form.specs.Tables.{individualPlace, intervalPlace}
+use Rattle.meaning.specs.Vocabulary.{Axiom, Vocabulary, below, disjoint, functionalFeature, functionalRole, range, vocabularyOf}
+use Rattle.normal_form.specs.Tables.{Tabled, individualPlace, intervalPlace}
+use Rattle.normal_form.specs.declared.Tables.{Tables}
 use Rattle.words.specs.Rows.{classWords, rowAt}
 use Rattle.words.specs.Sets.{inSet}
 
@@ -27,6 +30,10 @@ parted ws (functionalRole r) = false
 parted ws (functionalFeature f) = false
 parted ws (range r c) = false
 
+-- no pair of the list in w says so
+unfoldable pub agreeIn : List ℕ → List ℕ → Bool
+agreeIn w ws = all (λ i. not (parted ws (pairAt w i))) (counting 0 (pairCount w))
+
 -- no axiom says so
 unfoldable pub agree : Vocabulary → List ℕ → Bool
 agree K ws = all (λ x. not (parted ws x)) K
@@ -34,3 +41,7 @@ agree K ws = all (λ x. not (parted ws x)) K
 -- the set of individual n + 1
 abbrev pub setAt : List ℕ → ℕ → List ℕ
 setAt w n = rowAt classWords w (individualPlace n + 2)
+
+-- what the test of the tables tells of every vocabulary whose pairs are listed
+abbrev pub TellsClean : List ℕ → Tables → Bool → Type 0
+TellsClean w t r = (v : List ℕ) (x : Form) → PairRows v w → Tabled (vocabularyOf v) x w t → r ≡ cleanForm (vocabularyOf v) x

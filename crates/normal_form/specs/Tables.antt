@@ -3,6 +3,7 @@ use Prim.Native.Nat.{_*_, _+_, _<_, _≤_, suc, ℕ}
 use mathlib.Core.List.{List, [], _++_, _∷_}
 use mathlib.Core.Path.{_≡_}
 use lib.ListN.{getD, length}
+use Rattle.hierarchy.specs.Pairs.{PairRows, pairsEnd}
 use Rattle.hierarchy.specs.Rows.{ClosedRows, RangeRows}
 use Rattle.hierarchy.specs.Singles.{Singles}
 use Rattle.hierarchy.specs.declared.Functional.{Functional}
@@ -17,7 +18,7 @@ use Rattle.normal_form.specs.declared.Tables.{Tables}
 use Rattle.words.specs.Rows.{classWords, rowAt}
 use Rattle.words.specs.Sets.{inSet}
 
--- ---- where the tables stand: behind the closed sets of the classes and of the roles' ranges
+-- ---- where the tables stand: behind what hierarchy writes
 
 -- the most individuals, constraints and roles that wait: a policy has no more records
 abbrev pub mostEntries : ℕ
@@ -25,7 +26,7 @@ mostEntries = 512
 
 -- records of roles that are still to be followed, a word each
 abbrev pub pendingAt : ℕ
-pendingAt = (mostClasses + 64) * classWords
+pendingAt = pairsEnd
 
 -- individuals: parent, role, set of classes
 abbrev pub rowsAt : ℕ
@@ -50,11 +51,12 @@ intervalPlace m = intervalsAt + 6 * m
 
 -- ---- what is asked
 
--- the rows in front of the tables and the functional names are those of the accepted vocabulary v
+-- the rows and the pairs in front of the tables and the functional names are those of the accepted vocabulary v
 pub record Prepared (v w : List ℕ) (f : Functional) : Type 0 where
   pub accepted : vocabularyRefusal v ≡ 0
   pub closed : ClosedRows v w
   pub ranged : RangeRows v w
+  pub paired : PairRows v w
   pub singles : Singles v f
 
 -- the conjuncts of the simple policy at record s
@@ -124,7 +126,7 @@ pub record Tabled (K : Vocabulary) (t : Form) (w : List ℕ) (r : Tables) : Type
   pub rows : RowsStand K w (successor 0 (t .node) (t .successors) none) 0 0
   pub held : IntervalsStand w 0 (heldIn t)
 
--- whatever vocabulary the rows and the functional names are prepared for, the tables hold the term's normal form by it;
+-- whatever vocabulary the rows, the pairs and the functional names are prepared for, the tables hold the term's normal form by it;
 -- what stands before and behind the tables is as it was
 pub record Normalised (f : Functional) (c : Chain) (w w′ : List ℕ) (r : Tables) : Type 0 where
   pub tabled : (v : List ℕ) → Prepared v w f → ChainOf v c → Tabled (vocabularyOf v) (normalForm (vocabularyOf v) c) w′ r

@@ -1,6 +1,9 @@
 // The normal form of a simple policy, as flat tables of the work slice: one walk, no tree, no numbering afterwards.
 use hierarchy::Functional;
+use hierarchy::PAIRS;
+use hierarchy::PAIRS_END;
 use hierarchy::above;
+use hierarchy::pair_at;
 use hierarchy::range_above;
 use meaning::ClassNo;
 use meaning::FeatureNo;
@@ -11,32 +14,26 @@ use policy::kind_of;
 use policy::lo_of;
 use policy::name_of;
 use policy::next_of;
-use vocabulary::axiom_kind;
-use vocabulary::axiom_left;
-use vocabulary::axiom_next;
-use vocabulary::axiom_right;
-use vocabulary::first_axiom;
 use words::ClassSet;
 ghost use mathlib.Core.Bool.{_&&_};
 ghost use mathlib.Core.Path.{_≡_};
 ghost use Prim.Native.Nat.{_+_, _<_, _≤_, max, min};
 ghost use lib.Dec.{eqb};
 ghost use lib.ListN.{length, getD};
+ghost use Rattle.hierarchy.specs.Pairs.{mostPairs, pairAt, pairCount, pairsEnd};
 ghost use Rattle.meaning.specs.Lists.{all, counting};
-ghost use Rattle.meaning.specs.NormalForm.{Form};
-ghost use Rattle.meaning.specs.Vocabulary.{axiomAt, vocabularyOf, vocabularyRefusal};
-ghost use Rattle.normal_form.specs.Clean.{agree, cleanForm, filledAt, parted, setAt};
+ghost use Rattle.normal_form.specs.Clean.{TellsClean, agreeIn, filledAt, parted, setAt};
 ghost use Rattle.normal_form.specs.Parts.{armAt, chainAt, headAt, joins};
 ghost use Rattle.normal_form.specs.Steps.{Adding, BuiltFrom, Gatherable, Gathered, Good, NodedFrom, Placed, ReadyFor, Room, RowPut};
 ghost use Rattle.normal_form.specs.Steps.{front, intervalPut, startOf};
-ghost use Rattle.normal_form.specs.Tables.{Fit, Normalised, Tabled, mostEntries, tablesEnd, termAt};
+ghost use Rattle.normal_form.specs.Tables.{Fit, Normalised, mostEntries, tablesEnd, termAt};
 ghost use Rattle.words.specs.Sets.{inSet};
 
 // The most individuals, the most constraints and the most roles that wait: a policy has no more records.
 const MOST: usize = 512;
 
-// Behind the rows of hierarchy: the records of roles that are still to be followed, 0 for one that was merged away.
-const PENDING: usize = (ClassSet::MOST as usize + 64) * ClassSet::WORDS;
+// Behind what hierarchy writes: the records of roles that are still to be followed, 0 for one that was merged away.
+const PENDING: usize = PAIRS_END;
 
 // Individuals: parent, role, set of classes.
 pub const ROWS: usize = PENDING + MOST;
@@ -343,41 +340,39 @@ pub fn normalise(p: &[u32], work: &mut [u32], f: Functional, s: u32) -> Tables
     )
 }
 
-// Whether record k says of two classes of the set, or of one, that they share no individual.
-fn parts(v: &[u32], k: u32, s: ClassSet) -> bool
-    ensures { λ r. ⌜ r ≡ parted (s .words) (axiomAt (now (v .entry)) k) ⌝ }
+// Whether both classes of pair i are in the set.
+fn parts(work: &[u32], i: u32, s: ClassSet) -> bool
+    requires { ⌜ (i < mostPairs) × (pairsEnd ≤ length (now work)) ⌝ }
+    ensures { λ r. ⌜ r ≡ parted (s .words) (pairAt (now (work .entry)) i) ⌝ }
 {
-    if axiom_kind(v, k) != 2 {
-        return false;
-    }
-    let a = axiom_left(v, k);
-    let b = axiom_right(v, k);
+    let at = pair_at(i);
+    let a = work[at];
+    let b = work[at + 1];
     s.has(ClassNo(a)) && s.has(ClassNo(b))
 }
 
-// Whether no record does. The set is closed upward, so one look at each record is enough.
-fn is_compatible(v: &[u32], s: ClassSet) -> bool
-    requires { ⌜ vocabularyRefusal (now v) ≡ 0 ⌝ }
-    ensures { λ r. ⌜ r ≡ agree (vocabularyOf (now (v .entry))) (s .words) ⌝ }
+// Whether that is so of no pair. The set is closed upward, so one look at each pair is enough.
+fn is_compatible(work: &[u32], s: ClassSet) -> bool
+    requires { ⌜ (pairCount (now work) ≤ mostPairs) × (pairsEnd ≤ length (now work)) ⌝ }
+    ensures { λ r. ⌜ r ≡ agreeIn (now (work .entry)) (s .words) ⌝ }
 {
-    let mut k = first_axiom(v);
-    while k != 0 {
-        if parts(v, k, s) {
+    let n = work[PAIRS];
+    for i in 0..n {
+        if parts(work, i, s) {
             return false;
         }
-        k = axiom_next(v, k);
     }
     true
 }
 
 // Rule 7 at each of the first n individuals.
-fn are_compatible(v: &[u32], work: &[u32], n: u32) -> bool
-    requires { ⌜ (vocabularyRefusal (now v) ≡ 0) × (n ≤ mostEntries) × (tablesEnd ≤ length (now work)) ⌝ }
-    ensures { λ r. ⌜ r ≡ all (λ i. agree (vocabularyOf (now (v .entry))) (setAt (now (work .entry)) i)) (counting 0 n) ⌝ }
+fn are_compatible(work: &[u32], n: u32) -> bool
+    requires { ⌜ (pairCount (now work) ≤ mostPairs) × (n ≤ mostEntries) × (tablesEnd ≤ length (now work)) ⌝ }
+    ensures { λ r. ⌜ r ≡ all (λ i. agreeIn (now (work .entry)) (setAt (now (work .entry)) i)) (counting 0 n) ⌝ }
 {
     for i in 0..n {
         let s = ClassSet::load(work, ROWS + ROW * (i as usize) + 2);
-        if !is_compatible(v, s) {
+        if !is_compatible(work, s) {
             return false;
         }
     }
@@ -400,10 +395,11 @@ pub fn are_filled(work: &[u32], n: usize) -> bool
     true
 }
 
-// Whether rules 3 and 7 find nothing in the form that the tables hold. Time grows with the individuals times the vocabulary's records.
-pub fn is_clean(v: &[u32], work: &[u32], t: Tables) -> bool
-    requires { ⌜ (vocabularyRefusal (now v) ≡ 0) × (tablesEnd ≤ length (now work)) × (t .individuals ≤ mostEntries) × (t .intervals ≤ mostEntries) ⌝ }
-    ensures { λ r. ⌜ ((x : Form) → Tabled (vocabularyOf (now (v .entry))) x (now (work .entry)) t → r ≡ cleanForm (vocabularyOf (now (v .entry))) x) ⌝ }
+// Whether rules 3 and 7 find nothing in the form that the tables hold. Time grows with the individuals times the pairs.
+pub fn is_clean(work: &[u32], t: Tables) -> bool
+    requires { ⌜ (pairCount (now work) ≤ mostPairs) × (tablesEnd ≤ length (now work)) ⌝ }
+    requires { ⌜ (t .individuals ≤ mostEntries) × (t .intervals ≤ mostEntries) ⌝ }
+    ensures { λ r. ⌜ TellsClean (now (work .entry)) t r ⌝ }
 {
-    are_filled(work, t.intervals) && are_compatible(v, work, t.individuals)
+    are_filled(work, t.intervals) && are_compatible(work, t.individuals)
 }

@@ -10,7 +10,9 @@ use lib.Seq.{ext-getD, getD-drop}
 use native.Mathlib.Omega.{arith}
 use borrow.Author.Fill.{fill-more}
 use borrow.Author.Tests.{le-ltb, lt-ltb}
-use Rattle.hierarchy.specs.Rows.{Closed, Ranged, roleRow, rowOf, rowPlace}
+use Rattle.hierarchy.specs.Pairs.{Listed, pairsAt, pairsEnd}
+use Rattle.hierarchy.specs.Rows.{Closed, Ranged, roleRow}
+use Rattle.hierarchy.specs.Singles.{Singles}
 use Rattle.hierarchy.specs.declared.Functional.{Functional}
 use Rattle.meaning.proofs.Refusals.{cond-all, or-first, or-zero}
 use Rattle.meaning.proofs.Rules.{order}
@@ -21,14 +23,13 @@ use Rattle.meaning.specs.NormalForm.{Form, normalForm, possible}
 use Rattle.meaning.specs.Operations.{workRefusal, workSize, zeroed}
 use Rattle.meaning.specs.Policy.{Chain}
 use Rattle.meaning.specs.Records.{orElse}
-use Rattle.meaning.specs.Vocabulary.{Vocabulary, classCount, mostClasses, roleCount, vocabularyOf, vocabularyRefusal}
+use Rattle.meaning.specs.Vocabulary.{Vocabulary, classCount, roleCount, vocabularyOf, vocabularyRefusal}
 use Rattle.normal_form.proofs.Cleanness.{clean-not}
-use Rattle.normal_form.proofs.Laws.{row-kept}
-use Rattle.normal_form.specs.Clean.{cleanForm, filledAt}
-use Rattle.normal_form.specs.Tables.{Normalised, Prepared, Tabled, pendingAt}
+use Rattle.normal_form.proofs.Groups.{closed-kept, prepared-same, ranged-kept}
+use Rattle.normal_form.specs.Clean.{TellsClean, filledAt}
+use Rattle.normal_form.specs.Tables.{Normalised, Prepared, Tabled}
 use Rattle.normal_form.specs.declared.Tables.{Tables}
 use Rattle.words.specs.Rows.{classWords}
-use Rattle.words.specs.Sets.{inSet}
 use Rattle.workspace.specs.Work.{Beyond, Shaped, Tabulated}
 
 -- ---- 21
@@ -103,31 +104,27 @@ module _ (v w : List ℕ) (a : vocabularyRefusal v ≡ 0) (full : workSize ≤ l
     pub roles-fit : roleRow (roleCount v) * classWords ≤ length w₁
     roles-fit = let n = accepted-counts v a in let s = c .size in omega arith
 
-    pub prepared-beyond : (w₂ : List ℕ) → Ranged v w₁ w₂ → Beyond w w₂
-    prepared-beyond w₂ r =
-        let n = accepted-counts v a in record {
-          size = r .kept .size ∙ c .size;
-          rest = λ i h. behind (roleRow (roleCount v) * classWords) w₁ w₂ (r .kept .rest) i (omega arith) ∙ behind (classCount v * classWords) w w₁ (c .rest) i (omega arith);
-        }
+    module _ (w₂ : List ℕ) (r : Ranged v w₁ w₂) where
+      pub pairs-fit : pairsEnd ≤ length w₂
+      pairs-fit = let s = c .size in let t = r .kept .size in omega arith
 
--- what stands in front of the tables is kept, and so what is prepared
-pub prepared-kept : {v w w′ : List ℕ} {f : Functional} → workSize ≤ length w → length w′ ≡ length w → ((i : ℕ) → i < pendingAt → getD w′ i 0 ≡ getD w i 0) → Prepared v w f → Prepared v w′ f
-prepared-kept {v} {w} {w′} full e f g =
-    let n = accepted-counts v (g .accepted) in record {
-      accepted = g .accepted;
-      closed = record {
-        fits = let h = g .closed .fits in omega arith;
-        rows = λ a b h. ap (λ (s : List ℕ). inSet s b) (row a (omega arith) (omega arith)) ∙ g .closed .rows a b h;
-      };
-      ranged = record {
-        fits = let h = g .ranged .fits in omega arith;
-        rows = λ r b h. ap (λ (s : List ℕ). inSet s b) (row (roleRow r) (omega arith) (omega arith)) ∙ g .ranged .rows r b h;
-      };
-      singles = g .singles;
-    }
-  where
-    row : (i : ℕ) → 1 ≤ i → i ≤ mostClasses + 64 → rowOf w′ i ≡ rowOf w i
-    row i a b = row-kept classWords w w′ (rowPlace i) e (λ j p q. f j (omega arith))
+      module _ (w₃ : List ℕ) (l : Listed v w₂ w₃) where
+        pub prepared-beyond : Beyond w w₃
+        prepared-beyond =
+            let n = accepted-counts v a in record {
+              size = l .size ∙ r .kept .size ∙ c .size;
+              rest = λ i h. l .behind i (omega arith) ∙ behind (roleRow (roleCount v) * classWords) w₁ w₂ (r .kept .rest) i (omega arith)
+                  ∙ behind (classCount v * classWords) w w₁ (c .rest) i (omega arith);
+            }
+
+        pub prepared-once : {f : Functional} → Singles v f → Prepared v w₃ f
+        prepared-once s = record {
+          accepted = a;
+          closed = closed-kept w₂ w₃ (l .size) (l .before) a (r .closed);
+          ranged = ranged-kept w₂ w₃ (l .size) (l .before) a (r .ranged);
+          paired = l .listed;
+          singles = s;
+        }
 
 -- ---- one simple policy
 
@@ -148,7 +145,8 @@ module _ {f : Functional} {d : Chain} {w w′ : List ℕ} {r : Tables} (full : w
     unbarred = λ v e. rw (sym (n .bars) ∙ out e);
     filled = fill;
     most = n .most;
-    prepared = λ v g. prepared-kept full (n .same) (n .before) g;
+    pairs = n .before pairsAt (omega arith);
+    prepared = λ v g. prepared-same (n .same) (n .before) g;
     beyond = record { size = n .same; rest = λ i h. n .behind i (omega arith) };
   }
 
@@ -166,18 +164,16 @@ module _ {f : Functional} {d : Chain} {w w′ : List ℕ} {r : Tables} (full : w
       go true h = shaped false (λ v g o y. absurd (let z : _≡_ {A = ℕ} 0 1 = cc in omega arith)) (λ y. e) (λ y. sym h)
       go false h = shaped true (λ v g o y. rw (sym (n .bars) ∙ e) (sym (clean-not (vocabularyOf v) w′ r h refl (normalForm (vocabularyOf v) d) (n .tabled v g o)))) (λ y. absurd (let z : _≡_ {A = ℕ} 0 1 = cc in omega arith)) (λ y. absurd (let z : _≡_ {A = ℕ} 0 1 = cc in omega arith))
 
-module _ {v w : List ℕ} {f : Functional} {d : Chain} (g : Prepared v w f) (o : ChainOf v d) {w′ : List ℕ} {r : Tables} (n : Shaped d f w w′ r) where
-  told : (b : Bool) → b ≡ not (possible (vocabularyOf v) d) → Tabulated v d f w w′ (record { individuals = r .individuals; intervals = r .intervals; blocked = b })
-  told b e = record { impossible = e; tabled = flagged refl refl (n .tabled v g o); most = n .most; prepared = n .prepared v g; beyond = n .beyond }
+module _ {f : Functional} {d : Chain} {w w′ : List ℕ} {r : Tables} (n : Shaped d f w w′ r) where
+  told : (b : Bool) → ((v : List ℕ) → Prepared v w f → ChainOf v d → b ≡ not (possible (vocabularyOf v) d)) →
+      Tabulated d f w w′ (record { individuals = r .individuals; intervals = r .intervals; blocked = b })
+  told b e = record { impossible = e; tabled = λ v g o. flagged refl refl (n .tabled v g o); most = n .most; prepared = n .prepared; beyond = n .beyond }
 
-  pub term-blocked : r .blocked ≡ true → Tabulated v d f w w′ r
+  pub term-blocked : r .blocked ≡ true → Tabulated d f w w′ r
   term-blocked e =
-      subst (λ (b : Bool). Tabulated v d f w w′ (record { individuals = r .individuals; intervals = r .intervals; blocked = b })) (sym e)
-      (told true (ap not (sym (n .barred v g o e))))
+      subst (λ (b : Bool). Tabulated d f w w′ (record { individuals = r .individuals; intervals = r .intervals; blocked = b })) (sym e)
+      (told true (λ v g o. ap not (sym (n .barred v g o e))))
 
-  pub term-tabled : Tabled (vocabularyOf v) (normalForm (vocabularyOf v) d) w′ r
-  term-tabled = n .tabled v g o
-
-  pub term-clean : {b : Bool} → r .blocked ≡ false → b ≡ cleanForm (vocabularyOf v) (normalForm (vocabularyOf v) d) →
-      Tabulated v d f w w′ (record { individuals = r .individuals; intervals = r .intervals; blocked = not b })
-  term-clean {b} e h = told (not b) (ap not (h ∙ sym (n .unbarred v e)))
+  pub term-clean : {b : Bool} → r .blocked ≡ false → TellsClean w′ r b →
+      Tabulated d f w w′ (record { individuals = r .individuals; intervals = r .intervals; blocked = not b })
+  term-clean {b} e h = told (not b) (λ v g o. ap not (h v (normalForm (vocabularyOf v) d) (n .prepared v g .paired) (n .tabled v g o) ∙ sym (n .unbarred v e)))

@@ -4,12 +4,13 @@ use mathlib.Core.Bool.{false, not, true}
 use mathlib.Core.List.{List}
 use mathlib.Core.Path.{_≡_}
 use lib.ListN.{getD, length}
+use Rattle.hierarchy.specs.Pairs.{pairCount}
 use Rattle.hierarchy.specs.declared.Functional.{Functional}
 use Rattle.meaning.proofs.Terms.{ChainOf}
 use Rattle.meaning.specs.Lists.{all, counting}
 use Rattle.meaning.specs.NormalForm.{normalForm, possible}
 use Rattle.meaning.specs.Operations.{workSize}
-use Rattle.meaning.specs.Policy.{Chain}
+use Rattle.meaning.specs.Policy.{Chain, policyRefusal}
 use Rattle.meaning.specs.Vocabulary.{vocabularyOf}
 use Rattle.normal_form.specs.Clean.{cleanForm, filledAt}
 use Rattle.normal_form.specs.Tables.{Prepared, Tabled, mostEntries}
@@ -20,6 +21,15 @@ pub record Beyond (w w′ : List ℕ) : Type 0 where
   pub size : length w′ ≡ length w
   pub rest : (i : ℕ) → workSize ≤ i → getD w′ i 0 ≡ getD w i 0
 
+-- what is prepared stays so
+abbrev pub Stays : Functional → List ℕ → List ℕ → Type 0
+Stays f w w′ = (v : List ℕ) → Prepared v w f → Prepared v w′ f
+
+-- the vocabulary v is prepared, and accepts the policy
+pub record Accepting (v p w : List ℕ) (f : Functional) : Type 0 where
+  pub prepared : Prepared v w f
+  pub policy : policyRefusal v p ≡ 0
+
 -- by whatever vocabulary is prepared and has the term's names, the tables hold the term's normal form; where the flag is set the term is
 -- impossible, else each constraint has a value, and the term is possible where rules 3 and 7 find nothing
 pub record Shaped (c : Chain) (f : Functional) (w w′ : List ℕ) (r : Tables) : Type 0 where
@@ -28,13 +38,15 @@ pub record Shaped (c : Chain) (f : Functional) (w w′ : List ℕ) (r : Tables) 
   pub unbarred : (v : List ℕ) → r .blocked ≡ false → possible (vocabularyOf v) c ≡ cleanForm (vocabularyOf v) (normalForm (vocabularyOf v) c)
   pub filled : r .blocked ≡ false → all (filledAt w′) (counting 0 (r .intervals)) ≡ true
   pub most : (r .individuals ≤ mostEntries) × (r .intervals ≤ mostEntries)
-  pub prepared : (v : List ℕ) → Prepared v w f → Prepared v w′ f
+  pub pairs : pairCount w′ ≡ pairCount w
+  pub prepared : Stays f w w′
   pub beyond : Beyond w w′
 
--- the tables hold the normal form of the term c by the vocabulary v, which is still prepared; whether the term is impossible
-pub record Tabulated (v : List ℕ) (c : Chain) (f : Functional) (w w′ : List ℕ) (r : Tables) : Type 0 where
-  pub impossible : r .blocked ≡ not (possible (vocabularyOf v) c)
-  pub tabled : Tabled (vocabularyOf v) (normalForm (vocabularyOf v) c) w′ r
+-- by whatever vocabulary is prepared and has the term's names, the tables hold the term's normal form, and the flag tells whether the term
+-- is impossible; what is prepared stays so
+pub record Tabulated (c : Chain) (f : Functional) (w w′ : List ℕ) (r : Tables) : Type 0 where
+  pub impossible : (v : List ℕ) → Prepared v w f → ChainOf v c → r .blocked ≡ not (possible (vocabularyOf v) c)
+  pub tabled : (v : List ℕ) → Prepared v w f → ChainOf v c → Tabled (vocabularyOf v) (normalForm (vocabularyOf v) c) w′ r
   pub most : (r .individuals ≤ mostEntries) × (r .intervals ≤ mostEntries)
-  pub prepared : Prepared v w′ f
+  pub prepared : Stays f w w′
   pub beyond : Beyond w w′

@@ -7,7 +7,7 @@ use normal_form::normalise;
 ghost use mathlib.Core.Path.{_≡_};
 ghost use Prim.Native.Nat.{_≤_};
 ghost use lib.ListN.{length};
-ghost use Rattle.meaning.proofs.Terms.{ChainOf};
+ghost use Rattle.hierarchy.specs.Pairs.{mostPairs, pairCount};
 ghost use Rattle.meaning.specs.Operations.{workRefusal, workSize, zeroed};
 ghost use Rattle.meaning.specs.Records.{orElse};
 ghost use Rattle.meaning.specs.Vocabulary.{vocabularyRefusal};
@@ -40,17 +40,18 @@ pub fn clear(work: &mut [u32])
     }
 }
 
-// What does not change inside a call: the closed rows of classes and roles, and the functional names.
+// What does not change inside a call: the closed rows of classes and roles, the pairs of disjoint classes, and the functional names.
 pub fn prepare(v: &[u32], work: &mut [u32]) -> Functional
     requires { ⌜ (vocabularyRefusal (now v) ≡ 0) × (workSize ≤ length (now work)) ⌝ }
     ensures { λ f. ⌜ Prepared (now (v .entry)) (now (work .exit)) f × Beyond (now (work .entry)) (now (work .exit)) ⌝ }
 {
     hierarchy::close(v, work);
     hierarchy::close_ranges(v, work);
+    hierarchy::list_pairs(v, work);
     Functional::of(v)
 }
 
-// The normal form of the simple policy at record k in the tables, and whether rules 1 to 3 make it impossible: no look at the vocabulary.
+// The normal form of the simple policy at record k in the tables, and whether rules 1 to 3 make it impossible: no look at the pairs.
 pub fn shape(p: &[u32], work: &mut [u32], f: Functional, k: u32) -> Tables
     requires { ⌜ (workSize ≤ length (now work)) × Fit (now p) (now work) k ⌝ }
     ensures { λ r. ⌜ Shaped (termAt (now (p .entry)) k) f (now (work .entry)) (now (work .exit)) r ⌝ }
@@ -68,15 +69,15 @@ pub fn shape(p: &[u32], work: &mut [u32], f: Functional, k: u32) -> Tables
 }
 
 // The same, and whether it is impossible.
-pub fn tabulate(v: &[u32], p: &[u32], work: &mut [u32], f: Functional, k: u32) -> Tables
-    requires { ⌜ Prepared (now v) (now work) f × (workSize ≤ length (now work)) × Fit (now p) (now work) k × ChainOf (now v) (termAt (now p) k) ⌝ }
-    ensures { λ r. ⌜ Tabulated (now (v .entry)) (termAt (now (p .entry)) k) f (now (work .entry)) (now (work .exit)) r ⌝ }
+pub fn tabulate(p: &[u32], work: &mut [u32], f: Functional, k: u32) -> Tables
+    requires { ⌜ (workSize ≤ length (now work)) × Fit (now p) (now work) k × (pairCount (now work) ≤ mostPairs) ⌝ }
+    ensures { λ r. ⌜ Tabulated (termAt (now (p .entry)) k) f (now (work .entry)) (now (work .exit)) r ⌝ }
 {
     let t = shape(p, work, f, k);
     if t.blocked {
         return t;
     }
-    let clean = is_clean(v, work, t);
+    let clean = is_clean(work, t);
     Tables {
         individuals: t.individuals,
         intervals: t.intervals,

@@ -1,7 +1,7 @@
 use lib.ListN.{length}
 use native.Mathlib.Omega.{arith}
 use borrow.Author.Needs.{needs}
-use Rattle.containment.proofs.Complying.{complied-work, complies, complies-accepted, complies-few, complies-full, complies-refused, complies-right}
+use Rattle.containment.proofs.Complying.{complied-work, complies, complies-accepted, complies-few, complies-full, complies-ready, complies-refused, complies-right}
 use Rattle.containment.proofs.Laws.{early-work}
 use Rattle.containment.proofs.compliance.Statement.{statement}
 use Rattle.containment.proofs.compliance.Tie as tie
@@ -31,10 +31,8 @@ settle-requires c κs =
     let w = length (a .work .now) in
     let e = c .before .before .before .before .before .before .before .before .before .input-refusal .ensures in
     let f = c .before .before .before .before .before .before .before .work-refusal .ensures in
-    let d = complies-accepted (a .v .now) (a .p .now) (a .q .now) w (a .out .now) e f (c .before .before .before .before .before .before .if1 .left) in
-    let l = complies-full (a .v .now) (a .p .now) (a .q .now) w (a .out .now) e f (c .before .before .before .before .before .before .if1 .left) in
-    let s = c .before .before .before .before .prepare .ensures .1 .size in
-    record { prepared = c .before .before .before .before .prepare .ensures .0; full = omega arith; first = d .firstPolicy; second = d .secondPolicy }
+    let g = c .before .before .before .before .prepare .ensures in
+    (a .v .now, complies-ready (a .v .now) (a .p .now) (a .q .now) w (a .out .now) e f (c .before .before .before .before .before .before .if1 .left) (g .0) (g .1 .size))
 
 clear-requires : tie.Need-clear-requires
 clear-requires c κs =
@@ -47,12 +45,17 @@ returns-2 : tie.Need-returns-2
 returns-2 c =
     let a = c .before .before .before .before .before .before .before .before .before .before .before .before .before .before .before .before .before .before .before .before .before .before .before .before .args in
     let w = length (a .work .now) in
+    let e = c .before .before .before .before .before .before .before .before .before .before .before .before .before .before .before .before .before .before .input-refusal .ensures in
+    let f = c .before .before .before .before .before .before .before .before .before .before .before .before .before .before .before .before .work-refusal .ensures in
+    let n = c .before .before .before .before .before .before .before .before .before .before .before .before .before .before .before .if1 .left in
+    let g = c .before .before .before .before .before .before .before .before .before .before .before .before .before .prepare .ensures in
     let s = c .before .before .before .before .before .before .before .before .settle .ensures in
-    let d = complies (a .v .now) (a .p .now) (a .q .now) w (a .out .now) (c .before .before .before .before .before .before .before .before .before .before .before .before .before .before .before .before .before .before .input-refusal .ensures) (c .before .before .before .before .before .before .before .before .before .before .before .before .before .before .before .before .work-refusal .ensures) (c .before .before .before .before .before .before .before .before .before .before .before .before .before .before .before .if1 .left) (s .0) in
+    let t = s .0 (a .v .now) (complies-ready (a .v .now) (a .p .now) (a .q .now) w (a .out .now) e f n (g .0) (g .1 .size)) in
+    let d = complies (a .v .now) (a .p .now) (a .q .now) w (a .out .now) e f n t in
     record {
       answer = d .answer;
       output = d .output;
-      work = complied-work _ _ _ _ _ (c .before .before .before .before .before .before .before .before .before .before .before .before .before .prepare .ensures .1) (s .1 .0) (c .before .before .clear .ensures) (s .0 .answer);
+      work = complied-work _ _ _ _ _ (g .1) (s .1 .0) (c .before .before .clear .ensures) (t .answer);
       right = complies-right (a .v .now) (a .p .now) (a .q .now) (a .out .now) _ w d;
     }
 

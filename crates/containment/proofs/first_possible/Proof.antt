@@ -1,4 +1,5 @@
--- `first_possible`: at record k the simple policies from k on are still to be asked, and what was prepared is still there.
+-- `first_possible`: at record k the simple policies from k on are still to be asked, by whatever vocabulary, and what was prepared is still
+-- there. Some vocabulary is there, so that all is in place.
 use Prim.Native.Nat.{ℕ}
 use mathlib.Core.List.{List}
 use mathlib.Core.Path.{_∙_, _≡_, refl, sym}
@@ -13,40 +14,48 @@ use Rattle.meaning.specs.Operations.{possibleFrom}
 use Rattle.meaning.specs.Policy.{Policy, policyOf}
 use Rattle.meaning.specs.Records.{lastOf}
 use Rattle.meaning.specs.Vocabulary.{vocabularyOf}
-use Rattle.normal_form.specs.Tables.{Prepared}
 use Rattle.workspace.proofs.Laws.{beyond-same, beyond-then}
 use Rattle.workspace.proofs.Walk.{Asking, asking-ends, asking-falls, asking-fits, asking-found, asking-named, asking-on, asking-room, asking-starts}
-use Rattle.workspace.specs.Work.{Beyond}
+use Rattle.workspace.specs.Work.{Accepting, Beyond, Stays}
 
 -- what the rest tells is what all tell
 abbrev Rest : List ℕ → List ℕ → ℕ → Policy → Type 0
 Rest v p s l = possibleFrom (vocabularyOf v) s l ≡ possibleFrom (vocabularyOf v) 1 (policyOf p)
 
 abbrev Inv-loop : tie.InvT-loop
-Inv-loop v p work₀ f s₀ k₀ work s k = Asking (Rest v p) v p s k × Prepared v work f × Beyond work₀ work
+Inv-loop p work₀ f s₀ k₀ work s k = ((v : List ℕ) → Accepting v p work₀ f → Asking (Rest v p) v p s k) × Stays f work₀ work × Beyond work₀ work
 
 abbrev μ-loop : tie.MeasureT-loop
-μ-loop v p work₀ f s₀ k₀ work s k = falling (lastOf 6 p) k
+μ-loop p work₀ f s₀ k₀ work s k = falling (lastOf 6 p) k
 
 tabulate-requires : tie.Need-tabulate-requires Inv-loop μ-loop
 tabulate-requires c κs =
     let i = c .before .before .loop .inv in
     let s = i .2 .size in
-    let f = c .before .before .before .before .before .before .before .pre .1 in
-    (i .1, omega arith, asking-fits (i .0) (c .before .loop-test .taken) (i .1 .accepted) (omega arith), asking-named (i .0) (c .before .loop-test .taken))
+    let q = c .before .before .before .before .before .before .pre in
+    let g = i .1 (q .1 .0) (q .1 .1 .prepared) in
+    (omega (arith, q .0), asking-fits (i .0 (q .1 .0) (q .1 .1)) (c .before .loop-test .taken) (g .accepted) (omega (arith, q .0)), g .paired .few)
 
 returns : tie.Need-returns Inv-loop μ-loop
 returns c =
     let i = c .before .before .before .before .before .before .before .loop .inv in
     let t = c .before .before .before .before .tabulate .ensures in
-    (asking-found (i .0) (c .before .before .before .before .before .before .loop-test .taken) (λ l e. sym (possible-found _ _ _ (t .impossible) (not-true _ (c .if1 .taken)) l) ∙ e), beyond-then (i .2) (t .beyond))
+    let n = c .before .before .before .before .before .before .loop-test .taken in (
+      λ v a.
+          let x = i .0 v a in
+          asking-found x n (λ l e. sym (possible-found _ _ _ (t .impossible v (i .1 v (a .prepared)) (asking-named x n)) (not-true _ (c .if1 .taken)) l) ∙ e),
+      beyond-then (i .2) (t .beyond),
+    )
 
 loop-again : tie.Need-loop-again Inv-loop μ-loop
 loop-again c =
     let i = c .before .before .before .before .before .before .before .before .loop .inv in
-    let t = c .before .before .before .before .before .tabulate .ensures in (
-      asking-on (i .0) (c .before .before .before .before .before .before .before .loop-test .taken) (c .next-of .ensures) (λ l e. sym (possible-on _ _ _ (t .impossible) (not-false _ (c .before .if1 .left)) l) ∙ e),
-      t .prepared,
+    let t = c .before .before .before .before .before .tabulate .ensures in
+    let n = c .before .before .before .before .before .before .before .loop-test .taken in (
+      λ v a.
+          let x = i .0 v a in
+          asking-on x n (c .next-of .ensures) (λ l e. sym (possible-on _ _ _ (t .impossible v (i .1 v (a .prepared)) (asking-named x n)) (not-false _ (c .before .if1 .left)) l) ∙ e),
+      λ v g. t .prepared v (i .1 v g),
       beyond-then (i .2) (t .beyond),
     )
 
@@ -57,13 +66,13 @@ first-possible-spec =
     Inv-loop
     μ-loop
     (λ c κs. search needs)
-    (λ c. (asking-starts (c .before .before .before .before .pre .2) (c .first-term .ensures) refl, c .before .before .before .before .pre .0, beyond-same))
+    (λ c. (λ v a. asking-starts (a .policy) (c .first-term .ensures) refl, λ v g. g, beyond-same))
     tabulate-requires
     (λ c. c .before .before .before .before .tabulate .ensures .beyond .size ∙ c .before .before .before .before .before .before .before .loop .inv .2 .size)
     returns
-    (λ c. omega (arith, asking-room (c .before .before .before .before .before .before .before .loop .inv .0) (c .before .before .before .before .before .before .loop-test .taken)))
+    (λ c. omega (arith, asking-room (c .before .before .before .before .before .before .before .loop .inv .0 (c .before .before .before .before .before .before .before .before .before .before .before .pre .1 .0) (c .before .before .before .before .before .before .before .before .before .before .before .pre .1 .1)) (c .before .before .before .before .before .before .loop-test .taken)))
     (λ c κs. search needs)
-    (λ c. asking-falls (c .before .before .before .before .before .before .before .before .loop .inv .0) (c .before .before .before .before .before .before .before .loop-test .taken) (c .next-of .ensures))
+    (λ c. asking-falls (c .before .before .before .before .before .before .before .before .loop .inv .0 (c .before .before .before .before .before .before .before .before .before .before .before .before .pre .1 .0) (c .before .before .before .before .before .before .before .before .before .before .before .before .pre .1 .1)) (c .before .before .before .before .before .before .before .loop-test .taken) (c .next-of .ensures))
     loop-again
     (λ c. c .before .loop .inv .2 .size)
-    (λ c. (asking-ends (c .before .loop .inv .0) (c .loop-test .left), c .before .loop .inv .2)))
+    (λ c. (λ v a. asking-ends (c .before .loop .inv .0 v a) (c .loop-test .left), c .before .loop .inv .2)))

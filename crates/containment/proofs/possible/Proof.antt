@@ -1,7 +1,7 @@
 use lib.ListN.{length}
 use native.Mathlib.Omega.{arith}
 use borrow.Author.Needs.{needs}
-use Rattle.containment.proofs.Laws.{answers, early-work, late-work, policy-accepted, refuses, refuses-few, vocabulary-accepted, work-full}
+use Rattle.containment.proofs.Laws.{accepting, answers, early-work, late-work, refuses, refuses-few, vocabulary-accepted, work-full}
 use Rattle.containment.proofs.possible.Statement.{statement}
 use Rattle.containment.proofs.possible.Tie as tie
 use Rattle.meaning.specs.Policy.{policyOf}
@@ -31,7 +31,7 @@ first-possible-requires c κs =
     let f = c .before .before .before .before .before .before .work-refusal .ensures in
     let s = c .before .before .before .prepare .ensures .1 .size in
     let l = work-full (a .v .now) (a .p .now) w e f (c .before .before .before .before .before .if1 .left) in
-    (c .before .before .before .prepare .ensures .0, omega arith, policy-accepted (a .v .now) (a .p .now) w e f (c .before .before .before .before .before .if1 .left))
+    (omega arith, (a .v .now, accepting (a .v .now) (a .p .now) w e f (c .before .before .before .before .before .if1 .left) (c .before .before .before .prepare .ensures .0)))
 
 clear-requires : tie.Need-clear-requires
 clear-requires c κs =
@@ -43,10 +43,14 @@ clear-requires c κs =
 returns-2 : tie.Need-returns-2
 returns-2 c =
     let a = c .before .before .before .before .before .before .before .before .before .before .before .before .before .before .before .before .before .before .before .args in
-    let t = c .before .before .before .before .before .before .first-possible .ensures in (
-      answers (a .v .now) (a .p .now) (length (a .work .now)) (c .before .before .before .before .before .before .before .before .before .before .before .before .before .before .before .first-refusal .ensures) (c .before .before .before .before .before .before .before .before .before .before .before .before .before .work-refusal .ensures) (c .before .before .before .before .before .before .before .before .before .before .before .before .if1 .left) (t .0),
-      late-work (vocabularyOf (a .v .now)) (policyOf (a .p .now)) (c .before .before .before .before .before .before .before .before .before .before .prepare .ensures .1) (t .1) (c .before .before .clear .ensures) (t .0),
-    )
+    let w = length (a .work .now) in
+    let e = c .before .before .before .before .before .before .before .before .before .before .before .before .before .before .before .first-refusal .ensures in
+    let f = c .before .before .before .before .before .before .before .before .before .before .before .before .before .work-refusal .ensures in
+    let n = c .before .before .before .before .before .before .before .before .before .before .before .before .if1 .left in
+    let g = c .before .before .before .before .before .before .before .before .before .before .prepare .ensures in
+    let t = c .before .before .before .before .before .before .first-possible .ensures in
+    let all = t .0 (a .v .now) (accepting (a .v .now) (a .p .now) w e f n (g .0)) in
+    (answers (a .v .now) (a .p .now) w e f n all, late-work (vocabularyOf (a .v .now)) (policyOf (a .p .now)) (g .1) (t .1) (c .before .before .clear .ensures) all)
 
 pub possible-spec : {M : Type 1} → statement M
 possible-spec =

@@ -1,5 +1,7 @@
--- `has_too_many`: at record k the simple policies from k on are still to be counted, and what was prepared is still there.
+-- `has_too_many`: at record k the simple policies from k on are still to be counted, by whatever vocabulary, and what was prepared is still
+-- there. Some vocabulary is there, so that all is in place.
 use Prim.Native.Nat.{_+_, ℕ}
+use mathlib.Core.List.{List}
 use mathlib.Core.Path.{_∙_}
 use native.Mathlib.Omega.{arith}
 use borrow.Author.Needs.{needs}
@@ -8,40 +10,52 @@ use Rattle.decision.proofs.has_too_many.Statement.{statement}
 use Rattle.decision.proofs.has_too_many.Tie as tie
 use Rattle.meaning.proofs.Links.{falling}
 use Rattle.meaning.specs.Records.{lastOf}
-use Rattle.normal_form.specs.Tables.{Prepared}
 use Rattle.workspace.proofs.Laws.{beyond-same, beyond-then}
 use Rattle.workspace.proofs.Walk.{Asking, asking-ends, asking-falls, asking-fits, asking-found, asking-named, asking-on, asking-starts}
-use Rattle.workspace.specs.Work.{Beyond}
+use Rattle.workspace.specs.Work.{Accepting, Beyond, Stays}
 
 abbrev Inv-loop : tie.InvT-loop
-Inv-loop v p work₀ f ends first k₀ work k = ((s : ℕ) × Asking (Uncounted v p ends) v p s k) × Prepared v work f × Beyond work₀ work
+Inv-loop p work₀ f ends first k₀ work k =
+    ((v : List ℕ) → Accepting v p work₀ f → (s : ℕ) × Asking (Uncounted v p ends) v p s k) × Stays f work₀ work × Beyond work₀ work
 
 abbrev μ-loop : tie.MeasureT-loop
-μ-loop v p work₀ f ends first k₀ work k = falling (lastOf 6 p) k
+μ-loop p work₀ f ends first k₀ work k = falling (lastOf 6 p) k
 
 is-too-many-requires : tie.Need-is-too-many-requires Inv-loop μ-loop
 is-too-many-requires c κs =
     let i = c .before .before .loop .inv in
     let s = i .2 .size in
-    let f = c .before .before .before .before .before .before .before .before .pre .1 in
-    (i .1, omega arith, asking-fits (i .0 .1) (c .before .loop-test .taken) (i .1 .accepted) (omega arith), asking-named (i .0 .1) (c .before .loop-test .taken))
+    let q = c .before .before .before .before .before .before .before .pre in
+    let a = q .1 .1 in
+    let g = i .1 (q .1 .0) (a .prepared) in
+    (omega (arith, q .0), asking-fits (i .0 (q .1 .0) a .1) (c .before .loop-test .taken) (g .accepted) (omega (arith, q .0)), g .paired .few)
 
 returns : tie.Need-returns Inv-loop μ-loop
 returns c =
     let i = c .before .before .before .before .before .before .loop .inv in
-    let t = c .before .before .before .is-too-many .ensures in (
-      asking-found (i .0 .1) (c .before .before .before .before .before .loop-test .taken) (λ l u. uncounted-found _ _ _ _ l u (t .0) (c .if1 .taken)),
-      (t .1 .0, beyond-then (i .2) (t .1 .1)),
+    let t = c .before .before .before .is-too-many .ensures in
+    let n = c .before .before .before .before .before .loop-test .taken in (
+      λ v a. asking-found (i .0 v a .1) n (λ l u. uncounted-found v _ _ _ l u (t .0 v (i .1 v (a .prepared)) (asking-named (i .0 v a .1) n)) (c .if1 .taken)),
+      (λ v a. t .1 .0 v (i .1 v a), beyond-then (i .2) (t .1 .1)),
     )
 
 loop-again : tie.Need-loop-again Inv-loop μ-loop
 loop-again c =
     let i = c .before .before .before .before .before .before .before .loop .inv in
-    let t = c .before .before .before .before .is-too-many .ensures in (
-      (i .0 .0 + 1, asking-on (i .0 .1) (c .before .before .before .before .before .before .loop-test .taken) (c .next-of .ensures) (λ l u. uncounted-on _ _ _ _ l u (t .0) (c .before .if1 .left))),
-      t .1 .0,
+    let t = c .before .before .before .before .is-too-many .ensures in
+    let n = c .before .before .before .before .before .before .loop-test .taken in (
+      λ v a. (
+        i .0 v a .0 + 1,
+        asking-on (i .0 v a .1) n (c .next-of .ensures) (λ l u. uncounted-on v _ _ _ l u (t .0 v (i .1 v (a .prepared)) (asking-named (i .0 v a .1) n)) (c .before .if1 .left)),
+      ),
+      λ v a. t .1 .0 v (i .1 v a),
       beyond-then (i .2) (t .1 .1),
     )
+
+returns-2 : tie.Need-returns-2 Inv-loop μ-loop
+returns-2 c =
+    let i = c .before .loop .inv in
+    (λ v a. uncounted-ends v _ _ (asking-ends (i .0 v a .1) (c .loop-test .left)), (i .1, i .2))
 
 pub has-too-many-spec : {M : Type 1} → statement M
 has-too-many-spec =
@@ -50,12 +64,12 @@ has-too-many-spec =
     Inv-loop
     μ-loop
     (λ c κs. search needs)
-    (λ c. ((1, asking-starts (c .before .before .before .before .before .pre .2) (c .first-term .ensures) (uncounted-starts _ _ _)), c .before .before .before .before .before .pre .0, beyond-same))
+    (λ c. (λ v a. (1, asking-starts (a .policy) (c .first-term .ensures) (uncounted-starts v _ _)), λ v a. a, beyond-same))
     is-too-many-requires
     (λ c. c .before .before .before .is-too-many .ensures .1 .1 .size ∙ c .before .before .before .before .before .before .loop .inv .2 .size)
     returns
     (λ c κs. search needs)
-    (λ c. asking-falls (c .before .before .before .before .before .before .before .loop .inv .0 .1) (c .before .before .before .before .before .before .loop-test .taken) (c .next-of .ensures))
+    (λ c. asking-falls (c .before .before .before .before .before .before .before .loop .inv .0 (c .before .before .before .before .before .before .before .before .before .before .before .before .pre .1 .0) (c .before .before .before .before .before .before .before .before .before .before .before .before .pre .1 .1) .1) (c .before .before .before .before .before .before .loop-test .taken) (c .next-of .ensures))
     loop-again
     (λ c. c .before .loop .inv .2 .size)
-    (λ c. (uncounted-ends _ _ _ (asking-ends (c .before .loop .inv .0 .1) (c .loop-test .left)), (c .before .loop .inv .1, c .before .loop .inv .2))))
+    returns-2)

@@ -1,5 +1,5 @@
 use borrow.Author.Needs.{needs}
-use Rattle.normal_form.proofs.Cleanness.{clean-both, clean-not}
+use Rattle.normal_form.proofs.Cleanness.{clean-empty, clean-listed}
 use Rattle.normal_form.proofs.is_clean.Statement.{statement}
 use Rattle.normal_form.proofs.is_clean.Tie as tie
 
@@ -9,5 +9,5 @@ is-clean-spec =
     (tie.spec
     (λ c κs. search needs)
     (λ c κs. search needs)
-    (λ c. search clean-both)
-    (λ c. search clean-not))
+    (λ c. clean-listed _ _ (c .before .before .are-filled .ensures) (c .before .if1 .taken) (c .are-compatible .ensures))
+    (λ c. clean-empty _ _ (c .before .are-filled .ensures) (c .if1 .left)))

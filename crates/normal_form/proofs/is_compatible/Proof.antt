@@ -1,17 +1,41 @@
 use borrow.Author.Needs.{needs}
-use mathlib.Core.Bool.{true}
-use Rattle.meaning.proofs.Links.{falling}
-use Rattle.meaning.specs.Records.{lastOf}
-use Rattle.normal_form.proofs.Cleanness.{agree-ends, agree-on, agree-stops, agreeing}
+use Prim.Native.Nat.{_-_, _≤_}
+use mathlib.Core.Bool.{not}
+use mathlib.Core.Path.{_∙_, _≡_, ap, sym}
+use native.Mathlib.Omega.{arith}
+use Rattle.hierarchy.specs.Pairs.{pairAt, pairCount}
+use Rattle.meaning.specs.Lists.{all, counting}
+use Rattle.normal_form.specs.Clean.{agreeIn, parted}
+use Rattle.normal_form.proofs.Cleanness.{test-ends, test-fails, test-on, test-starts}
 use Rattle.normal_form.proofs.is_compatible.Statement.{statement}
 use Rattle.normal_form.proofs.is_compatible.Tie as tie
-use Rattle.vocabulary.proofs.Chain.{Walking, walking-falls, walking-starts}
 
 abbrev Inv-loop : tie.InvT-loop
-Inv-loop v s k₀ k = Walking v (agreeing (s .words)) true k true
+Inv-loop work s n i₀ i =
+    (i ≤ n) × (all (λ j. not (parted (s .words) (pairAt work j))) (counting 0 n) ≡ all (λ j. not (parted (s .words) (pairAt work j))) (counting i (n - i)))
 
 abbrev μ-loop : tie.MeasureT-loop
-μ-loop v s k₀ k = falling (lastOf 4 v) k
+μ-loop work s n i₀ i = n - i
+
+returns : tie.Need-returns Inv-loop μ-loop
+unfolding agreeIn
+returns c =
+    let l = c .before .before .before .loop in
+    let a = c .before .before .before .before .before .before .args in
+    test-fails (λ j. not (parted (a .s .words) (pairAt (a .work .now) j))) _ (l .i) (l .inv .1) (c .before .before .loop-test .taken) (ap not (sym (c .before .parts .ensures) ∙ c .if1 .taken))
+
+loop-again : tie.Need-loop-again Inv-loop μ-loop
+loop-again c =
+    let l = c .before .before .before .loop in
+    let a = c .before .before .before .before .before .before .args in
+    (search needs, test-on (λ j. not (parted (a .s .words) (pairAt (a .work .now) j))) _ (l .i) (l .inv .1) (c .before .before .loop-test .taken) (ap not (sym (c .before .parts .ensures) ∙ c .if1 .left)))
+
+returns-2 : tie.Need-returns-2 Inv-loop μ-loop
+unfolding agreeIn
+returns-2 c =
+    let l = c .before .loop in
+    let a = c .before .before .before .before .args in
+    test-ends (λ j. not (parted (a .s .words) (pairAt (a .work .now) j))) _ (l .i) (l .inv .1) (c .loop-test .left)
 
 pub is-compatible-spec : {M : Type 1} → statement M
 is-compatible-spec =
@@ -19,11 +43,11 @@ is-compatible-spec =
     (tie.spec
     Inv-loop
     μ-loop
-    (λ c κs. search needs)
-    (λ c. walking-starts (c .before .before .pre) (c .first-axiom .ensures))
-    (λ c κs. search needs)
-    (λ c. agree-stops (c .before .before .before .loop .inv) (c .before .before .loop-test .taken) (c .before .parts .ensures) (c .if1 .taken))
-    (λ c κs. search needs)
-    (λ c. walking-falls (c .before .before .before .before .loop .inv) (c .before .before .before .loop-test .taken) (c .axiom-next .ensures))
-    (λ c. agree-on (c .before .before .before .before .loop .inv) (c .before .before .before .loop-test .taken) (c .before .before .parts .ensures) (c .before .if1 .left) (c .axiom-next .ensures))
-    (λ c. agree-ends (c .before .loop .inv) (c .loop-test .left)))
+    (λ c. omega (arith, c .before .before .pre .1))
+    (λ c. (search needs, test-starts (λ j. not (parted (c .before .before .args .s .words) (pairAt (c .before .before .args .work .now) j))) (pairCount (c .before .before .args .work .now))))
+    (λ c κs. (omega (arith, c .before .before .before .before .pre .0), c .before .before .before .before .pre .1))
+    returns
+    (λ c. search needs)
+    (λ c. search needs)
+    loop-again
+    returns-2)

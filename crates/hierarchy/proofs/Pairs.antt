@@ -1,0 +1,188 @@
+-- The list of disjoint pairs: one record more, and all of them. Assumes nothing.
+use Prim.Native.Nat.{_+_, _<_, _≤_, suc, zero, ℕ}
+use lib.Dec.{eqb}
+use lib.ListN.{getD, length, length-set, set}
+use lib.Seq.{getD-set-other, getD-set-same}
+use mathlib.Core.List.{List, [], _++_, _∷_, append-assoc, append-nil, foldl, map}
+use mathlib.Core.Path.{_≡_, _∙_, ap, ap₂, refl, sym}
+use native.Mathlib.Numerals.{add-one}
+use native.Mathlib.Omega.{arith}
+use borrow.Author.Tests.{ne-eqb}
+use Rattle.meaning.proofs.Links.{falling, falling-le, passed, split, tests}
+use Rattle.meaning.specs.Lists.{counting, flatMap}
+use Rattle.meaning.specs.Records.{lastOf}
+use Rattle.meaning.specs.Vocabulary.{Axiom, Vocabulary, axiomAt, axiomKind, axiomLeft, axiomNext, axiomRight, below, disjoint, firstAxiom, functionalFeature, functionalRole, range, vocabularyOf, vocabularyRefusal}
+use Rattle.vocabulary.proofs.Chain.{Walking, walking-ends, walking-falls, walking-on, walking-starts}
+use Rattle.hierarchy.specs.Pairs.{Listed, PairRoom, PairRows, enlisted, mostPairs, pairAt, pairCount, pairPlace, pairsAt, pairsEnd, pairsIn, parting, withPair}
+
+-- ---- pairs that stand
+
+-- one more, behind the others
+counted-more : {A : Type 0} (f : ℕ → A) (n : ℕ) → map f (counting 0 (n + 1)) ≡ map f (counting 0 n) ++ (f n ∷ [])
+counted-more {A} f n = rw (add-one n) (go 0 n ∙ ap (λ (x : ℕ). map f (counting 0 n) ++ (f x ∷ [])) (omega arith))
+  where
+    go : (o n : ℕ) → map f (counting o (suc n)) ≡ map f (counting o n) ++ (f (o + n) ∷ [])
+    go o zero = ap (λ (x : ℕ). f x ∷ []) (omega arith)
+    go o (suc n) = ap (λ (l : List A). f o ∷ l) (go (suc o) n ∙ ap (λ (x : ℕ). map f (counting (suc o) n) ++ (f x ∷ [])) (omega arith))
+
+counted-same : {A : Type 0} (f g : ℕ → A) (o n : ℕ) → ((i : ℕ) → i < o + n → f i ≡ g i) → map f (counting o n) ≡ map g (counting o n)
+counted-same f g o zero h = refl
+counted-same {A} f g o (suc n) h = ap₂ (λ (x : A) (l : List A). x ∷ l) (h o (omega arith)) (counted-same f g (suc o) n (λ i l. h i (omega arith)))
+
+-- what writes behind the list keeps it
+pub pairs-kept : {v : List ℕ} (w u : List ℕ) → ((i : ℕ) → i < pairsEnd → getD u i 0 ≡ getD w i 0) → PairRows v w → PairRows v u
+pairs-kept w u same h =
+    let n : pairCount u ≡ pairCount w = same pairsAt (omega arith) in
+    let few = h .few in
+    record {
+      few = omega arith;
+      rows = ap (λ (m : ℕ). map (pairAt u) (counting 0 m)) n
+          ∙ counted-same (pairAt u) (pairAt w) 0 (pairCount w) (λ i l. ap₂ disjoint (same (pairPlace i) (omega arith)) (same (pairPlace i + 1) (omega arith))) ∙ h .rows;
+    }
+
+-- ---- one pair more
+
+module _ (w : List ℕ) (a b : ℕ) where
+  -- `add_pair`, where the pair starts at `at`
+  pub with-words : {at : ℕ} → at ≡ pairPlace (pairCount w) → set (set (set w at a) (at + 1) b) pairsAt (pairCount w + 1) ≡ withPair w a b
+  unfolding withPair
+  with-words e = rw e
+
+  pub with-length : length (withPair w a b) ≡ length w
+  unfolding withPair
+  with-length = simp length-set
+
+  with-other : (i : ℕ) → (i ≡ pairPlace (pairCount w) → ⊥) → (i ≡ pairPlace (pairCount w) + 1 → ⊥) → (i ≡ pairsAt → ⊥) → getD (withPair w a b) i 0 ≡ getD w i 0
+  unfolding withPair
+  with-other i p q r =
+      getD-set-other (set (set w (pairPlace (pairCount w)) a) (pairPlace (pairCount w) + 1) b) pairsAt i (pairCount w + 1) 0 r
+      ∙ getD-set-other (set w (pairPlace (pairCount w)) a) (pairPlace (pairCount w) + 1) i b 0 q
+      ∙ getD-set-other w (pairPlace (pairCount w)) i a 0 p
+
+  module _ (room : PairRoom w) where
+    with-count : pairCount (withPair w a b) ≡ pairCount w + 1
+    unfolding withPair
+    with-count =
+        getD-set-same (set (set w (pairPlace (pairCount w)) a) (pairPlace (pairCount w) + 1) b) pairsAt (pairCount w + 1) 0 (rw (length-set, length-set) (omega arith))
+
+    with-last : pairAt (withPair w a b) (pairCount w) ≡ disjoint a b
+    unfolding withPair
+    with-last =
+        let u = set w (pairPlace (pairCount w)) a in
+        let t = set u (pairPlace (pairCount w) + 1) b in
+        ap₂ disjoint
+        (getD-set-other t pairsAt (pairPlace (pairCount w)) (pairCount w + 1) 0 (λ z. omega arith)
+        ∙ getD-set-other u (pairPlace (pairCount w) + 1) (pairPlace (pairCount w)) b 0 (λ z. omega arith)
+        ∙ getD-set-same w (pairPlace (pairCount w)) a 0 (omega arith))
+        (getD-set-other t pairsAt (pairPlace (pairCount w) + 1) (pairCount w + 1) 0 (λ z. omega arith)
+        ∙ getD-set-same u (pairPlace (pairCount w) + 1) b 0 (rw length-set (omega arith)))
+
+    with-pairs : pairsIn (withPair w a b) ≡ pairsIn w ++ (disjoint a b ∷ [])
+    with-pairs =
+        ap (λ (n : ℕ). map (pairAt (withPair w a b)) (counting 0 n)) with-count
+        ∙ counted-more (pairAt (withPair w a b)) (pairCount w)
+        ∙ ap₂ (λ (l : Vocabulary) (x : Axiom). l ++ (x ∷ []))
+        (counted-same (pairAt (withPair w a b)) (pairAt w) 0 (pairCount w) (λ i l. ap₂ disjoint
+        (with-other (pairPlace i) (λ z. omega arith) (λ z. omega arith) (λ z. omega arith))
+        (with-other (pairPlace i + 1) (λ z. omega arith) (λ z. omega arith) (λ z. omega arith)))) with-last
+
+-- ---- `enlist`: record k is of another kind, or a and b are its classes
+
+module _ (v w : List ℕ) (k : ℕ) {kind : ℕ} (e : kind ≡ axiomKind v k) where
+  pub enlist-other : (kind ≡ 2 → ⊥) → w ≡ enlisted w (axiomAt v k)
+  enlist-other n = rw (← e, ne-eqb kind 2 n) (
+      split P (eqb kind 1) (λ _. refl) (λ _. split P (eqb kind 3) (λ _. refl) (λ _. split P (eqb kind 4) (λ _. refl) (λ _. refl))))
+    where
+      P : Axiom → Type 0
+      P x = w ≡ enlisted w x
+
+  pub enlist-pair : {a b : ℕ} {u : List ℕ} → kind ≡ 2 → a ≡ axiomLeft v k → b ≡ axiomRight v k → u ≡ withPair w a b → u ≡ enlisted w (axiomAt v k)
+  enlist-pair o p q h = h ∙ rw (sym e ∙ o, p, q)
+
+-- ---- `list_pairs`
+
+-- the list with what a record states
+abbrev pub gathered : Vocabulary → Axiom → Vocabulary
+gathered l x = l ++ parting x
+
+gathered-all : (l K : Vocabulary) → foldl gathered l K ≡ l ++ flatMap parting K
+gathered-all l [] = sym (append-nil l)
+gathered-all l (x ∷ K) = gathered-all (l ++ parting x) K ∙ append-assoc l (parting x) (flatMap parting K)
+
+-- one record from w to u
+record Step (x : Axiom) (w u : List ℕ) : Type 0 where
+  size : length u ≡ length w
+  before : (i : ℕ) → i < pairsAt → getD u i 0 ≡ getD w i 0
+  behind : (i : ℕ) → pairsEnd ≤ i → getD u i 0 ≡ getD w i 0
+  more : pairCount u ≤ pairCount w + 1
+  pairs : pairsIn u ≡ gathered (pairsIn w) x
+
+step-none : (x : Axiom) (w : List ℕ) → parting x ≡ [] → Step x w w
+step-none x w e = record { size = refl; before = λ i l. refl; behind = λ i l. refl; more = omega arith; pairs = rw e (sym (append-nil (pairsIn w))) }
+
+stepped : (x : Axiom) (w : List ℕ) → PairRoom w → Step x w (enlisted w x)
+stepped (below a b) w r = step-none (below a b) w refl
+stepped (disjoint a b) w r = record {
+  size = with-length w a b;
+  before = λ i l. with-other w a b i (λ z. omega arith) (λ z. omega arith) (λ z. omega arith);
+  behind = λ i l. with-other w a b i (λ z. omega arith) (λ z. omega arith) (λ z. omega arith);
+  more = omega (arith, with-count w a b r);
+  pairs = with-pairs w a b r;
+}
+stepped (functionalRole q) w r = step-none (functionalRole q) w refl
+stepped (functionalFeature f) w r = step-none (functionalFeature f) w refl
+stepped (range q c) w r = step-none (range q c) w refl
+
+-- at record k the list has what the records before it state; w₀ has the list begun
+pub record Listing (v w₀ : List ℕ) (k : ℕ) (w : List ℕ) : Type 0 where
+  pub size : length w ≡ length w₀
+  pub before : (i : ℕ) → i < pairsAt → getD w i 0 ≡ getD w₀ i 0
+  pub behind : (i : ℕ) → pairsEnd ≤ i → getD w i 0 ≡ getD w₀ i 0
+  pub room : pairCount w + falling (lastOf 4 v) k ≤ mostPairs
+  pub walk : Walking v gathered [] k (pairsIn w)
+
+few-records : (v : List ℕ) → vocabularyRefusal v ≡ 0 → lastOf 4 v ≤ mostPairs
+unfolding vocabularyRefusal
+few-records v h = let u = simp (passed 0, passed 1, tests) at h in omega arith
+
+-- from w, with the list begun in w₀
+module _ (v w : List ℕ) (r : vocabularyRefusal v ≡ 0) (fits : pairsEnd ≤ length w) where
+  none : pairsIn (set w pairsAt 0) ≡ []
+  none = rw (getD-set-same w pairsAt 0 0 (omega arith))
+
+  pub listing-starts : {k : ℕ} → k ≡ firstAxiom v → Listing v (set w pairsAt 0) k (set w pairsAt 0)
+  listing-starts {k} e = record {
+    size = refl;
+    before = λ i l. refl;
+    behind = λ i l. refl;
+    room = omega (arith, getD-set-same w pairsAt 0 0 (omega arith), falling-le (lastOf 4 v) k, few-records v r);
+    walk = rw none (walking-starts r e);
+  }
+
+  module _ {k : ℕ} {t : List ℕ} (h : Listing v (set w pairsAt 0) k t) where
+    pub listing-ends : k ≡ 0 → Listed v w t
+    listing-ends z = record {
+      size = h .size ∙ length-set w pairsAt 0;
+      before = λ i l. h .before i l ∙ getD-set-other w pairsAt i 0 0 (λ e. omega arith);
+      behind = λ i l. h .behind i l ∙ getD-set-other w pairsAt i 0 0 (λ e. omega arith);
+      listed = record { few = let m = h .room in omega arith; rows = walking-ends (h .walk) z ∙ gathered-all [] (vocabularyOf v) };
+    }
+
+    module _ (n : k ≡ 0 → ⊥) where
+      falls : falling (lastOf 4 v) (axiomNext v k) < falling (lastOf 4 v) k
+      falls = walking-falls (h .walk) n {x = axiomNext v k} refl
+
+      pub listing-room : PairRoom t
+      listing-room = (omega (arith, falls, h .room), omega (arith, h .size, length-set w pairsAt 0))
+
+      pub listing-on : {x : ℕ} {u : List ℕ} → x ≡ axiomNext v k → u ≡ enlisted t (axiomAt v k) → Listing v (set w pairsAt 0) x u
+      listing-on {x} {u} p e = rw e (
+          let s = stepped (axiomAt v k) t listing-room in
+          let less : falling (lastOf 4 v) x < falling (lastOf 4 v) k = walking-falls (h .walk) n p in
+          record {
+            size = s .size ∙ h .size;
+            before = λ i l. s .before i l ∙ h .before i l;
+            behind = λ i l. s .behind i l ∙ h .behind i l;
+            room = omega (arith, s .more, h .room);
+            walk = walking-on (h .walk) n p (s .pairs);
+          })
