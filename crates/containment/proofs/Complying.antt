@@ -13,7 +13,7 @@ use Rattle.hierarchy.specs.declared.Functional.{Functional}
 use Rattle.meaning.proofs.Compliance.{compliance-told, no-escape}
 use Rattle.meaning.proofs.Interpretations.{tested-finite}
 use Rattle.meaning.proofs.Refusals.{AcceptedInput, accepted-input, or-few, policy-few, vocabulary-few}
-use Rattle.meaning.specs.Answers.{Answer, compliant, outside, refused, verdictAnswer}
+use Rattle.meaning.specs.Answers.{Answer, compliant, outside, verdictAnswer}
 use Rattle.meaning.specs.Containment.{Decision, Refutes, contained, decide, escapes, tooMany}
 use Rattle.meaning.specs.Countermodel.{Fact, countermodel}
 use Rattle.meaning.specs.ModelCheck.{factsOf, individualCount}

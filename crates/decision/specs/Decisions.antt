@@ -39,7 +39,7 @@ pub record Ready (v p q w : List ℕ) (f : Functional) : Type 0 where
   pub first : policyRefusal v p ≡ 0
   pub second : policyRefusal v q ≡ 0
 
--- and by it no simple policy of the first has too many combinations
+-- the same, and no simple policy of the first has too many combinations
 pub record Countable (v p q w : List ℕ) (f : Functional) : Type 0 where
   pub ready : Ready v p q w f
   pub few : tooMany (vocabularyOf v) (policyOf p) (policyOf q) ≡ false
