@@ -22,6 +22,27 @@ fn desk(policies: &str) -> Document {
     Document::parse(&format!("{DESK}{policies}")).unwrap_or_else(|mistake| panic!("{mistake}"))
 }
 
+/// The answer to a text, read aloud.
+fn explained(document: &Document) -> String {
+    let answer = String::from_utf8(program(&document.encode())).expect("text");
+    document.aloud(&answer).expect("an answer of the program")
+}
+
+#[test]
+fn what_is_no_answer_is_not_read() {
+    let document = desk("Policy(:Data) Policy()");
+    let silent = |answer: &str| document.aloud(answer).expect_err("a mistake");
+    assert_eq!(silent(""), "this is no answer of the program");
+    assert_eq!(silent("outside 1"), "this is no answer of the program");
+    assert_eq!(silent("outside 1 x"), "\"x\" is no number");
+    assert_eq!(silent("outside 1 1\nmember 1"), "\"member 1\" is no line of a countermodel");
+    assert_eq!(silent("outside 1 1\nmember 9 1"), "the text has no name for number 9");
+    assert_eq!(
+        document.aloud("refused 22\n").as_deref(),
+        Ok("Refused 22: a simple policy has over 65,536 combinations of pieces.\n")
+    );
+}
+
 fn mistake(text: &str) -> String {
     Document::parse(text).expect_err("a mistake").to_string()
 }
@@ -38,7 +59,7 @@ fn the_papers_words() {
     assert_eq!(q, common::words(&[vec![common::r(1, vec![common::c(2)])]]));
     assert_eq!(program(&document.encode()), b"outside 1 1\nedge 1 1 2\nmember 1 2\n");
     assert_eq!(
-        document.explain(),
+        explained(&document),
         "Outside: simple policy 1 of the first policy, combination 1, is not in the second.\n\
          In this case, of 2 individuals, x1 is in the first policy and outside the second:\n  \
          x1 has :has x2\n  x2 is in :Data\n"
@@ -61,11 +82,11 @@ fn spans_and_special_classes() {
     ];
     assert_eq!(document.first.terms, terms);
     assert_eq!(document.second.terms, Vec::<reasoner::policy::Term>::new());
-    assert!(document.explain().starts_with("Outside: simple policy 1"));
-    let same = desk("Policy(:Both) Policy()").explain();
+    assert!(explained(&document).starts_with("Outside: simple policy 1"));
+    let same = explained(&desk("Policy(:Both) Policy()"));
     assert_eq!(same, "Compliant: whatever is in the first policy is in the second.\n");
-    let nothing_known = desk("Policy(owl:Thing) Policy()").explain();
-    assert!(nothing_known.ends_with("nothing else is known of x1\n"));
+    let nothing_known = explained(&desk("Policy(owl:Thing) Policy()"));
+    assert!(nothing_known.ends_with("nothing is known of x1\n"));
 }
 
 #[test]

@@ -222,6 +222,18 @@ fn everyday_pairs() {
 }
 
 #[test]
+fn everyday_pairs_of_other_sizes() {
+    for (classes, terms) in [(16, 10), (64, 1), (256, 64)] {
+        for answer in [Answer::Compliant, Answer::Outside] {
+            let case = everyday::sized(7, answer, classes, terms);
+            let verdict = compliance(&case.v, &case.p, &case.q, &mut case.work(), &mut case.out());
+            let complies = matches!(verdict, Verdict::Compliant);
+            assert_eq!(complies, answer == Answer::Compliant, "{case}");
+        }
+    }
+}
+
+#[test]
 fn shrinking_keeps_what_differs() {
     let mut later = |case: &Case| {
         let mut out = vec![0; 100_000];

@@ -66,10 +66,9 @@ fn vocabulary(rng: &mut Rng, classes: u32) -> Vocabulary {
         axioms.push(Axiom::Below(ClassNo(number), ClassNo(parent)));
     }
     // Leaves: no class is below two of them.
-    let pairs = classes / 12;
+    let pairs = classes * 5 / 64;
     axioms.extend(
-        (0..pairs)
-            .map(|at| Axiom::Disjoint(ClassNo(classes - at), ClassNo(classes - pairs - at))),
+        (0..pairs).map(|at| Axiom::Disjoint(ClassNo(classes - at), ClassNo(classes - pairs - at))),
     );
     axioms.extend((1..=12).map(|role| Axiom::FunctionalRole(RoleNo(role))));
     axioms.extend((1..=4).map(|feature| Axiom::FunctionalFeature(FeatureNo(feature))));

@@ -18,15 +18,16 @@
 //! policy's records are laid out in the order of the walk, unless `Annotation(:recordOrder "1 3 2")`
 //! at its front gives each record of the walk another number.
 
+mod answer;
 mod lexer;
 mod parser;
 mod printer;
 
+use crate::bytes_of_parts;
 use crate::encode::{move_records, policy_words, vocabulary_words, walk_order};
 use crate::policy::{Place, Policy, Term};
 use crate::program::parts;
 use crate::vocabulary::Vocabulary;
-use crate::{bytes_of_parts, compliance, Verdict, FULL_WORK};
 use std::fmt;
 
 /// A mistake in a text, with its place.
@@ -166,20 +167,9 @@ impl Document {
         [&self.first, &self.second].map(|policy| printer::union(&self.names, &policy.terms))
     }
 
-    /// Decides compliance, with room for every countermodel, and says the answer in words.
-    #[must_use]
-    pub fn explain(&self) -> String {
-        let [v, p, q] = self.words();
-        let mut out = vec![0; 700_005];
-        match compliance(&v, &p, &q, &mut vec![0; FULL_WORK], &mut out) {
-            Verdict::Compliant => {
-                "Compliant: whatever is in the first policy is in the second.\n".to_owned()
-            }
-            Verdict::Refused(number) => format!("Refused {number}: {}.\n", refusal(number)),
-            Verdict::Outside(s, q, words) => {
-                printer::read_aloud(&self.names, s, q, &out[..words as usize])
-            }
-        }
+    /// The answer that the program printed for this text, in words and with the text's names.
+    pub fn aloud(&self, answer: &str) -> Result<String, String> {
+        answer::aloud(&self.names, answer)
     }
 }
 

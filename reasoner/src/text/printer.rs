@@ -1,9 +1,9 @@
-//! From a document to text, and a countermodel read aloud.
+//! From a document to text.
 
 use super::{Document, Names, PolicyText};
 use crate::policy::{Conjunct, Term};
 use crate::vocabulary::{Axiom, Vocabulary};
-use std::fmt::{self, Write as _};
+use std::fmt;
 
 /// Writes a document so that it reads back.
 pub fn document(document: &Document, f: &mut fmt::Formatter<'_>) -> fmt::Result {
@@ -110,29 +110,4 @@ fn joined(keyword: &str, mut all: Vec<String>, neutral: &str) -> String {
         1 => all.remove(0),
         _ => format!("{keyword}({})", all.join(" ")),
     }
-}
-
-/// The countermodel of an "outside" answer in words.
-pub fn read_aloud(names: &Names, s: u32, q: u32, model: &[u32]) -> String {
-    let mut text = format!(
-        "Outside: simple policy {s} of the first policy, combination {q}, is not in the second.\n"
-    );
-    let individuals = model[1];
-    let many = if individuals == 1 { "individual" } else { "individuals" };
-    let _ = writeln!(
-        text,
-        "In this case, of {individuals} {many}, x1 is in the first policy and outside the second:"
-    );
-    for record in model.chunks_exact(5).skip(1) {
-        let (number, individual, other) = (record[1], record[2], record[3]);
-        let _ = match record[0] {
-            1 => writeln!(text, "  x{individual} is in {}", name(&names.classes, number)),
-            2 => writeln!(text, "  x{individual} has {} x{other}", name(&names.roles, number)),
-            _ => writeln!(text, "  x{individual} has {} {other}", name(&names.features, number)),
-        };
-    }
-    if model.len() == 5 {
-        text.push_str("  nothing else is known of x1\n");
-    }
-    text
 }
