@@ -19,7 +19,7 @@ use Rattle.meaning.specs.Answers.{Answer, comparisonAnswer, compliant, differs,
 use Rattle.meaning.specs.Containment.{Decision, Refutes, contained, decide, escapes, tooMany}
 use Rattle.meaning.specs.Countermodel.{Fact, countermodel}
 use Rattle.meaning.specs.ModelCheck.{factsOf, individualCount}
-use Rattle.meaning.specs.Operations.{Outcome, comesLate, equality, equalityOf, inputRefusal, outputAfter, refuses, reported, says, unless, workAfter, workRefusal, workSize, zeroed}
+use Rattle.meaning.specs.Operations.{Outcome, comesLate, equality, equalityOf, inputRefusal, outputAfter, refuses, reported, says, unless, workAfter, workRefusal, workSize}
 use Rattle.meaning.specs.Policy.{Policy, policyOf}
 use Rattle.meaning.specs.Promises.{Compared, same, side1, side2, unsaidComparison}
 use Rattle.meaning.specs.Records.{orElse}
@@ -28,8 +28,9 @@ use Rattle.meaning.specs.declared.Comparison.the-variants as comparison
 use Rattle.meaning.specs.declared.Comparison.{Comparison}
 use Rattle.meaning.specs.declared.Verdict.the-variants as verdict
 use Rattle.meaning.specs.declared.Verdict.{Verdict}
-use Rattle.workspace.proofs.Laws.{beyond-then, zeroed-beyond}
-use Rattle.workspace.specs.Work.{Beyond, Stays}
+use Rattle.workspace.proofs.Changes.{cleared-beyond}
+use Rattle.workspace.proofs.Laws.{beyond-then}
+use Rattle.workspace.specs.Work.{Beyond, Cleared, Stays}
 
 -- ---- the sides
 
@@ -173,9 +174,9 @@ module _ (N : ℕ) (K : Vocabulary) (P Q : Policy) (o : ℕ) where
       go false contained (escapes s q u) = fits (leb (length (countermodel N K u)) o) 2 s q (countermodel N K u)
       go false (escapes s q u) e = fits (leb (length (countermodel N K u)) o) 1 s q (countermodel N K u)
 
-  pub compared-work : {w w₁ w₂ w₃ : List ℕ} {a : Answer} → Beyond w w₁ → Beyond w₁ w₂ → w₃ ≡ zeroed workSize w₂ → a ≡ equalityOf N K P Q o .answer → w₃ ≡ workAfter a w
+  pub compared-work : {w w₁ w₂ w₃ : List ℕ} {a : Answer} → Beyond w w₁ → Beyond w₁ w₂ → Cleared 0 workSize w₂ w₃ → a ≡ equalityOf N K P Q o .answer → w₃ ≡ workAfter a w
   unfolding workAfter
-  compared-work b c z e = rw (ap comesLate e ∙ compared-late) (z ∙ zeroed-beyond (beyond-then b c))
+  compared-work b c z e = rw (ap comesLate e ∙ compared-late) (cleared-beyond (beyond-then b c) z)
 
 -- ---- demand 3
 

@@ -12,21 +12,22 @@ use Rattle.decision.specs.Decisions.{Delivers, Ready, decision}
 use Rattle.hierarchy.specs.declared.Functional.{Functional}
 use Rattle.meaning.proofs.Compliance.{compliance-told, no-escape}
 use Rattle.meaning.proofs.Interpretations.{tested-finite}
-use Rattle.meaning.proofs.Refusals.{AcceptedInput, accepted-input, or-few, policy-few, vocabulary-few}
+use Rattle.meaning.proofs.Refusals.{AcceptedInput, accepted-input, or-few}
 use Rattle.meaning.specs.Answers.{Answer, compliant, outside, verdictAnswer}
 use Rattle.meaning.specs.Containment.{Decision, Refutes, contained, decide, escapes, tooMany}
 use Rattle.meaning.specs.Countermodel.{Fact, countermodel}
 use Rattle.meaning.specs.ModelCheck.{factsOf, individualCount}
-use Rattle.meaning.specs.Operations.{Outcome, comesLate, compliance, complianceOf, inputRefusal, outputAfter, refuses, reported, says, unless, workAfter, workRefusal, workSize, zeroed}
-use Rattle.meaning.specs.Policy.{Policy, policyOf, policyRefusal, second}
+use Rattle.meaning.specs.Operations.{Outcome, comesLate, compliance, complianceOf, inputRefusal, outputAfter, refuses, reported, says, unless, workAfter, workRefusal, workSize}
+use Rattle.meaning.specs.Policy.{Policy, policyOf}
 use Rattle.meaning.specs.Promises.{Told, agreed, escaped, unsaidVerdict}
 use Rattle.meaning.specs.Records.{orElse}
-use Rattle.meaning.specs.Vocabulary.{Vocabulary, classCount, vocabularyOf, vocabularyRefusal}
+use Rattle.meaning.specs.Vocabulary.{Vocabulary, classCount, vocabularyOf}
 use Rattle.meaning.specs.declared.Verdict.the-variants as verdict
 use Rattle.meaning.specs.declared.Verdict.{Verdict}
 use Rattle.normal_form.specs.Tables.{Prepared}
-use Rattle.workspace.proofs.Laws.{beyond-then, none-before, none-full, work-few, zeroed-beyond}
-use Rattle.workspace.specs.Work.{Accepting, Beyond, Stays}
+use Rattle.workspace.proofs.Changes.{cleared-beyond}
+use Rattle.workspace.proofs.Laws.{beyond-then, input-few, none-before, none-full, work-few}
+use Rattle.workspace.specs.Work.{Accepting, Beyond, Cleared, Stays}
 
 -- ---- what is ready
 
@@ -55,16 +56,6 @@ module _ (v p q o : List ℕ) where
   settles e h d = rw (sym e ∙ h) d
 
 -- ---- the refusals in their order
-
-input-few : (v p q : List ℕ) → inputRefusal v p q ≤ 18
-unfolding inputRefusal
-input-few v p q =
-    or-few 18 (vocabularyRefusal v) (orElse (policyRefusal v p) (second (policyRefusal v q))) (let a = vocabulary-few v in omega arith)
-    (or-few 18 (policyRefusal v p) (second (policyRefusal v q)) (let a = policy-few v p in omega arith) (go (policyRefusal v q) (policy-few v q)))
-  where
-    go : (n : ℕ) → n ≤ 8 → second n ≤ 18
-    go zero h = omega arith
-    go (suc n) h = omega arith
 
 module _ (v p q : List ℕ) (w : ℕ) (o : List ℕ) {m r : ℕ} (e : m ≡ inputRefusal v p q) (f : r ≡ orElse m (workRefusal w)) where
   pub in-order : r ≡ orElse (inputRefusal v p q) (workRefusal w)
@@ -115,9 +106,9 @@ module _ (N : ℕ) (K : Vocabulary) (P Q : Policy) (o : ℕ) where
       go false contained = refl
       go false (escapes s q u) = fits (leb (length (countermodel N K u)) o) s q (countermodel N K u)
 
-  pub complied-work : {w w₁ w₂ w₃ : List ℕ} {a : Answer} → Beyond w w₁ → Beyond w₁ w₂ → w₃ ≡ zeroed workSize w₂ → a ≡ complianceOf N K P Q o .answer → w₃ ≡ workAfter a w
+  pub complied-work : {w w₁ w₂ w₃ : List ℕ} {a : Answer} → Beyond w w₁ → Beyond w₁ w₂ → Cleared 0 workSize w₂ w₃ → a ≡ complianceOf N K P Q o .answer → w₃ ≡ workAfter a w
   unfolding workAfter
-  complied-work b c z e = rw (ap comesLate e ∙ settled-late) (z ∙ zeroed-beyond (beyond-then b c))
+  complied-work b c z e = rw (ap comesLate e ∙ settled-late) (cleared-beyond (beyond-then b c) z)
 
 -- ---- demand 2
 

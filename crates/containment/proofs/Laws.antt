@@ -9,13 +9,14 @@ use Rattle.hierarchy.specs.declared.Functional.{Functional}
 use Rattle.meaning.proofs.Refusals.{or-assoc, or-few, or-zero, policy-few, unless-some, vocabulary-few}
 use Rattle.meaning.specs.Answers.{Answer, firstPossible, refused}
 use Rattle.meaning.specs.NormalForm.{possible}
-use Rattle.meaning.specs.Operations.{comesLate, possibility, possibleFrom, unless, workAfter, workRefusal, workSize, zeroed}
+use Rattle.meaning.specs.Operations.{comesLate, possibility, possibleFrom, unless, workAfter, workRefusal, workSize}
 use Rattle.meaning.specs.Policy.{Chain, Policy, policyOf, policyRefusal}
 use Rattle.meaning.specs.Records.{orElse}
 use Rattle.meaning.specs.Vocabulary.{Vocabulary, vocabularyOf, vocabularyRefusal}
 use Rattle.normal_form.specs.Tables.{Prepared}
-use Rattle.workspace.proofs.Laws.{beyond-then, none-before, none-full, work-few, zeroed-beyond}
-use Rattle.workspace.specs.Work.{Accepting, Beyond}
+use Rattle.workspace.proofs.Changes.{cleared-beyond}
+use Rattle.workspace.proofs.Laws.{beyond-then, none-before, none-full, work-few}
+use Rattle.workspace.specs.Work.{Accepting, Beyond, Cleared}
 
 -- ---- the first that is possible
 
@@ -79,6 +80,6 @@ result-late K s (p ∷ P) = go (possible K p) (result-late K (suc s) P)
     go true h = refl
     go false h = h
 
-pub late-work : {w w₁ w₂ w₃ : List ℕ} (K : Vocabulary) (P : Policy) {a : Answer} → Beyond w w₁ → Beyond w₁ w₂ → w₃ ≡ zeroed workSize w₂ → a ≡ possibleFrom K 1 P → w₃ ≡ workAfter a w
+pub late-work : {w w₁ w₂ w₃ : List ℕ} (K : Vocabulary) (P : Policy) {a : Answer} → Beyond w w₁ → Beyond w₁ w₂ → Cleared 0 workSize w₂ w₃ → a ≡ possibleFrom K 1 P → w₃ ≡ workAfter a w
 unfolding workAfter
-late-work K P b c z e = rw (ap comesLate e ∙ result-late K 1 P) (z ∙ zeroed-beyond (beyond-then b c))
+late-work K P b c z e = rw (ap comesLate e ∙ result-late K 1 P) (cleared-beyond (beyond-then b c) z)

@@ -8,6 +8,7 @@ use meaning::Verdict;
 use policy::first_term;
 use policy::next_of;
 use splitting::collect;
+use workspace::WORK;
 use workspace::clear;
 use workspace::prepare;
 use workspace::tabulate;
@@ -73,7 +74,7 @@ pub fn possible(v: &[u32], p: &[u32], work: &mut [u32]) -> Possibility
     }
     let f = prepare(v, work);
     let answer = first_possible(p, work, f);
-    clear(work);
+    clear(work, 0, WORK);
     answer
 }
 
@@ -88,7 +89,7 @@ pub fn compliance(v: &[u32], p: &[u32], q: &[u32], work: &mut [u32], out: &mut [
     }
     let f = prepare(v, work);
     let verdict = settle(p, q, work, f, out);
-    clear(work);
+    clear(work, 0, WORK);
     verdict
 }
 
@@ -156,6 +157,6 @@ pub fn equality(v: &[u32], p: &[u32], q: &[u32], work: &mut [u32], out: &mut [u3
     }
     let f = prepare(v, work);
     let comparison = compare(p, q, work, f, out);
-    clear(work);
+    clear(work, 0, WORK);
     comparison
 }

@@ -1,27 +1,26 @@
--- Laws of the work slice: words that are 0, and what is kept while a simple policy is worked on.
-use Prim.Native.Nat.{_*_, _+_, _-_, _<_, _≤_, ℕ}
+-- Laws of the work slice: the refusals up to 21, and what is kept while a simple policy is worked on.
+use Prim.Native.Nat.{_*_, _+_, _-_, _<_, _≤_, suc, zero, ℕ}
 use mathlib.Core.Bool.{Bool, false, not, true}
-use mathlib.Core.List.{List, _++_}
+use mathlib.Core.List.{List}
 use mathlib.Core.Logic.{_⊎_, inl, inr}
 use mathlib.Core.Path.{_∙_, _≡_, ap, refl, subst, sym}
 use lib.Dec.{ltb}
-use lib.ListN.{drop, getD, length, length-drop, replicate, set}
-use lib.Seq.{ext-getD, getD-drop}
+use lib.ListN.{drop, getD, length}
+use lib.Seq.{getD-drop}
 use native.Mathlib.Omega.{arith}
-use borrow.Author.Fill.{fill-more}
 use borrow.Author.Tests.{le-ltb, lt-ltb}
 use Rattle.hierarchy.specs.Pairs.{Listed, pairsAt, pairsEnd}
 use Rattle.hierarchy.specs.Rows.{Closed, Ranged, roleRow}
 use Rattle.hierarchy.specs.Singles.{Singles}
 use Rattle.hierarchy.specs.declared.Functional.{Functional}
-use Rattle.meaning.proofs.Refusals.{cond-all, or-first, or-zero}
+use Rattle.meaning.proofs.Refusals.{cond-all, or-few, or-first, or-zero, policy-few, vocabulary-few}
 use Rattle.meaning.proofs.Rules.{order}
 use Rattle.meaning.proofs.Terms.{ChainOf}
 use Rattle.meaning.proofs.Wellformed.{accepted-counts}
 use Rattle.meaning.specs.Lists.{all, counting}
 use Rattle.meaning.specs.NormalForm.{Form, normalForm, possible}
-use Rattle.meaning.specs.Operations.{workRefusal, workSize, zeroed}
-use Rattle.meaning.specs.Policy.{Chain}
+use Rattle.meaning.specs.Operations.{inputRefusal, workRefusal, workSize}
+use Rattle.meaning.specs.Policy.{Chain, policyRefusal, second}
 use Rattle.meaning.specs.Records.{orElse}
 use Rattle.meaning.specs.Vocabulary.{Vocabulary, classCount, roleCount, vocabularyOf, vocabularyRefusal}
 use Rattle.normal_form.proofs.Cleanness.{clean-not}
@@ -55,32 +54,21 @@ module _ (n w : ℕ) where
       go (inl h) z = absurd (let y = lt-ltb w workSize h in let x : _≡_ {A = ℕ} 21 0 = rw y at z in omega arith)
       go (inr h) z = h
 
+-- the numbers up to 21
+pub input-few : (v p q : List ℕ) → inputRefusal v p q ≤ 18
+unfolding inputRefusal
+input-few v p q =
+    or-few 18 (vocabularyRefusal v) (orElse (policyRefusal v p) (second (policyRefusal v q))) (let a = vocabulary-few v in omega arith)
+    (or-few 18 (policyRefusal v p) (second (policyRefusal v q)) (let a = policy-few v p in omega arith) (go (policyRefusal v q) (policy-few v q)))
+  where
+    go : (n : ℕ) → n ≤ 8 → second n ≤ 18
+    go zero h = omega arith
+    go (suc n) h = omega arith
+
 pub work-few : (w : ℕ) → workRefusal w ≤ 21
 work-few w = cond-all (λ n. n ≤ 21) (ltb w workSize) (omega arith) (omega arith)
 
--- ---- words that are 0
-
-pub zeroed-none : (w : List ℕ) → w ≡ zeroed 0 w
-unfolding zeroed
-zeroed-none w = refl
-
-pub zeroed-more : (n : ℕ) (w : List ℕ) → n < length w → set (zeroed n w) n 0 ≡ zeroed (n + 1) w
-unfolding zeroed
-zeroed-more n w h = fill-more n 0 w h
-
--- zeroing forgets the first n words
-zeroed-rest : (n : ℕ) (w w′ : List ℕ) → length w′ ≡ length w → ((i : ℕ) → n ≤ i → getD w′ i 0 ≡ getD w i 0) → zeroed n w′ ≡ zeroed n w
-unfolding zeroed
-zeroed-rest n w w′ e f = ap (λ (l : List ℕ). replicate n 0 ++ l) (ext-getD 0 (drop n w′) (drop n w) lengths (λ i h. same i))
-  where
-    lengths : length (drop n w′) ≡ length (drop n w)
-    lengths = length-drop n w′ ∙ (ap (λ (k : ℕ). k - n) e ∙ sym (length-drop n w))
-
-    same : (i : ℕ) → getD (drop n w′) i 0 ≡ getD (drop n w) i 0
-    same i = getD-drop n w′ i 0 ∙ (f (n + i) (omega arith) ∙ sym (getD-drop n w i 0))
-
-pub zeroed-beyond : {w w′ : List ℕ} → Beyond w w′ → zeroed workSize w′ ≡ zeroed workSize w
-zeroed-beyond {w} {w′} b = zeroed-rest workSize w w′ (b .size) (b .rest)
+-- ---- what stands behind
 
 pub beyond-same : {w : List ℕ} → Beyond w w
 beyond-same = record { size = refl; rest = λ i h. refl }

@@ -1,5 +1,5 @@
 -- What a call may do to the work slice, and what the slice holds of one simple policy.
-use Prim.Native.Nat.{_≤_, ℕ}
+use Prim.Native.Nat.{_+_, _<_, _≤_, ℕ}
 use mathlib.Core.Bool.{false, not, true}
 use mathlib.Core.List.{List}
 use mathlib.Core.Path.{_≡_}
@@ -20,6 +20,18 @@ use Rattle.normal_form.specs.declared.Tables.{Tables}
 pub record Beyond (w w′ : List ℕ) : Type 0 where
   pub size : length w′ ≡ length w
   pub rest : (i : ℕ) → workSize ≤ i → getD w′ i 0 ≡ getD w i 0
+
+-- w′ is w but for n words from a place on
+pub record Only (at n : ℕ) (w w′ : List ℕ) : Type 0 where
+  pub size : length w′ ≡ length w
+  pub before : (i : ℕ) → i < at → getD w′ i 0 ≡ getD w i 0
+  pub behind : (i : ℕ) → at + n ≤ i → getD w′ i 0 ≡ getD w i 0
+
+-- and these, which w has, are 0
+pub record Cleared (at n : ℕ) (w w′ : List ℕ) : Type 0 where
+  pub fits : at + n ≤ length w
+  pub only : Only at n w w′
+  pub zeros : (i : ℕ) → at ≤ i → i < at + n → getD w′ i 0 ≡ 0
 
 -- what is prepared stays so
 abbrev pub Stays : Functional → List ℕ → List ℕ → Type 0

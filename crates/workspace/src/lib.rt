@@ -5,14 +5,14 @@ use normal_form::are_filled;
 use normal_form::is_clean;
 use normal_form::normalise;
 ghost use mathlib.Core.Path.{_≡_};
-ghost use Prim.Native.Nat.{_≤_};
+ghost use Prim.Native.Nat.{_+_, _≤_};
 ghost use lib.ListN.{length};
 ghost use Rattle.hierarchy.specs.Pairs.{mostPairs, pairCount};
-ghost use Rattle.meaning.specs.Operations.{workRefusal, workSize, zeroed};
+ghost use Rattle.meaning.specs.Operations.{workRefusal, workSize};
 ghost use Rattle.meaning.specs.Records.{orElse};
 ghost use Rattle.meaning.specs.Vocabulary.{vocabularyRefusal};
 ghost use Rattle.normal_form.specs.Tables.{Fit, Prepared, termAt};
-ghost use Rattle.workspace.specs.Work.{Beyond, Shaped, Tabulated};
+ghost use Rattle.workspace.specs.Work.{Beyond, Cleared, Shaped, Tabulated};
 
 // A work slice is full from so many words on.
 pub const WORK: usize = 16384;
@@ -30,13 +30,13 @@ pub fn work_refusal(before: u32, work: &[u32]) -> u32
     0
 }
 
-// An operation leaves the words that it worked in 0.
-pub fn clear(work: &mut [u32])
-    requires { ⌜ workSize ≤ length (now work) ⌝ }
-    ensures { λ _. ⌜ now (work .exit) ≡ zeroed workSize (now (work .entry)) ⌝ }
+// The n words from a place on become 0: a table before it is filled, and all WORK words when an operation ends.
+pub fn clear(work: &mut [u32], at: usize, n: usize)
+    requires { ⌜ at + n ≤ length (now work) ⌝ }
+    ensures { λ _. ⌜ Cleared at n (now (work .entry)) (now (work .exit)) ⌝ }
 {
-    for i in 0..WORK {
-        work[i] = 0;
+    for i in 0..n {
+        work[at + i] = 0;
     }
 }
 

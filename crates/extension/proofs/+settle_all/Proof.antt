@@ -1,0 +1,57 @@
+-- The sets of a chain: the measure is what the links can still lead to.
+use borrow.Author.Needs.{needs}
+use Prim.Native.Nat.{_<_, ℕ}
+use mathlib.Core.Path.{subst}
+use borrow.Fn.Kinds.{In}
+use borrow.Fn.PlainCycle.{Measures, is, falls, and}
+use Rattle.meaning.proofs.Links.{falling}
+use Rattle.meaning.specs.Records.{lastOf}
+use Rattle.extension.proofs.Conjuncts.{child-charted, child-falls, next-charted, next-falls}
+use Rattle.extension.proofs.Settling.{filled-none, filled-placed, filled-ready, filled-then}
+use Rattle.extension.proofs.settle_all.Reads as settle-all
+use Rattle.extension.proofs.settle_all.Kinds as settle-all-kinds
+use Rattle.extension.proofs.+settle_all.Lts-settle_all as settle-all-lts
+use Rattle.extension.proofs.child_at.Reads as child-at-reads
+use Rattle.extension.proofs.settle.Reads as settle-reads
+use Rattle.policy.proofs.next_of.Reads as next-of-reads
+use Rattle.extension.proofs.+settle_all.{statement}
+use Rattle.extension.proofs.+settle_all.Tie.{close}
+
+abbrev μ-settle-all : Measures 3 settle-all-kinds.ps ℕ
+μ-settle-all κs a = falling (lastOf 6 (a .0 .now)) (a .1 .1 .1 .0)
+
+abbrev settle-all-at : ℕ → In 3 settle-all-kinds.ps
+settle-all-at t = and 3 settle-all-kinds.ps (is 3 settle-all-kinds.ps μ-settle-all t) settle-all.Pre
+
+abbrev settle-all-below : ℕ → In 3 settle-all-kinds.ps
+settle-all-below t = and 3 settle-all-kinds.ps (falls 3 settle-all-kinds.ps _<_ μ-settle-all t) settle-all.Pre
+
+pub +settle-all-spec : {M : Type 1} → statement M
++settle-all-spec = close μ-settle-all λ t. settle-all-lts.spec (
+  child-at-reads.Asked,
+  child-at-reads.Learnt,
+  settle-all-below t,
+  settle-all.Post,
+  next-of-reads.Asked,
+  next-of-reads.Learnt,
+  settle-reads.Asked,
+  settle-reads.Learnt,
+)
+    (settle-all-at t)
+    settle-all.Post
+    -- settle-all-returns
+    (λ c. filled-none (c .before .before .before .before .pre .1 .0) (c .if1 .taken))
+    -- settle-all-child-at-requires
+    (λ c κs. search needs)
+    -- settle-all-settle-all-requires
+    (λ c κs. (subst (λ (n : ℕ). falling (lastOf 6 (c .before .before .before .before .before .before .args .p .now)) (c .child-at .result) < n) (c .before .before .before .before .before .before .pre .0) (child-falls (c .before .before .if1 .left) (c .before .before .before .before .before .before .pre .1 .1) (c .child-at .ensures)), (c .before .before .before .before .before .before .pre .1 .0, child-charted (c .before .before .if1 .left) (c .before .before .before .before .before .before .pre .1 .1) (c .child-at .ensures))))
+    -- settle-all-next-of-requires
+    (λ c κs. search needs)
+    -- settle-all-settle-all-requires-2
+    (λ c κs. (subst (λ (n : ℕ). falling (lastOf 6 (c .before .before .before .before .before .before .before .before .before .before .before .args .p .now)) (c .next-of .result) < n) (c .before .before .before .before .before .before .before .before .before .before .before .pre .0) (next-falls (c .before .before .before .before .before .before .before .if1 .left) (c .before .before .before .before .before .before .before .before .before .before .before .pre .1 .1) (c .next-of .ensures)), (filled-ready (c .before .before .before .before .settle-all .ensures) (c .before .before .before .before .before .before .before .before .before .before .before .pre .1 .0), next-charted (c .before .before .before .before .before .before .before .if1 .left) (c .before .before .before .before .before .before .before .before .before .before .before .pre .1 .1) (c .next-of .ensures))))
+    -- settle-all-settle-requires
+    (λ c κs. (filled-ready (c .before .before .before .settle-all2 .ensures) (filled-ready (c .before .before .before .before .before .before .before .before .settle-all .ensures) (c .before .before .before .before .before .before .before .before .before .before .before .before .before .before .before .pre .1 .0)), filled-placed (c .before .before .before .before .before .before .before .before .before .before .before .if1 .left) (c .before .before .before .before .before .before .before .before .before .before .before .before .before .before .before .pre .1 .1) (c .before .before .before .before .before .before .before .before .before .child-at .ensures) (c .before .before .before .before .next-of .ensures) (c .before .before .before .before .before .before .before .before .settle-all .ensures) (c .before .before .before .settle-all2 .ensures), c .before .before .before .before .before .before .before .before .before .before .before .before .before .before .before .pre .1 .1))
+    -- settle-all-same-length
+    (λ c. filled-then (c .before .before .before .before .before .before .before .before .before .before .before .before .before .before .if1 .left) (c .before .before .before .before .before .before .before .before .before .before .before .before .before .before .before .before .before .before .pre .1 .1) (c .before .before .before .before .before .before .before .before .before .before .before .before .child-at .ensures) (c .before .before .before .before .before .before .before .next-of .ensures) (c .before .before .before .before .before .before .before .before .before .before .before .settle-all .ensures) (c .before .before .before .before .before .before .settle-all2 .ensures) (c .before .before .settle .ensures) .only .size)
+    -- settle-all-returns-2
+    (λ c. filled-then (c .before .before .before .before .before .before .before .before .before .before .before .before .before .before .if1 .left) (c .before .before .before .before .before .before .before .before .before .before .before .before .before .before .before .before .before .before .pre .1 .1) (c .before .before .before .before .before .before .before .before .before .before .before .before .child-at .ensures) (c .before .before .before .before .before .before .before .next-of .ensures) (c .before .before .before .before .before .before .before .before .before .before .before .settle-all .ensures) (c .before .before .before .before .before .before .settle-all2 .ensures) (c .before .before .settle .ensures))

@@ -1,0 +1,240 @@
+// Extensions: the set of the individuals of which each of a policy's records holds, and so whether individual 1 is in the policy.
+// The sets stand in the work slice, so that no path of edges is walked twice: time grows with the model's records times the policy's.
+// There are 513, one a record and the header's, of 16 words each, behind what satisfaction keeps: with 8 words to a set of classes
+// they end at 5,120 + 8,208 = 13,328 words, and with 10 at 14,352, of 16,384.
+use model::fact_kind;
+use model::fact_name;
+use model::fact_next;
+use model::fact_other;
+use model::fact_owner;
+use model::first_fact;
+use model::individual_count;
+use policy::child_of;
+use policy::first_term;
+use policy::hi_of;
+use policy::kind_of;
+use policy::lo_of;
+use policy::name_of;
+use policy::next_of;
+use satisfaction::END;
+use satisfaction::MOST;
+use satisfaction::is_member;
+use satisfaction::put;
+use words::has;
+use words::place;
+use workspace::clear;
+ghost use mathlib.Core.Path.{_≡_};
+ghost use Prim.Native.Nat.{_≤_};
+ghost use lib.ListN.{length};
+ghost use Rattle.extension.specs.Places.{setOf, setPlace, setsAt, setsSize};
+ghost use Rattle.extension.specs.Sets.{Charted, childAt, edgeInto, Everyone, Extended, Filled, kept, Linked, Marked, markedMember};
+ghost use Rattle.extension.specs.Sets.{markedShown, Placed, Ready, Right, Settled, shown, shows, Taken, Vacant, valueWithin};
+ghost use Rattle.meaning.proofs.Links.{Name};
+ghost use Rattle.meaning.specs.Lists.{any};
+ghost use Rattle.meaning.specs.ModelCheck.{factAt, factsOf, isIn, isMember};
+ghost use Rattle.meaning.specs.Operations.{workSize};
+ghost use Rattle.meaning.specs.Policy.{nameOf, policyOf};
+ghost use Rattle.model.proofs.Chain.{Readable, Stated};
+ghost use Rattle.satisfaction.specs.Classes.{Interpreted};
+ghost use Rattle.satisfaction.specs.Places.{mostIndividuals};
+ghost use Rattle.words.specs.Sets.{inSet};
+ghost use Rattle.workspace.specs.Work.{Only};
+
+// The individual that is asked of.
+const FIRST: u32 = 1;
+
+// How many words a set of individuals takes.
+const SET: usize = MOST / 32;
+
+// Where the set of individuals of a policy's record k starts.
+fn set_place(k: u32) -> usize
+    requires { ⌜ k ≤ 512 ⌝ }
+    ensures { λ r. ⌜ r ≡ setPlace k ⌝ }
+{
+    END + SET * place(k)
+}
+
+// Whether individual i is in the set at record k.
+fn is_in(work: &[u32], k: u32, i: u32) -> bool
+    requires { ⌜ (k ≤ 512) × (workSize ≤ length (now work)) ⌝ }
+    ensures { λ r. ⌜ r ≡ inSet (setOf (now (work .entry)) k) i ⌝ }
+{
+    let at = set_place(k);
+    let end = at + SET;
+    has(&work[at..end], i)
+}
+
+// Where no conjunct is left every individual passes: all are the set at record 0, where chains end.
+fn include_all(m: &[u32], work: &mut [u32])
+    requires { ⌜ Readable (now m) × (workSize ≤ length (now work)) ⌝ }
+    ensures { λ _. ⌜ Everyone (now (m .entry)) (now (work .exit)) × Only setsAt setsSize (now (work .entry)) (now (work .exit)) ⌝ }
+{
+    let n = individual_count(m);
+    for i in 0..n {
+        put(work, END, SET, i + 1);
+    }
+}
+
+// Puts individual i into the set at record k, where that at record j has it.
+fn keep(work: &mut [u32], j: u32, k: u32, i: u32)
+    requires { ⌜ (j ≤ 512) × (k ≤ 512) × (workSize ≤ length (now work)) ⌝ }
+    ensures { λ _. ⌜ now (work .exit) ≡ kept (now (work .entry)) j k i ⌝ }
+{
+    if is_in(work, j, i) {
+        let at = set_place(k);
+        put(work, at, SET, i);
+    }
+}
+
+// Whether record f is an edge of role a into the set at record k.
+fn is_edge_into(m: &[u32], work: &[u32], f: u32, a: u32, k: u32) -> bool
+    requires { ⌜ Stated (now m) f × (k ≤ 512) × (workSize ≤ length (now work)) ⌝ }
+    ensures { λ r. ⌜ r ≡ edgeInto a (inSet (setOf (now (work .entry)) k)) (factAt (now (m .entry)) f) ⌝ }
+{
+    if fact_kind(m, f) != 2 {
+        return false;
+    }
+    if fact_name(m, f) != a {
+        return false;
+    }
+    is_in(work, k, fact_other(m, f))
+}
+
+// Whether record f is a value of feature a from lo to hi.
+fn is_value_within(m: &[u32], f: u32, a: u32, lo: u32, hi: u32) -> bool
+    requires { ⌜ Stated (now m) f ⌝ }
+    ensures { λ r. ⌜ r ≡ valueWithin a lo hi (factAt (now (m .entry)) f) ⌝ }
+{
+    if fact_kind(m, f) != 3 {
+        return false;
+    }
+    if fact_name(m, f) != a {
+        return false;
+    }
+    let x = fact_other(m, f);
+    lo <= x && x <= hi
+}
+
+// Whether record f of the model shows that its individual has the conjunct at record k, a role's or a feature's.
+fn does_show(p: &[u32], m: &[u32], work: &[u32], k: u32, f: u32) -> bool
+    requires { ⌜ Stated (now m) f × Linked (now p) k × Right (now p) (now m) (now work) (childAt (now p) k) × (workSize ≤ length (now work)) ⌝ }
+    ensures { λ r. ⌜ r ≡ shows (factsOf (now (m .entry))) (now (p .entry)) k (factAt (now (m .entry)) f) ⌝ }
+{
+    let a = name_of(p, k);
+    if kind_of(p, k) == 3 {
+        is_edge_into(m, work, f, a, child_of(p, k))
+    } else {
+        is_value_within(m, f, a, lo_of(p, k), hi_of(p, k))
+    }
+}
+
+// Puts the individual of record f into the set at record k, where f shows the conjunct and the next set has the individual.
+fn mark_shown(p: &[u32], m: &[u32], work: &mut [u32], k: u32, f: u32)
+    requires { ⌜ Stated (now m) f × Placed (now p) (now m) (now work) k × (workSize ≤ length (now work)) ⌝ }
+    ensures { λ _. ⌜ now (work .exit) ≡ markedShown (factsOf (now (m .entry))) (now (p .entry)) k (now (work .entry)) (factAt (now (m .entry)) f) ⌝ }
+{
+    if !does_show(p, m, work, k, f) {
+        return;
+    }
+    keep(work, next_of(p, k), k, fact_owner(m, f));
+}
+
+// So for every record of the model: k is a role's or a feature's.
+fn mark_all_shown(p: &[u32], m: &[u32], work: &mut [u32], k: u32)
+    requires { ⌜ Ready (now m) (now work) × Placed (now p) (now m) (now work) k × Vacant (now work) k ⌝ }
+    ensures { λ _. ⌜ Marked (now (p .entry)) (now (m .entry)) k (shown (factsOf (now (m .entry))) (now (p .entry)) k) (now (work .entry)) (now (work .exit)) ⌝ }
+{
+    let mut f = first_fact(m);
+    while f != 0 {
+        mark_shown(p, m, work, k, f);
+        f = fact_next(m, f);
+    }
+}
+
+// Puts individual i into the set at record k, where it is in the class and the next set has it.
+fn mark_member(p: &[u32], work: &mut [u32], k: u32, i: u32)
+    requires { ⌜ Name mostIndividuals i × Linked (now p) k × (workSize ≤ length (now work)) ⌝ }
+    ensures { λ _. ⌜ now (work .exit) ≡ markedMember (now (p .entry)) k (now (work .entry)) i ⌝ }
+{
+    if !is_member(work, i, name_of(p, k)) {
+        return;
+    }
+    keep(work, next_of(p, k), k, i);
+}
+
+// So for every individual: k is a class's.
+fn mark_all_members(p: &[u32], m: &[u32], work: &mut [u32], k: u32)
+    requires { ⌜ Ready (now m) (now work) × Placed (now p) (now m) (now work) k × Vacant (now work) k ⌝ }
+    ensures { λ _. ⌜ Marked (now (p .entry)) (now (m .entry)) k (λ i. any (isMember (nameOf (now (p .entry)) k) i) (factsOf (now (m .entry)))) (now (work .entry)) (now (work .exit)) ⌝ }
+{
+    let n = individual_count(m);
+    for i in 0..n {
+        mark_member(p, work, k, i + 1);
+    }
+}
+
+// The set at record k, from those of the records that its links lead to.
+fn settle(p: &[u32], m: &[u32], work: &mut [u32], k: u32)
+    requires { ⌜ Ready (now m) (now work) × Placed (now p) (now m) (now work) k × Charted (now p) k ⌝ }
+    ensures { λ _. ⌜ Settled (now (p .entry)) (now (m .entry)) k (now (work .entry)) (now (work .exit)) ⌝ }
+{
+    let at = set_place(k);
+    clear(work, at, SET);
+    let kind = kind_of(p, k);
+    match kind {
+        1 => mark_all_members(p, m, work, k),
+        2 => {}
+        _ => mark_all_shown(p, m, work, k),
+    }
+}
+
+// Only a role has a child chain.
+fn child_at(p: &[u32], k: u32) -> u32
+    ensures { λ r. ⌜ r ≡ childAt (now (p .entry)) k ⌝ }
+{
+    if kind_of(p, k) == 3 {
+        child_of(p, k)
+    } else {
+        0
+    }
+}
+
+// The sets at the records from k on, what a record's links lead to before the record.
+fn settle_all(p: &[u32], m: &[u32], work: &mut [u32], k: u32)
+    requires { ⌜ Ready (now m) (now work) × Charted (now p) k ⌝ }
+    ensures { λ _. ⌜ Filled (now (p .entry)) (now (m .entry)) k (now (work .entry)) (now (work .exit)) ⌝ }
+{
+    if k == 0 {
+        return;
+    }
+    settle_all(p, m, work, child_at(p, k));
+    settle_all(p, m, work, next_of(p, k));
+    settle(p, m, work, k);
+}
+
+// Whether individual 1 is in one of the policy's simple policies.
+fn is_in_some(p: &[u32], m: &[u32], work: &mut [u32]) -> bool
+    requires { ⌜ Ready (now m) (now work) × Taken (now p) ⌝ }
+    ensures { λ r. ⌜ r ≡ isIn (factsOf (now (m .entry))) (policyOf (now (p .entry))) 1 ⌝ }
+    ensures { λ _. ⌜ Only setsAt setsSize (now (work .entry)) (now (work .exit)) × Ready (now (m .entry)) (now (work .exit)) ⌝ }
+{
+    let mut k = first_term(p);
+    while k != 0 {
+        let conjuncts = child_of(p, k);
+        settle_all(p, m, work, conjuncts);
+        if is_in(work, conjuncts, FIRST) {
+            return true;
+        }
+        k = next_of(p, k);
+    }
+    false
+}
+
+// Whether individual 1 is in the policy.
+pub fn is_inside(p: &[u32], m: &[u32], work: &mut [u32]) -> bool
+    requires { ⌜ Interpreted (now m) (now work) × Taken (now p) ⌝ }
+    ensures { λ r. ⌜ Extended (now (p .entry)) (now (m .entry)) (now (work .entry)) (now (work .exit)) r ⌝ }
+{
+    include_all(m, work);
+    is_in_some(p, m, work)
+}

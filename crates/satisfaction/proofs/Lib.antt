@@ -1,0 +1,7 @@
+-- The laws that the functions' proofs cite; extension cites Rows, Facts, Statements and Classes.
+pub mod Rows
+pub mod Facts
+pub mod Classes
+pub mod Statements
+pub mod Links
+pub mod Values

@@ -1,0 +1,54 @@
+use mathlib.Core.Path.{refl, sym, _≡_}
+use borrow.Author.Needs.{needs}
+use Rattle.meaning.proofs.Links.{falling}
+use Rattle.meaning.specs.Lists.{all, any}
+use Rattle.meaning.specs.ModelCheck.{factAt, factsOf, isMember, onEdge}
+use Rattle.meaning.specs.Records.{lastOf}
+use Rattle.model.proofs.Chain.{Scanning, scanning-ends, scanning-falls, scanning-found, scanning-on, scanning-starts, scanning-stated}
+use Rattle.satisfaction.proofs.Statements.{all-fails, all-on}
+use Rattle.satisfaction.proofs.are_ranged.Statement.{statement}
+use Rattle.satisfaction.proofs.are_ranged.Tie as tie
+
+-- the answer for all is that for those that are left
+abbrev Inv-loop : tie.InvT-loop
+Inv-loop m work r c f₀ f = Scanning (λ l. all (onEdge r (λ i j. any (isMember c j) (factsOf m))) (factsOf m) ≡ all (onEdge r (λ i j. any (isMember c j) (factsOf m))) l) m f
+
+abbrev μ-loop : tie.MeasureT-loop
+μ-loop m work r c f₀ f = falling (lastOf 5 m) f
+
+is-ranged-requires : tie.Need-is-ranged-requires Inv-loop μ-loop
+is-ranged-requires c κs =
+    let pre = c .before .before .before .before .before .pre in
+    (scanning-stated (c .before .loop .inv) (c .loop-test .taken), pre)
+
+returns : tie.Need-returns Inv-loop μ-loop
+returns c =
+    let args = c .before .before .before .before .before .before .before .args in
+    let loop = c .before .before .before .loop in
+    scanning-found (loop .inv) (c .before .before .loop-test .taken) (λ l h. all-fails (onEdge (args .r) (λ i j. any (isMember (args .c) j) (factsOf (args .m .now)))) (factAt (args .m .now) (loop .f)) (c .before .is-ranged .ensures) l h (c .if1 .taken))
+
+loop-less : tie.Need-loop-less Inv-loop μ-loop
+loop-less c =
+    let loop = c .before .before .before .before .loop in
+    scanning-falls (loop .inv) (c .before .before .before .loop-test .taken) (c .fact-next .ensures)
+
+loop-again : tie.Need-loop-again Inv-loop μ-loop
+loop-again c =
+    let args = c .before .before .before .before .before .before .before .before .args in
+    let loop = c .before .before .before .before .loop in
+    scanning-on (loop .inv) (c .before .before .before .loop-test .taken) (c .fact-next .ensures) (λ l h. all-on (onEdge (args .r) (λ i j. any (isMember (args .c) j) (factsOf (args .m .now)))) (factAt (args .m .now) (loop .f)) (c .before .before .is-ranged .ensures) l h (c .before .if1 .left))
+
+pub are-ranged-spec : {M : Type 1} → statement M
+are-ranged-spec =
+    tie.close
+    (tie.spec
+    Inv-loop
+    μ-loop
+    (λ c κs. search needs)
+    (λ c. scanning-starts (c .before .before .before .pre .readable) (c .first-fact .ensures) refl)
+    is-ranged-requires
+    returns
+    (λ c κs. search needs)
+    loop-less
+    loop-again
+    (λ c. sym (scanning-ends (c .before .loop .inv) (c .loop-test .left))))

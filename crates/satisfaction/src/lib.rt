@@ -1,0 +1,232 @@
+// Satisfaction: whether the interpretation that a model's words stand for satisfies the vocabulary.
+// In the work slice: a set of classes for each of 512 individuals, then the value first seen of each individual and whether one was,
+// 512 words each. With 8 words to a set of classes that is 4,096 + 1,024 = 5,120 words, and with 10 it is 6,144.
+use meaning::ClassNo;
+use model::fact_kind;
+use model::fact_name;
+use model::fact_next;
+use model::fact_other;
+use model::fact_owner;
+use model::first_fact;
+use model::individual_count;
+use vocabulary::axiom_kind;
+use vocabulary::axiom_left;
+use vocabulary::axiom_next;
+use vocabulary::axiom_right;
+use vocabulary::first_axiom;
+use words::ClassSet;
+use words::insert;
+use words::place;
+use workspace::clear;
+ghost use mathlib.Core.Path.{_≡_};
+ghost use Prim.Native.Nat.{_+_, _≤_};
+ghost use lib.ListN.{length};
+ghost use Rattle.meaning.proofs.Links.{Name};
+ghost use Rattle.meaning.specs.Lists.{all, any, counting};
+ghost use Rattle.meaning.specs.ModelCheck.{factAt, factsOf, isMember, isModel, obeys, onEdge};
+ghost use Rattle.meaning.specs.Operations.{workSize};
+ghost use Rattle.meaning.specs.Vocabulary.{axiomAt, range, vocabularyOf, vocabularyRefusal};
+ghost use Rattle.model.proofs.Chain.{Readable, Stated};
+ghost use Rattle.satisfaction.specs.Classes.{Classed, entered, follows, Interpreted, Satisfied};
+ghost use Rattle.satisfaction.specs.Links.{agrees, linkOf, linksOf, noted, single};
+ghost use Rattle.satisfaction.specs.Places.{classesOf, classesSize, classPlace, mostIndividuals, putIn, tablesSize, valuesAt};
+ghost use Rattle.words.specs.Sets.{inSet};
+ghost use Rattle.workspace.specs.Work.{Only};
+
+// The most individuals of a model.
+pub const MOST: usize = 512;
+
+// The two tables stand behind the sets of classes.
+const VALUES: usize = MOST * ClassSet::WORDS;
+
+const FLAGS: usize = VALUES + MOST;
+
+// The words of the work slice from here on are left alone.
+pub const END: usize = FLAGS + MOST;
+
+// Puts x into the set of n words at a place.
+pub fn put(work: &mut [u32], at: usize, n: usize, x: u32)
+    requires { ⌜ at + n ≤ length (now work) ⌝ }
+    ensures { λ _. ⌜ now (work .exit) ≡ putIn n (now (work .entry)) at x ⌝ }
+{
+    let end = at + n;
+    insert(&mut work[at..end], x);
+}
+
+// Where the set of individual i's classes starts.
+fn class_place(i: u32) -> usize
+    requires { ⌜ Name mostIndividuals i ⌝ }
+    ensures { λ r. ⌜ r ≡ classPlace i ⌝ }
+{
+    place(i - 1) * ClassSet::WORDS
+}
+
+// Whether individual i is in class a.
+pub fn is_member(work: &[u32], i: u32, a: u32) -> bool
+    requires { ⌜ Name mostIndividuals i × (workSize ≤ length (now work)) ⌝ }
+    ensures { λ r. ⌜ r ≡ inSet (classesOf (now (work .entry)) i) a ⌝ }
+{
+    ClassSet::has_at(work, class_place(i), ClassNo(a))
+}
+
+// What record f says, where it says that an individual is in a class.
+fn enter(m: &[u32], work: &mut [u32], f: u32)
+    requires { ⌜ Stated (now m) f × Readable (now m) × (workSize ≤ length (now work)) ⌝ }
+    ensures { λ _. ⌜ now (work .exit) ≡ entered (now (work .entry)) (factAt (now (m .entry)) f) ⌝ }
+{
+    if fact_kind(m, f) != 1 {
+        return;
+    }
+    let at = class_place(fact_owner(m, f));
+    put(work, at, ClassSet::WORDS, fact_name(m, f));
+}
+
+// The classes of every individual, by one walk over the records.
+fn enter_all(m: &[u32], work: &mut [u32])
+    requires { ⌜ Readable (now m) × (workSize ≤ length (now work)) ⌝ }
+    ensures { λ _. ⌜ Classed (now (m .entry)) (now (work .exit)) × Only 0 classesSize (now (work .entry)) (now (work .exit)) ⌝ }
+{
+    clear(work, 0, VALUES);
+    let mut f = first_fact(m);
+    while f != 0 {
+        enter(m, work, f);
+        f = fact_next(m, f);
+    }
+}
+
+// Whether individual i, where it is in class a, is in class b, or with `apart` is not.
+fn does_follow(work: &[u32], i: u32, a: u32, b: u32, apart: bool) -> bool
+    requires { ⌜ Name mostIndividuals i × (workSize ≤ length (now work)) ⌝ }
+    ensures { λ r. ⌜ r ≡ follows (now (work .entry)) a b apart i ⌝ }
+{
+    if !is_member(work, i, a) {
+        return true;
+    }
+    let other = is_member(work, i, b);
+    if apart { !other } else { other }
+}
+
+// Whether each of n individuals does.
+fn do_follow(work: &[u32], n: u32, a: u32, b: u32, apart: bool) -> bool
+    requires { ⌜ (n ≤ mostIndividuals) × (workSize ≤ length (now work)) ⌝ }
+    ensures { λ r. ⌜ r ≡ all (follows (now (work .entry)) a b apart) (counting 1 n) ⌝ }
+{
+    for i in 0..n {
+        if !does_follow(work, i + 1, a, b, apart) {
+            return false;
+        }
+    }
+    true
+}
+
+// Whether record f, where it is an edge of role r, leads into class c.
+fn is_ranged(m: &[u32], work: &[u32], f: u32, r: u32, c: u32) -> bool
+    requires { ⌜ Stated (now m) f × Interpreted (now m) (now work) ⌝ }
+    ensures { λ t. ⌜ t ≡ onEdge r (λ i j. any (isMember c j) (factsOf (now (m .entry)))) (factAt (now (m .entry)) f) ⌝ }
+{
+    if fact_kind(m, f) != 2 {
+        return true;
+    }
+    if fact_name(m, f) != r {
+        return true;
+    }
+    let target = fact_other(m, f);
+    is_member(work, target, c)
+}
+
+// Whether every edge of role r leads into class c.
+fn are_ranged(m: &[u32], work: &[u32], r: u32, c: u32) -> bool
+    requires { ⌜ Interpreted (now m) (now work) ⌝ }
+    ensures { λ t. ⌜ t ≡ obeys (factsOf (now (m .entry))) (range r c) ⌝ }
+{
+    let mut f = first_fact(m);
+    while f != 0 {
+        if !is_ranged(m, work, f, r, c) {
+            return false;
+        }
+        f = fact_next(m, f);
+    }
+    true
+}
+
+// Whether record f gives its individual no second value of name a, kind 2 for a role's and 3 for a feature's. A first is noted.
+fn note(m: &[u32], work: &mut [u32], f: u32, kind: u32, a: u32) -> bool
+    requires { ⌜ Stated (now m) f × Readable (now m) × (2 ≤ kind) × (workSize ≤ length (now work)) ⌝ }
+    ensures { λ r. ⌜ r ≡ agrees (now (work .entry)) (linkOf kind a (factAt (now (m .entry)) f)) ⌝ }
+    ensures { λ _. ⌜ now (work .exit) ≡ noted (now (work .entry)) (linkOf kind a (factAt (now (m .entry)) f)) ⌝ }
+{
+    if fact_kind(m, f) != kind {
+        return true;
+    }
+    if fact_name(m, f) != a {
+        return true;
+    }
+    let at = place(fact_owner(m, f) - 1);
+    let x = fact_other(m, f);
+    if work[FLAGS + at] != 0 {
+        return work[VALUES + at] == x;
+    }
+    work[FLAGS + at] = 1;
+    work[VALUES + at] = x;
+    true
+}
+
+// Whether no individual has two values of name a, by one walk over the records.
+fn is_single(m: &[u32], work: &mut [u32], kind: u32, a: u32) -> bool
+    requires { ⌜ Readable (now m) × (2 ≤ kind) × (workSize ≤ length (now work)) ⌝ }
+    ensures { λ r. ⌜ r ≡ single (linksOf kind a (factsOf (now (m .entry)))) ⌝ }
+    ensures { λ _. ⌜ Only valuesAt tablesSize (now (work .entry)) (now (work .exit)) ⌝ }
+{
+    clear(work, FLAGS, MOST);
+    let mut f = first_fact(m);
+    while f != 0 {
+        if !note(m, work, f, kind, a) {
+            return false;
+        }
+        f = fact_next(m, f);
+    }
+    true
+}
+
+// Whether what record k of the vocabulary states is so.
+fn is_obeyed(v: &[u32], m: &[u32], work: &mut [u32], k: u32) -> bool
+    requires { ⌜ Interpreted (now m) (now work) ⌝ }
+    ensures { λ r. ⌜ r ≡ obeys (factsOf (now (m .entry))) (axiomAt (now (v .entry)) k) ⌝ }
+    ensures { λ _. ⌜ Only valuesAt tablesSize (now (work .entry)) (now (work .exit)) ⌝ }
+{
+    let kind = axiom_kind(v, k);
+    let a = axiom_left(v, k);
+    let b = axiom_right(v, k);
+    match kind {
+        1 => do_follow(work, individual_count(m), a, b, false),
+        2 => do_follow(work, individual_count(m), a, b, true),
+        3 => is_single(m, work, 2, a),
+        4 => is_single(m, work, 3, a),
+        _ => are_ranged(m, work, a, b),
+    }
+}
+
+// Whether all that the vocabulary states is so.
+fn are_obeyed(v: &[u32], m: &[u32], work: &mut [u32]) -> bool
+    requires { ⌜ (vocabularyRefusal (now v) ≡ 0) × Interpreted (now m) (now work) ⌝ }
+    ensures { λ r. ⌜ r ≡ isModel (factsOf (now (m .entry))) (vocabularyOf (now (v .entry))) ⌝ }
+    ensures { λ _. ⌜ Only valuesAt tablesSize (now (work .entry)) (now (work .exit)) ⌝ }
+{
+    let mut k = first_axiom(v);
+    while k != 0 {
+        if !is_obeyed(v, m, work, k) {
+            return false;
+        }
+        k = axiom_next(v, k);
+    }
+    true
+}
+
+// Whether the model satisfies the vocabulary. The sets of classes are left for whoever asks of the same model.
+pub fn is_satisfied(v: &[u32], m: &[u32], work: &mut [u32]) -> bool
+    requires { ⌜ (vocabularyRefusal (now v) ≡ 0) × Readable (now m) × (workSize ≤ length (now work)) ⌝ }
+    ensures { λ r. ⌜ Satisfied (now (v .entry)) (now (m .entry)) (now (work .entry)) (now (work .exit)) r ⌝ }
+{
+    enter_all(m, work);
+    are_obeyed(v, m, work)
+}
