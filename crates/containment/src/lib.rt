@@ -1,12 +1,12 @@
-// The operations on policies: Possible, Compliance, Equality.
+// The operations Possible and Compliance.
 use decision::decide;
 use decision::has_too_many;
 use hierarchy::Functional;
-use meaning::Comparison;
 use meaning::Possibility;
 use meaning::Verdict;
 use policy::first_term;
 use policy::next_of;
+use splitting::ENDS;
 use splitting::collect;
 use workspace::WORK;
 use workspace::clear;
@@ -17,10 +17,9 @@ ghost use mathlib.Core.List.{List};
 ghost use mathlib.Core.Path.{_≡_};
 ghost use Prim.Native.Nat.{ℕ, _≤_};
 ghost use lib.ListN.{length};
-ghost use Rattle.containment.specs.Verdicts.{BothEnds, Comparable, ComparedBy, Complied, DifferenceBy, Equated, PossibleBy};
-ghost use Rattle.containment.specs.Verdicts.{SettledBy, sidedAnswer};
+ghost use Rattle.containment.specs.Verdicts.{Complied, PossibleBy, SettledBy};
 ghost use Rattle.decision.specs.Decisions.{Ready};
-ghost use Rattle.meaning.specs.Answers.{comparisonAnswer, possibilityAnswer, verdictAnswer};
+ghost use Rattle.meaning.specs.Answers.{possibilityAnswer};
 ghost use Rattle.meaning.specs.Operations.{possibility, workAfter, workSize};
 ghost use Rattle.workspace.specs.Work.{Accepting, Beyond};
 
@@ -42,9 +41,6 @@ fn first_possible(p: &[u32], work: &mut [u32], f: Functional) -> Possibility
     }
     Possibility::Impossible
 }
-
-// Room for the ends of the other policy.
-const ENDS: usize = 2048;
 
 // What Compliance answers behind 21: 22 for every simple policy of p before any verdict.
 fn settle(p: &[u32], q: &[u32], work: &mut [u32], f: Functional, out: &mut [u32]) -> Verdict
@@ -91,72 +87,4 @@ pub fn compliance(v: &[u32], p: &[u32], q: &[u32], work: &mut [u32], out: &mut [
     let verdict = settle(p, q, work, f, out);
     clear(work, 0, WORK);
     verdict
-}
-
-// The verdict of one direction as an answer of Equality.
-fn sided(side: u32, verdict: Verdict) -> Comparison
-    ensures { λ r. ⌜ comparisonAnswer r ≡ sidedAnswer side (verdictAnswer verdict) ⌝ }
-{
-    match verdict {
-        Verdict::Compliant => Comparison::Equal,
-        Verdict::Outside(s, c, n) => Comparison::Differs(side, s, c, n),
-        Verdict::Refused(n) => Comparison::Refused(n),
-    }
-}
-
-// The first direction's difference, else the second's.
-fn differ(
-    p: &[u32],
-    q: &[u32],
-    work: &mut [u32],
-    f: Functional,
-    first: &[u32],
-    second: &[u32],
-    out: &mut [u32],
-) -> Comparison
-    requires { ⌜ ((v : List ℕ) × Comparable v (now p) (now q) (now work) f) × BothEnds (now p) (now q) (now first) (now second) ⌝ }
-    ensures { λ r. ⌜ DifferenceBy (now (p .entry)) (now (q .entry)) (now (work .entry)) f (now (out .entry)) (now (out .exit)) r ⌝ }
-    ensures { λ _. ⌜ Beyond (now (work .entry)) (now (work .exit)) × (length (now (out .exit)) ≡ length (now (out .entry))) ⌝ }
-{
-    let forth = decide(p, q, work, f, second, out);
-    match forth {
-        Verdict::Compliant => sided(2, decide(q, p, work, f, first, out)),
-        Verdict::Outside(s, c, n) => Comparison::Differs(1, s, c, n),
-        Verdict::Refused(n) => Comparison::Refused(n),
-    }
-}
-
-// What Equality answers behind 21: 22 for both directions before any verdict.
-fn compare(p: &[u32], q: &[u32], work: &mut [u32], f: Functional, out: &mut [u32]) -> Comparison
-    requires { ⌜ ((v : List ℕ) × Ready v (now p) (now q) (now work) f) ⌝ }
-    ensures { λ r. ⌜ ComparedBy (now (p .entry)) (now (q .entry)) (now (work .entry)) f (now (out .entry)) (now (out .exit)) r ⌝ }
-    ensures { λ _. ⌜ Beyond (now (work .entry)) (now (work .exit)) × (length (now (out .exit)) ≡ length (now (out .entry))) ⌝ }
-{
-    let mut room = [0; ENDS];
-    let n = collect(p, &mut room);
-    let first = &room[..n];
-    let mut space = [0; ENDS];
-    let m = collect(q, &mut space);
-    let second = &space[..m];
-    let forth = has_too_many(p, work, f, second);
-    let back = has_too_many(q, work, f, first);
-    if forth | back {
-        return Comparison::Refused(22);
-    }
-    differ(p, q, work, f, first, second, out)
-}
-
-// Equality: the same refusals in the same order, 22 for both directions; then the first direction's difference, the second's, or
-// equal. Time grows as that of two calls of Compliance.
-pub fn equality(v: &[u32], p: &[u32], q: &[u32], work: &mut [u32], out: &mut [u32]) -> Comparison
-    ensures { λ r. ⌜ Equated (now (v .entry)) (now (p .entry)) (now (q .entry)) (now (work .entry)) (now (work .exit)) (now (out .entry)) (now (out .exit)) r ⌝ }
-{
-    let refusal = work_refusal(policy::input_refusal(v, p, q), work);
-    if refusal != 0 {
-        return Comparison::Refused(refusal);
-    }
-    let f = prepare(v, work);
-    let comparison = compare(p, q, work, f, out);
-    clear(work, 0, WORK);
-    comparison
 }

@@ -5,7 +5,8 @@ use mathlib.Core.Logic.{_↔_}
 use mathlib.Core.Path.{_∙_, _≡_, ap, refl, sym}
 use lib.ListN.{length, take}
 use native.Mathlib.Omega.{arith}
-use Rattle.containment.specs.Verdicts.{Complied, Equated}
+use Rattle.containment.specs.Verdicts.{Complied}
+use Rattle.equality.specs.Comparisons.{Equated}
 use Rattle.decision.proofs.Deciding.{taken}
 use Rattle.meaning.proofs.Checking.{check-right}
 use Rattle.meaning.proofs.Compliance.{compliance-told}

@@ -1,4 +1,4 @@
--- Demand 3: whatever `containment::equality` leaves behind is `Equated`, and here is what follows, with what Compliance leaves behind.
+-- Demand 3: whatever `equality::equality` leaves behind is `Equated`, and here is what follows, with what Compliance leaves behind.
 use Prim.Native.Nat.{ℕ}
 use mathlib.Core.Bool.{Bool, cond, false, true}
 use mathlib.Core.List.{List, []}
@@ -8,7 +8,8 @@ use lib.Dec.{leb}
 use lib.ListN.{length}
 use native.Mathlib.Omega.{arith}
 use borrow.Author.Tests.{le-leb, le-ltb}
-use Rattle.containment.specs.Verdicts.{Complied, Equated}
+use Rattle.containment.specs.Verdicts.{Complied}
+use Rattle.equality.specs.Comparisons.{Equated}
 use Rattle.demands.proofs.Verdicts.{Answers, compliant-only, compliant-where}
 use Rattle.demands.specs.Enough.{Comparable, Long}
 use Rattle.meaning.proofs.Equality.{equal-right, equality-compared, indistinct-right}

@@ -1,8 +1,8 @@
 // The operations for C: gimbuka.h says how each is called. A function returns the kind of answer and writes the answer's values through
 // references. Kind 0 is a refusal, with its number.
 use containment::compliance;
-use containment::equality;
 use containment::possible;
+use equality::equality;
 use meaning::Checked;
 use meaning::Comparison;
 use meaning::Possibility;

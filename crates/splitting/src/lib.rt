@@ -57,6 +57,9 @@ fn collect_from(q: &[u32], ends: &mut [u32], k: u32, n: usize) -> usize
     collect_from(q, ends, next, n)
 }
 
+// Room for the ends of a policy: four words for each of its records.
+pub const ENDS: usize = 2048;
+
 // The ends of every constraint that the policy reaches, as given: pairs of a feature and an end. The answer counts the words.
 pub fn collect(q: &[u32], ends: &mut [u32]) -> usize
     requires { ⌜ Collectable (now q) (now ends) ⌝ }

@@ -7,8 +7,8 @@ use mathlib.Core.Path.{_∙_, _≡_, ap, refl, subst, subst₂, sym}
 use lib.Dec.{leb}
 use lib.ListN.{length}
 use native.Mathlib.Omega.{arith}
 use Rattle.containment.proofs.Complying.{in-order, ready-back, ready-stays}
-use Rattle.containment.specs.Verdicts.{Comparable, Compares, RightComparison, compared, difference, reverse, sidedAnswer}
+use Rattle.equality.specs.Comparisons.{Comparable, Compares, RightComparison, compared, difference, reverse, sidedAnswer}
 use Rattle.decision.proofs.Deciding.{outputs-none, taken}
 use Rattle.decision.specs.Decisions.{Countable, Delivers, Ready, decision}
 use Rattle.hierarchy.specs.declared.Functional.{Functional}

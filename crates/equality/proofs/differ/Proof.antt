@@ -1,9 +1,9 @@
 -- `differ`: by the verdict of the first direction.
 use mathlib.Core.Path.{_∙_}
 use borrow.Author.Needs.{needs}
-use Rattle.containment.proofs.Comparing.{countable-back, countable-forth, differs-back, differs-outside, differs-refused}
-use Rattle.containment.proofs.differ.Statement.{statement}
-use Rattle.containment.proofs.differ.Tie as tie
+use Rattle.equality.proofs.Comparing.{countable-back, countable-forth, differs-back, differs-outside, differs-refused}
+use Rattle.equality.proofs.differ.Statement.{statement}
+use Rattle.equality.proofs.differ.Tie as tie
 use Rattle.workspace.proofs.Laws.{beyond-then}
 
 decide-requires-2 : tie.Need-decide-requires-2

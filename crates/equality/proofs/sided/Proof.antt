@@ -1,8 +1,8 @@
 use mathlib.Core.Path.{ap, sym}
 use borrow.Author.Needs.{needs}
-use Rattle.containment.proofs.sided.Statement.{statement}
-use Rattle.containment.proofs.sided.Tie as tie
-use Rattle.containment.specs.Verdicts.{sidedAnswer}
+use Rattle.equality.proofs.sided.Statement.{statement}
+use Rattle.equality.proofs.sided.Tie as tie
+use Rattle.equality.specs.Comparisons.{sidedAnswer}
 use Rattle.meaning.specs.Answers.{verdictAnswer}
 use Rattle.meaning.specs.declared.Verdict.{Verdict}
 

@@ -3,10 +3,10 @@ use mathlib.Core.Path.{_∙_, refl, sym}
 use lib.Seq.{length-take-le}
 use native.Mathlib.Omega.{arith}
 use borrow.Author.Needs.{needs}
-use Rattle.containment.proofs.Comparing.{compares-22, compares-both, compares-none}
+use Rattle.equality.proofs.Comparing.{compares-22, compares-both, compares-none}
 use Rattle.containment.proofs.Complying.{ready-accepts, ready-back, ready-stays}
-use Rattle.containment.proofs.compare.Statement.{statement}
-use Rattle.containment.proofs.compare.Tie as tie
+use Rattle.equality.proofs.compare.Statement.{statement}
+use Rattle.equality.proofs.compare.Tie as tie
 use Rattle.meaning.proofs.Wellformed.{accepted}
 use Rattle.splitting.proofs.Callers.{collectable}
 use Rattle.workspace.proofs.Laws.{beyond-then}

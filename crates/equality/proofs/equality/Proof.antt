@@ -1,11 +1,11 @@
 use lib.ListN.{length}
 use native.Mathlib.Omega.{arith}
 use borrow.Author.Needs.{needs}
-use Rattle.containment.proofs.Comparing.{compared-work, compares, compares-refused, compares-right}
+use Rattle.equality.proofs.Comparing.{compared-work, compares, compares-refused, compares-right}
 use Rattle.containment.proofs.Complying.{complies-accepted, complies-few, complies-full, complies-ready}
 use Rattle.containment.proofs.Laws.{early-work}
-use Rattle.containment.proofs.equality.Statement.{statement}
-use Rattle.containment.proofs.equality.Tie as tie
+use Rattle.equality.proofs.equality.Statement.{statement}
+use Rattle.equality.proofs.equality.Tie as tie
 
 returns : tie.Need-returns
 returns c =
