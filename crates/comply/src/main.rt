@@ -1,7 +1,7 @@
 // Reads a vocabulary and two policies from standard input, and says whether the first policy complies with the second.
+use input::INPUT;
 use libc::STDIN_FILENO;
 use libc::STDOUT_FILENO;
-use text::INPUT;
 use text::TEXT;
 
 fn main() {

@@ -1,18 +1,18 @@
 // The program as a function: from the bytes of standard input to the bytes printed.
 use containment::compliance;
+use input::decode;
+use input::is_exact;
+use input::is_short;
+use input::next_part;
+use input::part;
 use meaning::Verdict;
-use text::decode;
-use text::is_exact;
-use text::is_short;
-use text::next_part;
-use text::part;
 use text::put_verdict;
 ghost use mathlib.Core.Path.{_≡_};
 ghost use Prim.Native.Nat.{_*_, _/_, _≤_};
 ghost use lib.ListN.{length, take};
 ghost use Rattle.meaning.specs.Operations.{workSize};
 ghost use Rattle.meaning.specs.Program.{program};
-ghost use Rattle.text.specs.Input.{decided, decidedWords, mostBytes, outputSize};
+ghost use Rattle.input.specs.Input.{decided, decidedWords, mostBytes, outputSize};
 ghost use Rattle.text.specs.Text.{Shows, textSize};
 
 // The verdict on the words of an input of so many bytes.

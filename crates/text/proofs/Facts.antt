@@ -16,7 +16,7 @@ use Rattle.meaning.specs.Operations.{says}
 use Rattle.meaning.specs.Program.{answerLine, edge-text, factLine, line, member-text, outside-text, printed, value-text}
 use Rattle.meaning.specs.declared.Verdict.the-variants.{Outside}
 use Rattle.text.proofs.Printing.{put-as, put-then}
-use Rattle.text.proofs.Words.{counted}
+use Rattle.input.proofs.Words.{counted}
 use Rattle.text.specs.Text.{Model, Put, recordsTo, shown}
 
 -- the line of record k, of the words read

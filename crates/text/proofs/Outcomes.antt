@@ -21,7 +21,7 @@ use Rattle.meaning.specs.declared.Verdict.{Verdict}
 use Rattle.meaning.specs.declared.Verdict.the-variants.{Compliant, Outside, Refused}
 use Rattle.text.proofs.Facts.{line-printed}
 use Rattle.text.proofs.Printing.{put-taken}
-use Rattle.text.specs.Input.{decided, decidedWords, exact, mostBytes, outputSize, partsEnd, thirdPart}
+use Rattle.input.specs.Input.{decided, decidedWords, exact, mostBytes, outputSize, partsEnd, thirdPart}
 use Rattle.text.specs.Text.{Put, Shows, shown}
 
 -- ---- what is decided

@@ -10,7 +10,7 @@ use Rattle.meaning.specs.ModelCheck.{factAt}
 use Rattle.meaning.specs.Operations.{Outcome}
 use Rattle.meaning.specs.declared.Verdict.{Verdict}
 use Rattle.meaning.specs.declared.Verdict.the-variants.{Compliant, Outside, Refused}
-use Rattle.text.specs.Input.{outputSize}
+use Rattle.input.specs.Input.{outputSize}
 use Rattle.words.specs.Rows.{putAt}
 
 -- the most bytes of a line: a name of at most 7, three numbers of at most ten digits with a space each, a line feed

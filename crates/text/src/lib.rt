@@ -1,85 +1,17 @@
-// The program's work on bytes: the words and the parts of its input, and the lines that it prints.
+// The program's output: the lines that it prints.
 use meaning::Verdict;
 use records::word;
-use words::place;
 ghost use mathlib.Core.List.{[], _∷_};
 ghost use mathlib.Core.Path.{_≡_};
 ghost use Prim.Native.Nat.{_*_, _+_, _/_, _≤_, _<_};
-ghost use lib.Dec.{leb};
-ghost use lib.ListN.{length, take};
+ghost use lib.ListN.{length};
 ghost use Rattle.meaning.specs.Lists.{flatMap};
 ghost use Rattle.meaning.specs.ModelCheck.{factAt};
-ghost use Rattle.meaning.specs.Program.{compliant-text, decimal, factLine, line, nextPart, partAt, printed, refused-text, wordAt, wordsOf};
-ghost use Rattle.text.specs.Input.{exact, mostBytes};
+ghost use Rattle.meaning.specs.Program.{compliant-text, decimal, factLine, line, printed, refused-text};
 ghost use Rattle.text.specs.Text.{Put, Reported, mostLine, recordsTo, shown, textSize};
-
-// An input that is longer is refused unread.
-pub const INPUT: usize = 65536;
 
 // The bytes of a text that every answer fits in.
 pub const TEXT: usize = 41 * 3277;
-
-fn wide(x: u8) -> u32
-    ensures { λ r. ⌜ (r ≡ x) × (r < 256) ⌝ }
-{
-    x as u32
-}
-
-// Word i, its lowest byte first.
-fn word_at(input: &[u8], i: usize) -> u32
-    requires { ⌜ 4 * i + 3 < length (now input) ⌝ }
-    ensures { λ r. ⌜ r ≡ wordAt (now (input .entry)) i ⌝ }
-{
-    let a = wide(input[4 * i]);
-    let b = wide(input[4 * i + 1]);
-    let c = wide(input[4 * i + 2]);
-    let d = wide(input[4 * i + 3]);
-    a + 256 * b + 65536 * c + 16777216 * d
-}
-
-// The words of the input; bytes behind the last whole word are left.
-pub fn decode(input: &[u8], words: &mut [u32])
-    requires { ⌜ length (now input) / 4 ≤ length (now words) ⌝ }
-    ensures { λ _. ⌜ take (length (now (input .entry)) / 4) (now (words .exit)) ≡ wordsOf (now (input .entry)) ⌝ }
-{
-    for i in 0..input.len() / 4 {
-        words[i] = word_at(input, i);
-    }
-}
-
-pub fn is_short(bytes: usize) -> bool
-    ensures { λ r. ⌜ r ≡ leb bytes mostBytes ⌝ }
-{
-    bytes <= INPUT
-}
-
-// Where the part behind the one at word i begins: past the end of the words, perhaps.
-pub fn next_part(words: &[u32], i: usize) -> usize
-    requires { ⌜ i ≤ 8589934592 ⌝ }
-    ensures { λ r. ⌜ r ≡ nextPart (now (words .entry)) i ⌝ }
-    ensures { λ r. ⌜ r ≤ i + 4294967296 ⌝ }
-{
-    i + 1 + place(word(words, i))
-}
-
-// Whether an input of so many bytes is exactly as long as its three parts.
-pub fn is_exact(bytes: usize, words: &[u32]) -> bool
-    ensures { λ r. ⌜ r ≡ exact bytes (now (words .entry)) ⌝ }
-{
-    let p = next_part(words, 0);
-    let q = next_part(words, p);
-    bytes == 4 * next_part(words, q)
-}
-
-// The part at word i: a word count and its words.
-pub fn part(words: &[u32], i: usize) -> &[u32]
-    requires { ⌜ (nextPart (now words) i ≤ length (now words)) × (i ≤ 8589934592) ⌝ }
-    ensures { λ r. ⌜ now r ≡ partAt (now (words .entry)) i ⌝ }
-{
-    let from = i + 1;
-    let to = next_part(words, i);
-    &words[from..to]
-}
 
 // One byte, and the place behind it.
 fn put_byte(text: &mut [u8], at: usize, x: u8) -> usize

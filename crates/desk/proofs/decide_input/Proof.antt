@@ -8,7 +8,7 @@ use native.Mathlib.Omega.{arith}
 use Rattle.text.proofs.Outcomes.{decided-long, input-shown, refusal-shown}
 use Rattle.desk.proofs.decide_input.Statement.{statement}
 use Rattle.desk.proofs.decide_input.Tie as tie
-use Rattle.text.specs.Input.{mostBytes}
+use Rattle.input.specs.Input.{mostBytes}
 
 pub decide-input-spec : {M : Type 1} → statement M
 decide-input-spec =

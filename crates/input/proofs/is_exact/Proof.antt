@@ -1,8 +1,8 @@
 -- `is_exact`: the places of the parts, one behind the other.
 use borrow.Author.Needs.{needs}
-use Rattle.text.proofs.Words.{exact-parts}
-use Rattle.text.proofs.is_exact.Statement.{statement}
-use Rattle.text.proofs.is_exact.Tie as tie
+use Rattle.input.proofs.Words.{exact-parts}
+use Rattle.input.proofs.is_exact.Statement.{statement}
+use Rattle.input.proofs.is_exact.Tie as tie
 
 pub is-exact-spec : {M : Type 1} → statement M
 is-exact-spec =

@@ -1,8 +1,8 @@
 -- `part`: from behind the word count to the next part.
 use borrow.Author.Needs.{needs}
-use Rattle.text.proofs.Words.{part-taken}
-use Rattle.text.proofs.part.Statement.{statement}
-use Rattle.text.proofs.part.Tie as tie
+use Rattle.input.proofs.Words.{part-taken}
+use Rattle.input.proofs.part.Statement.{statement}
+use Rattle.input.proofs.part.Tie as tie
 
 pub part-spec : {M : Type 1} → statement M
 part-spec =

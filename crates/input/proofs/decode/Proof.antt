@@ -7,9 +7,9 @@ use lib.ListN.{length, length-set, set, take}
 use native.Mathlib.Omega.{arith}
 use Rattle.meaning.specs.Lists.{counting}
 use Rattle.meaning.specs.Program.{wordAt}
-use Rattle.text.proofs.Words.{decode-more}
-use Rattle.text.proofs.decode.Statement.{statement}
-use Rattle.text.proofs.decode.Tie as tie
+use Rattle.input.proofs.Words.{decode-more}
+use Rattle.input.proofs.decode.Statement.{statement}
+use Rattle.input.proofs.decode.Tie as tie
 
 abbrev Inv-loop : tie.InvT-loop
 Inv-loop input words₀ i₀ i-end words i =
