@@ -27,12 +27,13 @@ const OPERATIONS: [&str; 7] = [
     "model_check",
 ];
 
-/// Both sides have the same functions, so one text calls either.
+/// What a side answers, given the slices as they are lent. Both sides have the same functions, so one text calls either.
 macro_rules! told {
-    ($side:ident, $case:expr) => {{
+    ($side:ident, $case:expr, $lent:expr) => {{
         let case: &Case = $case;
-        let mut work = [case.work(), case.work(), case.work(), case.work()];
-        let mut out = [case.out(), case.out()];
+        let (lent_work, lent_out): &(Vec<u32>, Vec<u32>) = $lent;
+        let mut work = [(); 4].map(|()| lent_work.clone());
+        let mut out = [(); 2].map(|()| lent_out.clone());
         let answers = [
             format!("{:?}", $side::read_vocabulary(&case.v)),
             format!("{:?}", $side::read_policy(&case.v, &case.p)),
@@ -49,17 +50,24 @@ macro_rules! told {
     }};
 }
 
+/// What library and reasoner tell of a case. The random words of its slices are made once.
+fn both(case: &Case) -> [Told; 2] {
+    let lent = (case.work(), case.out());
+    [told!(gimbuka, case, &lent), told!(reasoner, case, &lent)]
+}
+
 fn differs(case: &Case) -> bool {
-    told!(gimbuka, case) != told!(reasoner, case)
+    let [ours, theirs] = both(case);
+    ours != theirs
 }
 
 /// Counts a case's answers, or gives the case where the sides differ.
 fn judge(tally: &mut Tally, case: &Case) -> Result<(), Box<Case>> {
-    let told = told!(gimbuka, case);
-    if told != told!(reasoner, case) {
+    let [ours, theirs] = both(case);
+    if ours != theirs {
         return Err(Box::new(case.clone()));
     }
-    for (operation, answer) in OPERATIONS.iter().zip(&told.answers) {
+    for (operation, answer) in OPERATIONS.iter().zip(&ours.answers) {
         let kind = if answer.starts_with("Refused") {
             answer
         } else {
@@ -93,7 +101,7 @@ fn answers() -> impl Iterator<Item = String> {
 
 fn report(name: &str, small: &Case) {
     println!("{name} differs; made small:\n{small}");
-    let (ours, theirs) = (told!(gimbuka, small), told!(reasoner, small));
+    let [ours, theirs] = both(small);
     for (at, operation) in OPERATIONS.iter().enumerate() {
         println!("{operation}: library {}, reasoner {}", ours.answers[at], theirs.answers[at]);
     }
