@@ -101,16 +101,21 @@ module _ {c : Chain} {f : Functional} {w w′ : List ℕ} {t : Tables} (d : Shap
     pub shape-impossible : t .blocked ≡ true → false ≡ exceeds (vocabularyOf v) Q c
     shape-impossible h = rw (d .barred v g o h)
 
+    pub shape-within : product Q (constraintsAt w′ (t .intervals)) ≤ mostCombinations → false ≡ exceeds (vocabularyOf v) Q c
+    shape-within l =
+        let b = subst (λ (m : ℕ). m ≤ mostCombinations) (product-at (d .tabled v g o) Q) l in
+        rw (le-ltb mostCombinations _ b) (go (possible (vocabularyOf v) c))
+      where
+        go : (b : Bool) → false ≡ (b && false)
+        go true = refl
+        go false = refl
+
     module _ {n : ℕ} (e : n ≡ min (product Q (constraintsAt w′ (t .intervals))) (suc mostCombinations)) where
       counted : ltb mostCombinations n ≡ ltb mostCombinations (combinationCount Q (normalForm (vocabularyOf v) c))
       counted = capped n _ (e ∙ ap (λ (m : ℕ). min m (suc mostCombinations)) (product-at (d .tabled v g o) Q))
 
       pub shape-few : n ≤ mostCombinations → false ≡ exceeds (vocabularyOf v) Q c
-      shape-few l = rw (sym counted ∙ le-ltb mostCombinations n l) (go (possible (vocabularyOf v) c))
-        where
-          go : (b : Bool) → false ≡ (b && false)
-          go true = refl
-          go false = refl
+      shape-few l = shape-within (omega arith)
 
       pub shape-many : {b : Bool} → t .blocked ≡ false → mostCombinations < n → TellsClean w′ t b → b ≡ exceeds (vocabularyOf v) Q c
       shape-many h l q =

@@ -6,6 +6,7 @@ use normal_form::is_clean;
 use policy::first_term;
 use policy::next_of;
 use splitting::combinations;
+use splitting::may_exceed;
 use trial::first_failure;
 use workspace::shape;
 use workspace::tabulate;
@@ -27,7 +28,8 @@ ghost use Rattle.workspace.specs.Work.{Accepting, Beyond, Stays};
 // The most combinations of a simple policy.
 const MOST: usize = 65536;
 
-// Whether the simple policy at record k is possible and has too many combinations. Few do, so the look at the pairs comes last.
+// Whether the simple policy at record k is possible and has too many combinations. Mostly a glance at the number of ends tells that it
+// has not; few have, so the look at the pairs comes last.
 fn is_too_many(p: &[u32], work: &mut [u32], f: Functional, ends: &[u32], k: u32) -> bool
     requires { ⌜ (workSize ≤ length (now work)) × Fit (now p) (now work) k × (pairCount (now work) ≤ mostPairs) ⌝ }
     ensures { λ r. ⌜ Exceeds (termAt (now (p .entry)) k) (now (ends .entry)) (now (work .entry)) f r ⌝ }
@@ -35,6 +37,9 @@ fn is_too_many(p: &[u32], work: &mut [u32], f: Functional, ends: &[u32], k: u32)
 {
     let t = shape(p, work, f, k);
     if t.blocked {
+        return false;
+    }
+    if !may_exceed(ends, t.intervals) {
         return false;
     }
     if combinations(ends, work, t.intervals) <= MOST {

@@ -5,6 +5,7 @@ pub mod Scanning
 pub mod Pieces
 pub mod Storing
 pub mod Ways
+pub mod Most
 pub mod Turning
 pub mod Places
 pub mod Whole

@@ -4,6 +4,7 @@ use mathlib.Core.List.{List, map}
 use mathlib.Core.Path.{_≡_}
 use lib.ListN.{getD, length, set}
 use Rattle.combination.specs.Combination.{pieceAt}
+use Rattle.meaning.specs.Containment.{mostCombinations}
 use Rattle.meaning.specs.Counting.{At}
 use Rattle.meaning.specs.Lists.{counting}
 use Rattle.meaning.specs.NormalForm.{Interval}
@@ -33,6 +34,10 @@ pub record Splittable (w : List ℕ) (n : ℕ) : Type 0 where
 -- how many pieces constraint m has
 abbrev pub pieceCount : Policy → List ℕ → ℕ → ℕ
 pieceCount Q w m = length (pieces Q (constraintAt w m))
+
+-- the first n have at most 65,536 combinations, whatever they are, for whatever policy the pairs are the ends of
+abbrev pub Few : List ℕ → ℕ → Type 0
+Few e n = (Q : Policy) → Ends Q e → (w : List ℕ) → product Q (constraintsAt w n) ≤ mostCombinations
 
 -- the pieces of the first n constraints are those of combination k, counted from 0, "the last varying fastest":
 -- the last one's piece stands at place d, and those before it are of combination j

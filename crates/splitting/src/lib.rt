@@ -10,6 +10,7 @@ use policy::kind_of;
 use policy::lo_of;
 use policy::name_of;
 use policy::next_of;
+ghost use mathlib.Core.Bool.{false};
 ghost use mathlib.Core.Path.{_≡_};
 ghost use Prim.Native.Nat.{_+_, _<_, _≤_, min, suc};
 ghost use lib.ListN.{length};
@@ -20,7 +21,7 @@ ghost use Rattle.normal_form.specs.Parts.{chainAt};
 ghost use Rattle.normal_form.specs.Steps.{intervalOf};
 ghost use Rattle.normal_form.specs.Tables.{mostEntries, tablesEnd};
 ghost use Rattle.splitting.specs.Ends.{Chained, Collectable, Collected, Ends, Paired, endsIn, least, nearer, pairsPut, upper};
-ghost use Rattle.splitting.specs.Odometer.{Splittable, Started, Stepped, Widened, constraintsAt, piecePut};
+ghost use Rattle.splitting.specs.Odometer.{Few, Splittable, Started, Stepped, Widened, constraintsAt, piecePut};
 
 // The most combinations that a call tries.
 const MOST: usize = 65536;
@@ -128,6 +129,23 @@ fn count(ends: &[u32], f: u32, lo: u32, hi: u32) -> usize
         c += 1;
     }
     c
+}
+
+// Whether n constraints may have over 65,536 combinations, by how many ends there are alone: a constraint has at most as many pieces
+// as the ends have words, and three more.
+pub fn may_exceed(ends: &[u32], n: usize) -> bool
+    ensures { λ r. ⌜ (r ≡ false → Few (now (ends .entry)) n) ⌝ }
+{
+    let most = ends.len() + 3;
+    let room = MOST / most;
+    let mut all: usize = 1;
+    for i in 0..n {
+        if room < all {
+            return true;
+        }
+        all = all * most;
+    }
+    false
 }
 
 // How many combinations the first n constraints have, 65,537 where they are more than 65,536.

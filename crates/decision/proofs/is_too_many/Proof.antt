@@ -1,5 +1,7 @@
 use native.Mathlib.Omega.{arith}
-use Rattle.decision.proofs.Deciding.{shape-few, shape-impossible, shape-many, shape-splittable}
+use borrow.Author.Needs.{needs}
+use borrow.Author.Tests.{not-true}
+use Rattle.decision.proofs.Deciding.{shape-few, shape-impossible, shape-many, shape-splittable, shape-within}
 use Rattle.decision.proofs.is_too_many.Statement.{statement}
 use Rattle.decision.proofs.is_too_many.Tie as tie
 
@@ -10,21 +12,34 @@ returns c =
 
 returns-2 : tie.Need-returns-2
 returns-2 c =
-    let d = c .before .before .before .before .before .before .shape .ensures in
-    (λ v g o Q n. shape-few d g o Q (c .before .combinations .ensures Q n) (c .if2 .taken), (d .prepared, d .beyond))
+    let d = c .before .before .before .before .before .shape .ensures in
+    (λ v g o Q n. shape-within d g o Q (c .before .may-exceed .ensures (not-true _ (c .if2 .taken)) Q n _), (d .prepared, d .beyond))
 
-is-clean-requires : tie.Need-is-clean-requires
-is-clean-requires c κs =
-    let p = c .before .before .before .before .before .before .before .before .before .before .before .before .pre in
-    let d = c .before .before .before .before .before .before .before .shape .ensures in
-    let s = d .beyond .size in
-    let t = d .pairs in
-    ((omega (arith, p .2), omega (arith, p .0)), d .most)
+combinations-requires : tie.Need-combinations-requires
+combinations-requires c κs =
+    let s = c .before .before .before .before .before .before .before .before .before .before .before in
+    shape-splittable (c .before .before .before .before .before .before .shape .ensures) (s .pre .0) (c .before .before .before .if1 .left)
 
 returns-3 : tie.Need-returns-3
 returns-3 c =
     let d = c .before .before .before .before .before .before .before .before .shape .ensures in
-    (λ v g o Q n. shape-many d g o Q (c .before .before .before .combinations .ensures Q n) (c .before .before .before .before .before .if1 .left) (c .before .before .if2 .left) (c .is-clean .ensures), (d .prepared, d .beyond))
+    (λ v g o Q n. shape-few d g o Q (c .before .combinations .ensures Q n) (c .if3 .taken), (d .prepared, d .beyond))
+
+is-clean-requires : tie.Need-is-clean-requires
+is-clean-requires c κs =
+    let p = c .before .before .before .before .before .before .before .before .before .before .before .before .before .before .pre in
+    let d = c .before .before .before .before .before .before .before .before .before .shape .ensures in
+    let s = d .beyond .size in
+    let t = d .pairs in
+    ((omega (arith, p .2), omega (arith, p .0)), d .most)
+
+returns-4 : tie.Need-returns-4
+returns-4 c =
+    let d = c .before .before .before .before .before .before .before .before .before .before .shape .ensures in
+    let b = c .before .before .before .before .before .before .before .if1 .left in
+    let m = c .before .before .if3 .left in
+    let e = c .before .before .before .combinations .ensures in
+    (λ v g o Q n. shape-many d g o Q (e Q n) b m (c .is-clean .ensures), (d .prepared, d .beyond))
 
 pub is-too-many-spec : {M : Type 1} → statement M
 is-too-many-spec =
@@ -33,9 +48,12 @@ is-too-many-spec =
     (λ c κs. (c .before .before .before .before .pre .0, c .before .before .before .before .pre .1))
     (λ c. c .before .before .before .shape .ensures .beyond .size)
     returns
-    (λ c κs. shape-splittable (c .before .before .before .before .shape .ensures) (c .before .before .before .before .before .before .before .before .before .pre .0) (c .before .if1 .left))
-    (λ c. c .before .before .before .before .before .before .shape .ensures .beyond .size)
+    (λ c κs. search needs)
+    (λ c. c .before .before .before .before .before .shape .ensures .beyond .size)
     returns-2
-    is-clean-requires
+    combinations-requires
     (λ c. c .before .before .before .before .before .before .before .before .shape .ensures .beyond .size)
-    returns-3)
+    returns-3
+    is-clean-requires
+    (λ c. c .before .before .before .before .before .before .before .before .before .before .shape .ensures .beyond .size)
+    returns-4)
