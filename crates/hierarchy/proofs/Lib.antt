@@ -2,6 +2,7 @@
 pub mod Rows
 pub mod Passes
 pub mod Steps
+pub mod Raising
 pub mod Singles
 pub mod Ranges
 pub mod Pairs

@@ -123,7 +123,7 @@ module _ (v w₀ : List ℕ) (fits : classCount v * classWords ≤ length w₀) 
           self-at c n false e = subst T (sym (other c c n e)) (h .self c n)
 
     -- a record's step
-    held-lifted : (x : Axiom) → x ∈ vocabularyOf v → AxiomOf v x → Held v w₀ (lifted w x)
+    pub held-lifted : (x : Axiom) → x ∈ vocabularyOf v → AxiomOf v x → Held v w₀ (lifted w x)
     held-lifted (below a b) m n = held-joined a b m (n .0) (n .1)
     held-lifted (disjoint a b) m n = h
     held-lifted (functionalRole r) m n = h

@@ -1,9 +1,9 @@
 -- One law for each return of the functions, over plain lists and numbers. Assumes nothing.
-use Prim.Native.Nat.{_*_, _+_, _-_, _<_, _^_, _≤_, ℕ}
+use Prim.Native.Nat.{_*_, _+_, _<_, _≤_, ℕ}
 use lib.Dec.{eqb}
-use lib.ListN.{getD, length}
+use lib.ListN.{length}
 use mathlib.Core.Bool.{Bool, So, false, true, true≢false}
-use mathlib.Core.List.{List, foldl}
+use mathlib.Core.List.{List}
 use mathlib.Core.Logic.{_↔_}
 use mathlib.Core.Path.{_≡_, _∙_, ap, refl, subst, sym}
 use native.Mathlib.Numerals.{add-one}
@@ -11,12 +11,10 @@ use native.Mathlib.Omega.{arith}
 use borrow.Author.Tests.{ne-eqb}
 use Rattle.meaning.proofs.Links.{Name, choose, split, tests}
 use Rattle.meaning.proofs.Wellformed.{AxiomOf, axiom-named}
-use Rattle.meaning.specs.Vocabulary.{Axiom, axiomAt, axiomFits, axiomKind, axiomLeft, axiomRight, below, classCount, disjoint, functionalFeature, functionalRole, mostClasses, range, roleCount, vocabularyOf, vocabularyRefusal}
-use Rattle.words.proofs.Growth.{sum-most}
+use Rattle.meaning.specs.Vocabulary.{Axiom, axiomAt, axiomFits, axiomKind, axiomLeft, axiomRight, below, classCount, disjoint, functionalFeature, functionalRole, mostClasses, range, roleCount}
 use Rattle.words.specs.Rows.{classWords, putAt}
 use Rattle.words.specs.Sets.{unionOf, wordSum}
-use Rattle.hierarchy.specs.Rows.{Closed, Grown, RoleRoom, begun, emptied, empty, filled, joined, lifted, roleRow, rowOf, rowPlace, widened}
-use Rattle.hierarchy.proofs.Passes.{Held, held-closed, held-on, held-starts}
+use Rattle.hierarchy.specs.Rows.{Grown, RoleRoom, emptied, empty, filled, joined, lifted, roleRow, rowOf, rowPlace, widened}
 use Rattle.hierarchy.proofs.Rows.{Fits, filled-length, joined-length, joined-more, joined-still}
 
 -- `begin` and `empty_ranges`
@@ -139,41 +137,3 @@ module _ (g d : Bool) {f : Bool} (w u t : List ℕ) (p : Grown g w u) (q : Grown
   grown-still e z =
       let still : Grown false u t = subst (λ (b : Bool). Grown b u t) e q in
       rw z (subst (λ (l : List ℕ). Grown g w l) (sym still) p)
-
--- `close`: what may still grow
-abbrev pub slack : ℕ → List ℕ → ℕ
-slack n w = n * 2 ^ 32 - wordSum w
-
--- from w₀, with the rows begun in u
-module _ (v w₀ u : List ℕ) {n : ℕ} (r : vocabularyRefusal v ≡ 0) (f : classCount v * classWords ≤ length w₀) (e : n ≡ classCount v) (b : u ≡ begun n w₀) where
-  begins : Held v w₀ u
-  begins = held-starts v w₀ f r (b ∙ ap (λ (i : ℕ). begun i w₀) e)
-
-  pub close-starts : Held v u u
-  close-starts = record { size = refl; rest = refl; sound = begins .sound; self = begins .self }
-
-  module _ {w : List ℕ} (h : Held v u w) where
-    pub close-fits : classCount v * classWords ≤ length w
-    close-fits = omega (arith, h .size, begins .size)
-
-    -- a pass from w to t
-    module _ {t : List ℕ} (p : t ≡ foldl lifted w (vocabularyOf v)) where
-      pub close-on : Held v u t
-      close-on = held-on v u (omega (arith, begins .size)) r h p
-
-      pub close-length : length t ≡ length w₀
-      close-length = close-on .size ∙ begins .size
-
-      module _ {d : Bool} (g : Grown d w t) where
-        pub close-less : d ≡ true → ((k : ℕ) → getD t k 0 < 2 ^ 32) → slack (length u) t < slack (length u) w
-        close-less z m =
-            let more : Grown true w t = subst (λ (b : Bool). Grown b w t) z g in
-            let most = sum-most t (2 ^ 32) m in
-            let size = ap (λ (i : ℕ). i * 2 ^ 32) (close-on .size) in
-            omega arith
-
-        pub close-ends : d ≡ false → Closed v w₀ t
-        close-ends z =
-            let still : Grown false w t = subst (λ (b : Bool). Grown b w t) z g in
-            let last = held-closed v u (omega (arith, begins .size)) r h (sym p ∙ still) in
-            rw still (record { size = last .size ∙ begins .size; rest = last .rest ∙ begins .rest; closed = last .closed })

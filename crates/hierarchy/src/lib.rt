@@ -21,9 +21,10 @@ ghost use mathlib.Core.List.{List, foldl};
 ghost use Prim.Native.Nat.{ℕ, _+_, _*_, _≤_};
 ghost use lib.ListN.{length};
 ghost use Rattle.meaning.specs.NormalForm.{single, singleFeature};
-ghost use Rattle.meaning.specs.Vocabulary.{axiomAt, axiomFits, classCount, roleCount, vocabularyOf, vocabularyRefusal};
+ghost use Rattle.meaning.specs.Vocabulary.{axiomAt, axiomFits, classCount, mostClasses, roleCount, vocabularyOf, vocabularyRefusal};
 ghost use Rattle.words.specs.Rows.{classWords};
-ghost use Rattle.words.specs.Sets.{inSet};
+ghost use Rattle.words.specs.Sets.{inSet, wordSum};
+ghost use Rattle.hierarchy.specs.Index.{Heads, Met, Nexts, Raised, records};
 ghost use Rattle.hierarchy.specs.Pairs.{Listed, PairRoom, enlisted, pairPlace, pairsEnd, withPair};
 ghost use Rattle.hierarchy.specs.Rows.{begun, Closed, ClosedRows, emptied, Grown, joined, lifted, Ranged};
 ghost use Rattle.hierarchy.specs.Rows.{RoleRoom, roleRow, rowOf, rowPlace, TellsAbove, TellsBelow, TellsRanged, widened};
@@ -102,13 +103,75 @@ fn pass(v: &[u32], work: &mut [u32]) -> bool
     grown
 }
 
-// Writes the rows of the classes, by passes until one changes nothing. Time grows with passes, records and words of a set: two
-// passes where the upper records come first, at worst, in a chain from below, as many as classes.
+// A head for each class, and a next for each record that a vocabulary may have: both count from 1.
+const HEADS: usize = ClassSet::MOST as usize + 1;
+
+const NEXTS: usize = 1024 + 1;
+
+// Record k becomes the first of its class, where it says that the class is below another.
+fn enter(v: &[u32], heads: &mut [u32; HEADS], next: &mut [u32; NEXTS], k: u32)
+    requires { ⌜ (classCount (now v) ≤ mostClasses) × Met (now v) k × Heads (now v) (now heads) k × Nexts (now v) (now next) ⌝ }
+    ensures { λ _. ⌜ Heads (now (v .entry)) (now (heads .exit)) (k + 1) × Nexts (now (v .entry)) (now (next .exit)) ⌝ }
+{
+    if axiom_kind(v, k) != 1 {
+        return;
+    }
+    let a = place(axiom_left(v, k));
+    next[place(k)] = heads[a];
+    heads[a] = k;
+}
+
+// The records that put a class below another, class by class: a class's head is its last one in the chain, and a record's next the one before.
+fn index(v: &[u32], heads: &mut [u32; HEADS], next: &mut [u32; NEXTS])
+    requires { ⌜ (vocabularyRefusal (now v) ≡ 0) × Heads (now v) (now heads) 0 × Nexts (now v) (now next) ⌝ }
+    ensures { λ _. ⌜ Heads (now (v .entry)) (now (heads .exit)) records × Nexts (now (v .entry)) (now (next .exit)) ⌝ }
+{
+    let mut k = first_axiom(v);
+    while k != 0 {
+        enter(v, heads, next, k);
+        k = axiom_next(v, k);
+    }
+}
+
+// What is above class c, after what is above the classes that its records put it below. A class's list is taken when it is met, so that
+// none is met twice, and a cycle ends.
+fn raise(v: &[u32], work: &mut [u32], heads: &mut [u32; HEADS], next: &[u32; NEXTS], c: u32)
+    requires { ⌜ (vocabularyRefusal (now v) ≡ 0) × (classCount (now v) * classWords ≤ length (now work)) × (c ≤ mostClasses) ⌝ }
+    requires { ⌜ Heads (now v) (now heads) records × Nexts (now v) (now next) ⌝ }
+    ensures { λ _. ⌜ Raised (now (v .entry)) (now (work .entry)) (now (work .exit)) ⌝ }
+    ensures { λ _. ⌜ Heads (now (v .entry)) (now (heads .exit)) records × (wordSum (now (heads .exit)) ≤ wordSum (now (heads .entry))) ⌝ }
+{
+    let at = place(c);
+    let mut k = heads[at];
+    heads[at] = 0;
+    while k != 0 {
+        raise(v, work, heads, next, axiom_right(v, k));
+        lift(v, work, k);
+        k = next[place(k)];
+    }
+}
+
+// Each class's row takes in those above it, the upper first, whatever the records' order: without a cycle nothing is left to a pass.
+fn raise_all(v: &[u32], work: &mut [u32])
+    requires { ⌜ (vocabularyRefusal (now v) ≡ 0) × (classCount (now v) * classWords ≤ length (now work)) ⌝ }
+    ensures { λ _. ⌜ Raised (now (v .entry)) (now (work .entry)) (now (work .exit)) ⌝ }
+{
+    let mut heads = [0; HEADS];
+    let mut next = [0; NEXTS];
+    index(v, &mut heads, &mut next);
+    for i in 0..class_count(v) {
+        raise(v, work, &mut heads, &next, i + 1);
+    }
+}
+
+// Writes the rows of the classes: the upper first, then by passes until one changes nothing. Time grows with passes, records and words
+// of a set: one pass where no class is above itself by records, at worst as many as classes.
 pub fn close(v: &[u32], work: &mut [u32])
     requires { ⌜ (vocabularyRefusal (now v) ≡ 0) × (classCount (now v) * classWords ≤ length (now work)) ⌝ }
     ensures { λ _. ⌜ Closed (now (v .entry)) (now (work .entry)) (now (work .exit)) ⌝ }
 {
     begin(work, class_count(v));
+    raise_all(v, work);
     while pass(v, work) {}
 }
 

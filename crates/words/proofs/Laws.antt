@@ -39,7 +39,7 @@ unfolding inSet
 in-past ws zero h = refl
 in-past ws (suc i) h = ap (λ (w : ℕ). testBit w (i % 32)) (List·getD-eq-default ws 0 (omega arith)) ∙ bit-none (i % 32)
 
-zeros-at : (n j : ℕ) → _≡_ {A = ℕ} (getD (replicate n 0) j 0) 0
+pub zeros-at : (n j : ℕ) → _≡_ {A = ℕ} (getD (replicate n 0) j 0) 0
 zeros-at zero j = refl
 zeros-at (suc n) zero = refl
 zeros-at (suc n) (suc j) = zeros-at n j

@@ -1,0 +1,263 @@
+-- The index: what enters it, and the rows that are raised by it. Assumes nothing.
+use Prim.Native.Nat.{_*_, _+_, _-_, _<_, _^_, _≤_, suc, zero, ℕ}
+use lib.ListN.{getD, length, replicate, set}
+use mathlib.Core.Bool.{Bool, false, true}
+use mathlib.Core.List.{List, [], _∷_, foldl}
+use mathlib.Core.Logic.{inl, inr}
+use mathlib.Core.Path.{_≡_, _∙_, ap, refl, subst, sym}
+use native.Mathlib.Omega.{arith}
+use Rattle.meaning.proofs.Links.{Name, Onward, falling, falls, passed, tests}
+use Rattle.meaning.proofs.Rules.{all-at}
+use Rattle.meaning.proofs.Wellformed.{accepted-axioms, accepted-counts, axiom-named}
+use Rattle.meaning.specs.Lists.{_∈_, here, there}
+use Rattle.meaning.specs.Records.{lastOf}
+use Rattle.meaning.specs.Vocabulary.{Axiom, Vocabulary, axiomAt, axiomFits, axiomKind, axiomLeft, axiomNext, axiomRight, below, classCount, firstAxiom, mostClasses, vocabularyOf, vocabularyRefusal}
+use Rattle.vocabulary.proofs.Chain.{States, accepted-states, states-more, states-none}
+use Rattle.words.proofs.Growth.{sum-most}
+use Rattle.words.proofs.Laws.{zeros-at}
+use Rattle.words.specs.Rows.{classWords}
+use Rattle.words.specs.Sets.{wordSum}
+use Rattle.hierarchy.specs.Index.{Entry, Heads, Met, Nexts, Raised, Rises, raised-more, raised-none, records}
+use Rattle.hierarchy.specs.Rows.{Closed, Grown, begun, lifted}
+use Rattle.hierarchy.proofs.Passes.{Held, held-closed, held-lifted, held-on, held-starts}
+use Rattle.hierarchy.proofs.Steps.{lifted-length}
+
+-- ---- entries
+
+-- what is true of each word of a list, after one is set
+set-all : (P : ℕ → ℕ → Type 0) (l : List ℕ) (i x : ℕ) → ((j : ℕ) → P j (getD l j 0)) → P i x → (j : ℕ) → P j (getD (set l i x) j 0)
+set-all P [] i x all new j = all j
+set-all P (y ∷ l) zero x all new zero = new
+set-all P (y ∷ l) zero x all new (suc j) = all (suc j)
+set-all P (y ∷ l) (suc i) x all new zero = all zero
+set-all P (y ∷ l) (suc i) x all new (suc j) = set-all (λ n. P (suc n)) l i x (λ n. all (suc n)) new j
+
+-- the two names of a record that says that a class is below another
+rising-named : (v : List ℕ) (k : ℕ) → axiomKind v k ≡ 1 → axiomFits v k ≡ true → Name (classCount v) (axiomLeft v k) × Name (classCount v) (axiomRight v k)
+rising-named v k e f =
+    let is : axiomAt v k ≡ below (axiomLeft v k) (axiomRight v k) = rw e in
+    rw is at (axiom-named v k f)
+
+module _ (v : List ℕ) where
+  pub heads-none : (n b : ℕ) → Heads v (replicate n 0) b
+  heads-none n b = record { at = λ a z. absurd (z (zeros-at n a)) }
+
+  pub nexts-none : (n : ℕ) → Nexts v (replicate n 0)
+  nexts-none n = record { at = λ k z. absurd (z (zeros-at n k)) }
+
+  later : {h : List ℕ} {b b′ : ℕ} → b ≤ b′ → Heads v h b → Heads v h b′
+  later l e = record { at = λ a z. let x = e .at a z in (omega (arith, x .0), x .1) }
+
+  -- `enter`: record k is of another kind, or a is its class
+  module _ (h n : List ℕ) (k : ℕ) (pre : (classCount v ≤ mostClasses) × Met v k × Heads v h k × Nexts v n) where
+    pub enter-other : Heads v h (k + 1) × Nexts v n
+    enter-other = (later (omega arith) (pre .2), pre .3)
+
+    module _ {kind a : ℕ} (e : kind ≡ axiomKind v k) (o : kind ≡ 1) (p : a ≡ axiomLeft v k) where
+      pub enter-class : a ≤ mostClasses
+      enter-class = let l = rising-named v k (sym e ∙ o) (pre .1 .fits) .0 in omega (arith, pre .0)
+
+      pub enter-below : {m : ℕ} → m ≡ k → Heads v (set h a k) (k + 1) × Nexts v (set n m (getD h a 0))
+      enter-below q =
+          let new : Rises v k = record { met = pre .1; kind = sym e ∙ o } in
+          rw q (
+            record { at = set-all (λ i x. Entry v (k + 1) x) h a k (enter-other .0 .at) (λ z. (omega arith, new)) },
+            record { at = set-all (λ i x. Entry v i x) n k (getD h a 0) (pre .3 .at) (pre .2 .at a) },
+          )
+
+-- ---- the walk that fills the index
+
+-- at record k, where 0 is behind the last
+abbrev before : ℕ → ℕ
+before zero = records
+before (suc j) = suc j
+
+-- what is left of the chain at k, and what the index has so far
+pub record Indexing (v h n : List ℕ) (k : ℕ) : Type 0 where
+  pub left : Vocabulary
+  pub states : States v k left
+  pub among : (x : Axiom) → x ∈ left → x ∈ vocabularyOf v
+  pub heads : Heads v h (before k)
+  pub nexts : Nexts v n
+
+accepted-last : (v : List ℕ) → vocabularyRefusal v ≡ 0 → lastOf 4 v ≤ 1024
+unfolding vocabularyRefusal
+accepted-last v h = let u = simp (passed 0, passed 1, tests) at h in omega (arith, u .0)
+
+module _ (v : List ℕ) (r : vocabularyRefusal v ≡ 0) where
+  pub indexing-starts : {h n : List ℕ} {k : ℕ} → Heads v h 0 → Nexts v n → k ≡ firstAxiom v → Indexing v h n k
+  indexing-starts {k = k} p q e =
+      record { left = vocabularyOf v; states = rw e (accepted-states v r); among = λ x m. m; heads = later v (omega arith) p; nexts = q }
+
+  module _ {h n : List ℕ} {k : ℕ} (w : Indexing v h n k) where
+    pub indexing-ends : k ≡ 0 → Heads v h records × Nexts v n
+    indexing-ends z = (subst (λ (i : ℕ). Heads v h (before i)) z (w .heads), w .nexts)
+
+    module _ (z : k ≡ 0 → ⊥) where
+      at-record : (j : ℕ) → (j ≡ 0 → ⊥) → before j ≡ j
+      at-record zero y = absurd (y refl)
+      at-record (suc j) y = refl
+
+      pub indexing-met : (classCount v ≤ mostClasses) × Met v k × Heads v h k × Nexts v n
+      indexing-met = (accepted-counts v r .0 .1, go (w .states) (w .among), rw (at-record k z) at (w .heads), w .nexts)
+        where
+          go : {K : Vocabulary} → States v k K → ((x : Axiom) → x ∈ K → x ∈ vocabularyOf v) → Met v k
+          go (states-none e) m = absurd (z e)
+          go (states-more i f o s) m =
+              record { within = (i .0, omega (arith, i .1, accepted-last v r)); fits = f; stated = m (axiomAt v k) (here refl) }
+
+      module _ {x : ℕ} (p : x ≡ axiomNext v k) where
+        pub indexing-falls : falling (lastOf 4 v) x < falling (lastOf 4 v) k
+        indexing-falls = go (w .states)
+          where
+            go : {K : Vocabulary} → States v k K → falling (lastOf 4 v) x < falling (lastOf 4 v) k
+            go (states-none e) = absurd (z e)
+            go (states-more i f o m) = rw p (falls (lastOf 4 v) k (axiomNext v k) i o)
+
+        pub indexing-on : {h′ n′ : List ℕ} → Heads v h′ (k + 1) × Nexts v n′ → Indexing v h′ n′ x
+        indexing-on {h′} {n′} e = go (w .states) (w .among)
+          where
+            further : (y : ℕ) → Name (lastOf 4 v) k → Onward (lastOf 4 v) k y → k + 1 ≤ before y
+            further zero i o = omega (arith, i .1, accepted-last v r)
+            further (suc y) i (inl q) = absurd (omega arith)
+            further (suc y) i (inr q) = omega (arith, q .0)
+
+            go : {K : Vocabulary} → States v k K → ((y : Axiom) → y ∈ K → y ∈ vocabularyOf v) → Indexing v h′ n′ x
+            go (states-none q) m = absurd (z q)
+            go (states-more {K = K} i f o s) m =
+                record { left = K; states = rw p s; among = λ y t. m y (there t); heads = later v (further x i (rw p o)) (e .0); nexts = e .1 }
+
+-- ---- rows that are raised
+
+module _ {v w : List ℕ} where
+  pub raised-then : {u t : List ℕ} → Raised v w u → Raised v u t → Raised v w t
+  raised-then a (raised-none e) = rw e a
+  raised-then a (raised-more b m e) = raised-more (raised-then a b) m e
+
+  pub raised-length : vocabularyRefusal v ≡ 0 → classCount v * classWords ≤ length w → {t : List ℕ} → Raised v w t → length t ≡ length w
+  raised-length r f (raised-none e) = ap length e
+  raised-length r f (raised-more {u = u} {x = x} b m e) =
+      let l = raised-length r f b in
+      ap length e ∙ (lifted-length v u x (all-at (accepted-axioms v r) m) (omega arith) ∙ l)
+
+  pub raised-held : vocabularyRefusal v ≡ 0 → {w₀ t : List ℕ} → classCount v * classWords ≤ length w₀ → Held v w₀ w → Raised v w t → Held v w₀ t
+  raised-held r f h (raised-none e) = rw e h
+  raised-held r {w₀ = w₀} f h (raised-more {x = x} b m e) =
+      rw e (held-lifted v w₀ f (raised-held r f h b) x m (all-at (accepted-axioms v r) m))
+
+-- ---- `raise`
+
+-- a head that is taken leaves a smaller sum
+taken : (h : List ℕ) (i : ℕ) → wordSum (set h i 0) + getD h i 0 ≡ wordSum h
+unfolding wordSum
+taken [] i = refl
+taken (x ∷ h) zero = omega arith
+taken (x ∷ h) (suc i) = omega (arith, taken h i)
+
+-- from the rows w₀ and the heads h₀, of which k₀ is taken: record k is next
+pub record Raising (v w₀ h₀ : List ℕ) (k₀ : ℕ) (w h : List ℕ) (k : ℕ) : Type 0 where
+  pub raised : Raised v w₀ w
+  pub heads : Heads v h records
+  pub fewer : wordSum h ≤ wordSum h₀
+  pub entry : Entry v records k
+  pub lower : k ≤ k₀
+
+module _ (v w₀ h₀ : List ℕ) (i : ℕ) (p : Heads v h₀ records) where
+  pub raising-starts : Raising v w₀ (set h₀ i 0) (getD h₀ i 0) w₀ (set h₀ i 0) (getD h₀ i 0)
+  raising-starts = record {
+    raised = raised-none refl;
+    heads = record { at = set-all (λ j x. Entry v records x) h₀ i 0 (p .at) (λ z. absurd (z refl)) };
+    fewer = omega arith;
+    entry = p .at i;
+    lower = omega arith;
+  }
+
+  module _ {n w h : List ℕ} {k : ℕ} (q : Nexts v n) (r : vocabularyRefusal v ≡ 0) (f : classCount v * classWords ≤ length w₀)
+      (l : Raising v w₀ (set h₀ i 0) (getD h₀ i 0) w h k) where
+    pub raising-length : length w ≡ length w₀
+    raising-length = raised-length r f (l .raised)
+
+    pub raising-ends : Raised v w₀ w × (Heads v h records × (wordSum h ≤ wordSum h₀))
+    raising-ends = (l .raised, (l .heads, omega (arith, l .fewer, taken h₀ i)))
+
+    module _ (z : k ≡ 0 → ⊥) where
+      rises : Rises v k
+      rises = l .entry z .1
+
+      -- the class above it, for the call
+      pub raising-falls : wordSum h < wordSum h₀
+      raising-falls = omega (arith, l .fewer, l .lower, taken h₀ i)
+
+      pub raising-class : {b : ℕ} → b ≡ axiomRight v k → b ≤ mostClasses
+      raising-class e = let b = rising-named v k (rises .kind) (rises .met .fits) .1 in omega (arith, accepted-counts v r .0 .1)
+
+      -- its own row, after the call
+      pub raising-fits : {u : List ℕ} → Raised v w u → (axiomFits v k ≡ true) × (classCount v * classWords ≤ length u)
+      raising-fits a = (rises .met .fits, omega (arith, raised-length r f (raised-then (l .raised) a)))
+
+      pub raising-within : k < records
+      raising-within = l .entry z .0
+
+      -- the next record
+      pub raising-less : {m : ℕ} → m ≡ k → getD n m 0 < k
+      raising-less e = rw e (go (getD n k 0) refl)
+        where
+          go : (x : ℕ) → getD n k 0 ≡ x → getD n k 0 < k
+          go zero y = omega (arith, z)
+          go (suc x) y = q .at k (λ t. omega arith) .0
+
+      pub raising-on : {u t h′ : List ℕ} {m : ℕ} → Raised v w u → Heads v h′ records × (wordSum h′ ≤ wordSum h) → t ≡ lifted u (axiomAt v k) → m ≡ k →
+          Raising v w₀ (set h₀ i 0) (getD h₀ i 0) t h′ (getD n m 0)
+      raising-on {m = m} a b e s = record {
+        raised = raised-more (raised-then (l .raised) a) (rises .met .stated) e;
+        heads = b .0;
+        fewer = omega (arith, l .fewer, b .1);
+        entry = λ y. let x = q .at m y in (omega (arith, x .0, raising-within), x .1);
+        lower = omega (arith, l .lower, raising-less s);
+      }
+
+-- `close`: what may still grow
+abbrev pub slack : ℕ → List ℕ → ℕ
+slack n w = n * 2 ^ 32 - wordSum w
+
+-- from w₀, with the rows begun in x and raised in u
+module _ (v w₀ x : List ℕ) {n : ℕ} (r : vocabularyRefusal v ≡ 0) (f : classCount v * classWords ≤ length w₀) (e : n ≡ classCount v) (b : x ≡ begun n w₀) where
+  starts : Held v w₀ x
+  starts = held-starts v w₀ f r (b ∙ ap (λ (i : ℕ). begun i w₀) e)
+
+  pub close-begun : classCount v * classWords ≤ length x
+  close-begun = omega (arith, starts .size)
+
+module _ (v w₀ x u : List ℕ) {n : ℕ} (r : vocabularyRefusal v ≡ 0) (f : classCount v * classWords ≤ length w₀) (e : n ≡ classCount v) (b : x ≡ begun n w₀)
+    (a : Raised v x u) where
+  begins : Held v w₀ u
+  begins = raised-held r f (starts v w₀ x r f e b) a
+
+  pub close-starts : Held v u u
+  close-starts = record { size = refl; rest = refl; sound = begins .sound; self = begins .self }
+
+  module _ {w : List ℕ} (h : Held v u w) where
+    pub close-fits : classCount v * classWords ≤ length w
+    close-fits = omega (arith, h .size, begins .size)
+
+    -- a pass from w to t
+    module _ {t : List ℕ} (p : t ≡ foldl lifted w (vocabularyOf v)) where
+      pub close-on : Held v u t
+      close-on = held-on v u (omega (arith, begins .size)) r h p
+
+      pub close-length : length t ≡ length w₀
+      close-length = close-on .size ∙ begins .size
+
+      module _ {d : Bool} (g : Grown d w t) where
+        pub close-less : d ≡ true → ((k : ℕ) → getD t k 0 < 2 ^ 32) → slack (length u) t < slack (length u) w
+        close-less z m =
+            let more : Grown true w t = subst (λ (b : Bool). Grown b w t) z g in
+            let most = sum-most t (2 ^ 32) m in
+            let size = ap (λ (i : ℕ). i * 2 ^ 32) (close-on .size) in
+            omega arith
+
+        pub close-ends : d ≡ false → Closed v w₀ t
+        close-ends z =
+            let still : Grown false w t = subst (λ (b : Bool). Grown b w t) z g in
+            let last = held-closed v u (omega (arith, begins .size)) r h (sym p ∙ still) in
+            rw still (record { size = last .size ∙ begins .size; rest = last .rest ∙ begins .rest; closed = last .closed })
