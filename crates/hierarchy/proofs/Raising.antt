@@ -17,7 +17,7 @@ use Rattle.words.proofs.Growth.{sum-most}
 use Rattle.words.proofs.Laws.{zeros-at}
 use Rattle.words.specs.Rows.{classWords}
 use Rattle.words.specs.Sets.{wordSum}
-use Rattle.hierarchy.specs.Index.{Entry, Heads, Met, Nexts, Raised, Rises, raised-more, raised-none, records}
+use Rattle.hierarchy.specs.Index.{Entry, Heads, Met, Nexts, Raisable, Raised, Rises, raised-more, raised-none, records}
 use Rattle.hierarchy.specs.Rows.{Closed, Grown, begun, lifted}
 use Rattle.hierarchy.proofs.Passes.{Held, held-closed, held-lifted, held-on, held-starts}
 use Rattle.hierarchy.proofs.Steps.{lifted-length}
@@ -33,7 +33,8 @@ set-all P (y ∷ l) (suc i) x all new zero = all zero
 set-all P (y ∷ l) (suc i) x all new (suc j) = set-all (λ n. P (suc n)) l i x (λ n. all (suc n)) new j
 
 -- the two names of a record that says that a class is below another
-rising-named : (v : List ℕ) (k : ℕ) → axiomKind v k ≡ 1 → axiomFits v k ≡ true → Name (classCount v) (axiomLeft v k) × Name (classCount v) (axiomRight v k)
+rising-named : (v : List ℕ) (k : ℕ) → axiomKind v k ≡ 1 → axiomFits v k ≡ true →
+    Name (classCount v) (axiomLeft v k) × Name (classCount v) (axiomRight v k)
 rising-named v k e f =
     let is : axiomAt v k ≡ below (axiomLeft v k) (axiomRight v k) = rw e in
     rw is at (axiom-named v k f)
@@ -125,7 +126,8 @@ module _ (v : List ℕ) (r : vocabularyRefusal v ≡ 0) where
             go : {K : Vocabulary} → States v k K → ((y : Axiom) → y ∈ K → y ∈ vocabularyOf v) → Indexing v h′ n′ x
             go (states-none q) m = absurd (z q)
             go (states-more {K = K} i f o s) m =
-                record { left = K; states = rw p s; among = λ y t. m y (there t); heads = later v (further x i (rw p o)) (e .0); nexts = e .1 }
+                let on = further x i (rw p o) in
+                record { left = K; states = rw p s; among = λ y t. m y (there t); heads = later v on (e .0); nexts = e .1 }
 
 -- ---- rows that are raised
 
@@ -140,7 +142,8 @@ module _ {v w : List ℕ} where
       let l = raised-length r f b in
       ap length e ∙ (lifted-length v u x (all-at (accepted-axioms v r) m) (omega arith) ∙ l)
 
-  pub raised-held : vocabularyRefusal v ≡ 0 → {w₀ t : List ℕ} → classCount v * classWords ≤ length w₀ → Held v w₀ w → Raised v w t → Held v w₀ t
+  pub raised-held : vocabularyRefusal v ≡ 0 → {w₀ t : List ℕ} → classCount v * classWords ≤ length w₀ → Held v w₀ w → Raised v w t →
+      Held v w₀ t
   raised-held r f h (raised-none e) = rw e h
   raised-held r {w₀ = w₀} f h (raised-more {x = x} b m e) =
       rw e (held-lifted v w₀ f (raised-held r f h b) x m (all-at (accepted-axioms v r) m))
@@ -162,20 +165,19 @@ pub record Raising (v w₀ h₀ : List ℕ) (k₀ : ℕ) (w h : List ℕ) (k : �
   pub entry : Entry v records k
   pub lower : k ≤ k₀
 
-module _ (v w₀ h₀ : List ℕ) (i : ℕ) (p : Heads v h₀ records) where
+module _ (v w₀ h₀ n : List ℕ) {c : ℕ} (i : ℕ) (p : Raisable v w₀ h₀ n c) where
   pub raising-starts : Raising v w₀ (set h₀ i 0) (getD h₀ i 0) w₀ (set h₀ i 0) (getD h₀ i 0)
   raising-starts = record {
     raised = raised-none refl;
-    heads = record { at = set-all (λ j x. Entry v records x) h₀ i 0 (p .at) (λ z. absurd (z refl)) };
+    heads = record { at = set-all (λ j x. Entry v records x) h₀ i 0 (p .heads .at) (λ z. absurd (z refl)) };
     fewer = omega arith;
-    entry = p .at i;
+    entry = p .heads .at i;
     lower = omega arith;
   }
 
-  module _ {n w h : List ℕ} {k : ℕ} (q : Nexts v n) (r : vocabularyRefusal v ≡ 0) (f : classCount v * classWords ≤ length w₀)
-      (l : Raising v w₀ (set h₀ i 0) (getD h₀ i 0) w h k) where
+  module _ {w h : List ℕ} {k : ℕ} (l : Raising v w₀ (set h₀ i 0) (getD h₀ i 0) w h k) where
     pub raising-length : length w ≡ length w₀
-    raising-length = raised-length r f (l .raised)
+    raising-length = raised-length (p .accepted) (p .room) (l .raised)
 
     pub raising-ends : Raised v w₀ w × (Heads v h records × (wordSum h ≤ wordSum h₀))
     raising-ends = (l .raised, (l .heads, omega (arith, l .fewer, taken h₀ i)))
@@ -184,19 +186,25 @@ module _ (v w₀ h₀ : List ℕ) (i : ℕ) (p : Heads v h₀ records) where
       rises : Rises v k
       rises = l .entry z .1
 
-      -- the class above it, for the call
+      pub raising-within : k < records
+      raising-within = l .entry z .0
+
+      -- the call for the class above
       pub raising-falls : wordSum h < wordSum h₀
       raising-falls = omega (arith, l .fewer, l .lower, taken h₀ i)
 
-      pub raising-class : {b : ℕ} → b ≡ axiomRight v k → b ≤ mostClasses
-      raising-class e = let b = rising-named v k (rises .kind) (rises .met .fits) .1 in omega (arith, accepted-counts v r .0 .1)
+      pub raising-call : {b : ℕ} → b ≡ axiomRight v k → Raisable v w h n b
+      raising-call e = record {
+        accepted = p .accepted;
+        room = omega (arith, p .room, raising-length);
+        class = omega (arith, rising-named v k (rises .kind) (rises .met .fits) .1 .1, accepted-counts v (p .accepted) .0 .1);
+        heads = l .heads;
+        nexts = p .nexts;
+      }
 
-      -- its own row, after the call
+      -- the record's own step, after the call
       pub raising-fits : {u : List ℕ} → Raised v w u → (axiomFits v k ≡ true) × (classCount v * classWords ≤ length u)
-      raising-fits a = (rises .met .fits, omega (arith, raised-length r f (raised-then (l .raised) a)))
-
-      pub raising-within : k < records
-      raising-within = l .entry z .0
+      raising-fits a = (rises .met .fits, omega (arith, p .room, raised-length (p .accepted) (p .room) (raised-then (l .raised) a)))
 
       -- the next record
       pub raising-less : {m : ℕ} → m ≡ k → getD n m 0 < k
@@ -204,15 +212,15 @@ module _ (v w₀ h₀ : List ℕ) (i : ℕ) (p : Heads v h₀ records) where
         where
           go : (x : ℕ) → getD n k 0 ≡ x → getD n k 0 < k
           go zero y = omega (arith, z)
-          go (suc x) y = q .at k (λ t. omega arith) .0
+          go (suc x) y = p .nexts .at k (λ t. omega arith) .0
 
-      pub raising-on : {u t h′ : List ℕ} {m : ℕ} → Raised v w u → Heads v h′ records × (wordSum h′ ≤ wordSum h) → t ≡ lifted u (axiomAt v k) → m ≡ k →
-          Raising v w₀ (set h₀ i 0) (getD h₀ i 0) t h′ (getD n m 0)
+      pub raising-on : {u t h′ : List ℕ} {m : ℕ} → Raised v w u → Heads v h′ records × (wordSum h′ ≤ wordSum h) →
+          t ≡ lifted u (axiomAt v k) → m ≡ k → Raising v w₀ (set h₀ i 0) (getD h₀ i 0) t h′ (getD n m 0)
       raising-on {m = m} a b e s = record {
         raised = raised-more (raised-then (l .raised) a) (rises .met .stated) e;
         heads = b .0;
         fewer = omega (arith, l .fewer, b .1);
-        entry = λ y. let x = q .at m y in (omega (arith, x .0, raising-within), x .1);
+        entry = λ y. let x = p .nexts .at m y in (omega (arith, x .0, raising-within), x .1);
         lower = omega (arith, l .lower, raising-less s);
       }
 
@@ -221,43 +229,43 @@ abbrev pub slack : ℕ → List ℕ → ℕ
 slack n w = n * 2 ^ 32 - wordSum w
 
 -- from w₀, with the rows begun in x and raised in u
-module _ (v w₀ x : List ℕ) {n : ℕ} (r : vocabularyRefusal v ≡ 0) (f : classCount v * classWords ≤ length w₀) (e : n ≡ classCount v) (b : x ≡ begun n w₀) where
+module _ (v w₀ x : List ℕ) {n : ℕ} (r : vocabularyRefusal v ≡ 0) (f : classCount v * classWords ≤ length w₀) (e : n ≡ classCount v)
+    (b : x ≡ begun n w₀) where
   starts : Held v w₀ x
   starts = held-starts v w₀ f r (b ∙ ap (λ (i : ℕ). begun i w₀) e)
 
   pub close-begun : classCount v * classWords ≤ length x
   close-begun = omega (arith, starts .size)
 
-module _ (v w₀ x u : List ℕ) {n : ℕ} (r : vocabularyRefusal v ≡ 0) (f : classCount v * classWords ≤ length w₀) (e : n ≡ classCount v) (b : x ≡ begun n w₀)
-    (a : Raised v x u) where
-  begins : Held v w₀ u
-  begins = raised-held r f (starts v w₀ x r f e b) a
+  module _ {u : List ℕ} (a : Raised v x u) where
+    begins : Held v w₀ u
+    begins = raised-held r f starts a
 
-  pub close-starts : Held v u u
-  close-starts = record { size = refl; rest = refl; sound = begins .sound; self = begins .self }
+    pub close-starts : Held v u u
+    close-starts = record { size = refl; rest = refl; sound = begins .sound; self = begins .self }
 
-  module _ {w : List ℕ} (h : Held v u w) where
-    pub close-fits : classCount v * classWords ≤ length w
-    close-fits = omega (arith, h .size, begins .size)
+    module _ {w : List ℕ} (h : Held v u w) where
+      pub close-fits : classCount v * classWords ≤ length w
+      close-fits = omega (arith, h .size, begins .size)
 
-    -- a pass from w to t
-    module _ {t : List ℕ} (p : t ≡ foldl lifted w (vocabularyOf v)) where
-      pub close-on : Held v u t
-      close-on = held-on v u (omega (arith, begins .size)) r h p
+      -- a pass from w to t
+      module _ {t : List ℕ} (p : t ≡ foldl lifted w (vocabularyOf v)) where
+        pub close-on : Held v u t
+        close-on = held-on v u (omega (arith, begins .size)) r h p
 
-      pub close-length : length t ≡ length w₀
-      close-length = close-on .size ∙ begins .size
+        pub close-length : length t ≡ length w₀
+        close-length = close-on .size ∙ begins .size
 
-      module _ {d : Bool} (g : Grown d w t) where
-        pub close-less : d ≡ true → ((k : ℕ) → getD t k 0 < 2 ^ 32) → slack (length u) t < slack (length u) w
-        close-less z m =
-            let more : Grown true w t = subst (λ (b : Bool). Grown b w t) z g in
-            let most = sum-most t (2 ^ 32) m in
-            let size = ap (λ (i : ℕ). i * 2 ^ 32) (close-on .size) in
-            omega arith
+        module _ {d : Bool} (g : Grown d w t) where
+          pub close-less : d ≡ true → ((k : ℕ) → getD t k 0 < 2 ^ 32) → slack (length u) t < slack (length u) w
+          close-less z m =
+              let more : Grown true w t = subst (λ (b : Bool). Grown b w t) z g in
+              let most = sum-most t (2 ^ 32) m in
+              let size = ap (λ (i : ℕ). i * 2 ^ 32) (close-on .size) in
+              omega arith
 
-        pub close-ends : d ≡ false → Closed v w₀ t
-        close-ends z =
-            let still : Grown false w t = subst (λ (b : Bool). Grown b w t) z g in
-            let last = held-closed v u (omega (arith, begins .size)) r h (sym p ∙ still) in
-            rw still (record { size = last .size ∙ begins .size; rest = last .rest ∙ begins .rest; closed = last .closed })
+          pub close-ends : d ≡ false → Closed v w₀ t
+          close-ends z =
+              let still : Grown false w t = subst (λ (b : Bool). Grown b w t) z g in
+              let last = held-closed v u (omega (arith, begins .size)) r h (sym p ∙ still) in
+              rw still (record { size = last .size ∙ begins .size; rest = last .rest ∙ begins .rest; closed = last .closed })

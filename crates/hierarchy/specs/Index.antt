@@ -1,12 +1,13 @@
 -- The records that put a class below another, class by class, in two lists: a head for each class, and a next for each record.
-use Prim.Native.Nat.{_<_, ℕ}
+use Prim.Native.Nat.{_*_, _<_, _≤_, ℕ}
 use mathlib.Core.Bool.{true}
 use mathlib.Core.List.{List}
 use mathlib.Core.Path.{_≡_}
-use lib.ListN.{getD}
+use lib.ListN.{getD, length}
 use Rattle.meaning.proofs.Links.{Name}
 use Rattle.meaning.specs.Lists.{_∈_}
-use Rattle.meaning.specs.Vocabulary.{Axiom, axiomAt, axiomFits, axiomKind, vocabularyOf}
+use Rattle.meaning.specs.Vocabulary.{Axiom, axiomAt, axiomFits, axiomKind, classCount, mostClasses, vocabularyOf, vocabularyRefusal}
+use Rattle.words.specs.Rows.{classWords}
 use Rattle.hierarchy.specs.Rows.{lifted}
 
 -- how many records a vocabulary may have, its header among them
@@ -35,6 +36,14 @@ pub record Heads (v h : List ℕ) (b : ℕ) : Type 0 where
 -- each record's next is before it
 pub record Nexts (v n : List ℕ) : Type 0 where
   pub at : (k : ℕ) → Entry v k (getD n k 0)
+
+-- what there is of the index, with the rows of w, when class c is raised
+pub record Raisable (v w h n : List ℕ) (c : ℕ) : Type 0 where
+  pub accepted : vocabularyRefusal v ≡ 0
+  pub room : classCount v * classWords ≤ length w
+  pub class : c ≤ mostClasses
+  pub heads : Heads v h records
+  pub nexts : Nexts v n
 
 -- w′ comes from w by what records of v state, in whatever order
 pub data Raised (v w : List ℕ) : List ℕ → Type 0 where

@@ -24,7 +24,7 @@ ghost use Rattle.meaning.specs.NormalForm.{single, singleFeature};
 ghost use Rattle.meaning.specs.Vocabulary.{axiomAt, axiomFits, classCount, mostClasses, roleCount, vocabularyOf, vocabularyRefusal};
 ghost use Rattle.words.specs.Rows.{classWords};
 ghost use Rattle.words.specs.Sets.{inSet, wordSum};
-ghost use Rattle.hierarchy.specs.Index.{Heads, Met, Nexts, Raised, records};
+ghost use Rattle.hierarchy.specs.Index.{Heads, Met, Nexts, Raisable, Raised, records};
 ghost use Rattle.hierarchy.specs.Pairs.{Listed, PairRoom, enlisted, pairPlace, pairsEnd, withPair};
 ghost use Rattle.hierarchy.specs.Rows.{begun, Closed, ClosedRows, emptied, Grown, joined, lifted, Ranged};
 ghost use Rattle.hierarchy.specs.Rows.{RoleRoom, roleRow, rowOf, rowPlace, TellsAbove, TellsBelow, TellsRanged, widened};
@@ -108,7 +108,7 @@ const HEADS: usize = ClassSet::MOST as usize + 1;
 
 const NEXTS: usize = 1024 + 1;
 
-// Record k becomes the first of its class, where it says that the class is below another.
+// Record k becomes the head of its class, where it says that the class is below another.
 fn enter(v: &[u32], heads: &mut [u32; HEADS], next: &mut [u32; NEXTS], k: u32)
     requires { ⌜ (classCount (now v) ≤ mostClasses) × Met (now v) k × Heads (now v) (now heads) k × Nexts (now v) (now next) ⌝ }
     ensures { λ _. ⌜ Heads (now (v .entry)) (now (heads .exit)) (k + 1) × Nexts (now (v .entry)) (now (next .exit)) ⌝ }
@@ -121,7 +121,8 @@ fn enter(v: &[u32], heads: &mut [u32; HEADS], next: &mut [u32; NEXTS], k: u32)
     heads[a] = k;
 }
 
-// The records that put a class below another, class by class: a class's head is its last one in the chain, and a record's next the one before.
+// The records that put a class below another, class by class: a class's head is its last one in the chain, and a record's next the
+// one before.
 fn index(v: &[u32], heads: &mut [u32; HEADS], next: &mut [u32; NEXTS])
     requires { ⌜ (vocabularyRefusal (now v) ≡ 0) × Heads (now v) (now heads) 0 × Nexts (now v) (now next) ⌝ }
     ensures { λ _. ⌜ Heads (now (v .entry)) (now (heads .exit)) records × Nexts (now (v .entry)) (now (next .exit)) ⌝ }
@@ -133,11 +134,10 @@ fn index(v: &[u32], heads: &mut [u32; HEADS], next: &mut [u32; NEXTS])
     }
 }
 
-// What is above class c, after what is above the classes that its records put it below. A class's list is taken when it is met, so that
-// none is met twice, and a cycle ends.
+// Row c takes in the rows of the classes that its records put it below, after they are raised. A class's head is taken when the class
+// is met: so none is met twice, and a cycle ends.
 fn raise(v: &[u32], work: &mut [u32], heads: &mut [u32; HEADS], next: &[u32; NEXTS], c: u32)
-    requires { ⌜ (vocabularyRefusal (now v) ≡ 0) × (classCount (now v) * classWords ≤ length (now work)) × (c ≤ mostClasses) ⌝ }
-    requires { ⌜ Heads (now v) (now heads) records × Nexts (now v) (now next) ⌝ }
+    requires { ⌜ Raisable (now v) (now work) (now heads) (now next) c ⌝ }
     ensures { λ _. ⌜ Raised (now (v .entry)) (now (work .entry)) (now (work .exit)) ⌝ }
     ensures { λ _. ⌜ Heads (now (v .entry)) (now (heads .exit)) records × (wordSum (now (heads .exit)) ≤ wordSum (now (heads .entry))) ⌝ }
 {
@@ -151,7 +151,7 @@ fn raise(v: &[u32], work: &mut [u32], heads: &mut [u32; HEADS], next: &[u32; NEX
     }
 }
 
-// Each class's row takes in those above it, the upper first, whatever the records' order: without a cycle nothing is left to a pass.
+// Raises each class's row, the upper first, whatever the records' order: without a cycle nothing is left to the passes.
 fn raise_all(v: &[u32], work: &mut [u32])
     requires { ⌜ (vocabularyRefusal (now v) ≡ 0) × (classCount (now v) * classWords ≤ length (now work)) ⌝ }
     ensures { λ _. ⌜ Raised (now (v .entry)) (now (work .entry)) (now (work .exit)) ⌝ }
@@ -164,8 +164,8 @@ fn raise_all(v: &[u32], work: &mut [u32])
     }
 }
 
-// Writes the rows of the classes: the upper first, then by passes until one changes nothing. Time grows with passes, records and words
-// of a set: one pass where no class is above itself by records, at worst as many as classes.
+// Writes the rows of the classes, then makes passes until one changes nothing. Time grows with passes, records and words of a set: one
+// pass where the records have no cycle, at worst as many as classes.
 pub fn close(v: &[u32], work: &mut [u32])
     requires { ⌜ (vocabularyRefusal (now v) ≡ 0) × (classCount (now v) * classWords ≤ length (now work)) ⌝ }
     ensures { λ _. ⌜ Closed (now (v .entry)) (now (work .entry)) (now (work .exit)) ⌝ }

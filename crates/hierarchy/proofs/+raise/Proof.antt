@@ -2,7 +2,8 @@ use borrow.Author.Needs.{needs}
 use Prim.Native.Nat.{ℕ, _<_}
 use native.Mathlib.Omega.{arith}
 use Rattle.words.specs.Sets.{wordSum}
-use Rattle.hierarchy.proofs.Raising.{Raising, raising-class, raising-ends, raising-falls, raising-fits, raising-length, raising-less, raising-on, raising-starts, raising-within}
+use Rattle.hierarchy.proofs.Raising.{Raising, raising-call, raising-ends, raising-falls, raising-fits, raising-length, raising-less}
+use Rattle.hierarchy.proofs.Raising.{raising-on, raising-starts, raising-within}
 use borrow.Fn.Kinds.{In}
 use borrow.Fn.PlainCycle.{Measures, is, falls, and}
 use Rattle.hierarchy.proofs.raise.Reads as raise
@@ -48,61 +49,62 @@ pub +raise-spec : {M : Type 1} → statement M
     (λ c κs. search needs)
     (λ c. search needs)
     -- raise-element-copy-out-k
-    (λ c. omega (arith, c .place .ensures, c .before .before .before .pre .1 .0 .2))
+    (λ c. omega (arith, c .place .ensures, c .before .before .before .pre .1 .class))
     (λ c. search needs)
     -- raise-element-write-heads
-    (λ c. omega (arith, c .before .place .ensures, c .before .before .before .before .pre .1 .0 .2))
+    (λ c. omega (arith, c .before .place .ensures, c .before .before .before .before .pre .1 .class))
     -- raise-loop-holds
-    (λ c. let s = c .before .before .before .before in raising-starts _ _ (s .args .heads .now) (c .before .place .result) (s .pre .1 .1 .0))
+    (λ c. let s = c .before .before .before .before in raising-starts _ _ (s .args .heads .now) _ (c .before .place .result) (s .pre .1))
     (λ c κs. search needs)
-    -- raise-raise-requires
+    -- raise-raise-requires; in each from here, l is the loop, h the heads and i the place of the class in them, and s the start
     (λ c κs.
-    let s = c .before .before .before .before .before .before .before .before .before in
-    let p = s .pre .1 in
+    let l = c .before .before .before .before in
+    let s = l .before .before .before .before .before in
     let h = s .args .heads .now in
-    let i = c .before .before .before .before .before .before .place .result in
-    let l = c .before .before .before .before .loop .inv in
+    let i = l .before .before .place .result in
     let z = c .before .before .before .loop-test .taken in (
-      omega (arith, s .pre .0, raising-falls _ _ h i (p .1 .0) (p .1 .1) (p .0 .0) (p .0 .1) l z),
-      (
-        (p .0 .0, omega (arith, p .0 .1, raising-length _ _ h i (p .1 .0) (p .1 .1) (p .0 .0) (p .0 .1) l), raising-class _ _ h i (p .1 .0) (p .1 .1) (p .0 .0) (p .0 .1) l z (c .axiom-right .ensures)),
-        (l .heads, p .1 .1),
-      ),
+      omega (arith, s .pre .0, raising-falls _ _ h _ i (s .pre .1) (l .loop .inv) z),
+      raising-call _ _ h _ i (s .pre .1) (l .loop .inv) z (c .axiom-right .ensures),
     ))
     -- raise-lift-requires
     (λ c κs.
-    let s = c .before .before .before .before .before .before .before .before .before .before .before .before .before in
-    let p = s .pre .1 in
-    raising-fits _ _ (s .args .heads .now) (c .before .before .before .before .before .before .before .before .before .before .place .result) (p .1 .0) (p .1 .1) (p .0 .0) (p .0 .1) (c .before .before .before .before .before .before .before .before .loop .inv) (c .before .before .before .before .before .before .before .loop-test .taken) (c .before .before .before .raise .ensures .0))
+    let l = c .before .before .before .before .before .before .before .before in
+    let s = l .before .before .before .before .before in
+    let h = s .args .heads .now in
+    let i = l .before .before .place .result in
+    raising-fits _ _ h _ i (s .pre .1) (l .loop .inv) (c .before .before .before .before .before .before .before .loop-test .taken) (c .before .before .before .raise .ensures .0))
     (λ c κs. search needs)
     -- raise-mul-k-2
     (λ c.
-    let s = c .before .before .before .before .before .before .before .before .before .before .before .before .before .before .before .before .before in
-    let p = s .pre .1 in
-    omega (arith, c .place2 .ensures, raising-within _ _ (s .args .heads .now) (c .before .before .before .before .before .before .before .before .before .before .before .before .before .before .place .result) (p .1 .0) (p .1 .1) (p .0 .0) (p .0 .1) (c .before .before .before .before .before .before .before .before .before .before .before .before .loop .inv) (c .before .before .before .before .before .before .before .before .before .before .before .loop-test .taken)))
+    let l = c .before .before .before .before .before .before .before .before .before .before .before .before in
+    let s = l .before .before .before .before .before in
+    let h = s .args .heads .now in
+    let i = l .before .before .place .result in
+    omega (arith, c .place2 .ensures, raising-within _ _ h _ i (s .pre .1) (l .loop .inv) (c .before .before .before .before .before .before .before .before .before .before .before .loop-test .taken)))
     -- raise-element-copy-out-k-2
     (λ c.
-    let s = c .before .before .before .before .before .before .before .before .before .before .before .before .before .before .before .before .before in
-    let p = s .pre .1 in
-    omega (arith, c .place2 .ensures, raising-within _ _ (s .args .heads .now) (c .before .before .before .before .before .before .before .before .before .before .before .before .before .before .place .result) (p .1 .0) (p .1 .1) (p .0 .0) (p .0 .1) (c .before .before .before .before .before .before .before .before .before .before .before .before .loop .inv) (c .before .before .before .before .before .before .before .before .before .before .before .loop-test .taken)))
+    let l = c .before .before .before .before .before .before .before .before .before .before .before .before in
+    let s = l .before .before .before .before .before in
+    let h = s .args .heads .now in
+    let i = l .before .before .place .result in
+    omega (arith, c .place2 .ensures, raising-within _ _ h _ i (s .pre .1) (l .loop .inv) (c .before .before .before .before .before .before .before .before .before .before .before .loop-test .taken)))
     -- raise-loop-less
     (λ c.
-    let s = c .before .before .before .before .before .before .before .before .before .before .before .before .before .before .before .before .before .before in
-    let p = s .pre .1 in
-    raising-less _ _ (s .args .heads .now) (c .before .before .before .before .before .before .before .before .before .before .before .before .before .before .before .place .result) (p .1 .0) (p .1 .1) (p .0 .0) (p .0 .1) (c .before .before .before .before .before .before .before .before .before .before .before .before .before .loop .inv) (c .before .before .before .before .before .before .before .before .before .before .before .before .loop-test .taken) (c .before .place2 .ensures))
+    let l = c .before .before .before .before .before .before .before .before .before .before .before .before .before in
+    let s = l .before .before .before .before .before in
+    let h = s .args .heads .now in
+    let i = l .before .before .place .result in
+    raising-less _ _ h _ i (s .pre .1) (l .loop .inv) (c .before .before .before .before .before .before .before .before .before .before .before .before .loop-test .taken) (c .before .place2 .ensures))
     -- raise-loop-again
     (λ c.
-    let s = c .before .before .before .before .before .before .before .before .before .before .before .before .before .before .before .before .before .before in
-    let p = s .pre .1 in
-    let e = c .before .before .before .before .before .before .before .before .raise .ensures in
-    raising-on _ _ (s .args .heads .now) (c .before .before .before .before .before .before .before .before .before .before .before .before .before .before .before .place .result) (p .1 .0) (p .1 .1) (p .0 .0) (p .0 .1) (c .before .before .before .before .before .before .before .before .before .before .before .before .before .loop .inv) (c .before .before .before .before .before .before .before .before .before .before .before .before .loop-test .taken) (e .0) (e .1) (c .before .before .before .before .lift .ensures .0) (c .before .place2 .ensures))
+    let r = c .before .before .before .before .before .before .before .before in
+    let l = r .before .before .before .before .before in
+    let s = l .before .before .before .before .before in
+    let h = s .args .heads .now in
+    let i = l .before .before .place .result in
+    let e = r .raise .ensures in
+    raising-on _ _ h _ i (s .pre .1) (l .loop .inv) (r .before .before .before .before .loop-test .taken) (e .0) (e .1) (c .before .before .before .before .lift .ensures .0) (c .before .place2 .ensures))
     -- raise-same-length
-    (λ c.
-    let s = c .before .before .before .before .before .before in
-    let p = s .pre .1 in
-    raising-length _ _ (s .args .heads .now) (c .before .before .before .place .result) (p .1 .0) (p .1 .1) (p .0 .0) (p .0 .1) (c .before .loop .inv))
+    (λ c. let l = c .before in let s = l .before .before .before .before .before in raising-length _ _ (s .args .heads .now) _ (l .before .before .place .result) (s .pre .1) (l .loop .inv))
     -- raise-returns
-    (λ c.
-    let s = c .before .before .before .before .before .before in
-    let p = s .pre .1 in
-    raising-ends _ _ (s .args .heads .now) (c .before .before .before .place .result) (p .1 .0) (p .1 .1) (p .0 .0) (p .0 .1) (c .before .loop .inv))
+    (λ c. let l = c .before in let s = l .before .before .before .before .before in raising-ends _ _ (s .args .heads .now) _ (l .before .before .place .result) (s .pre .1) (l .loop .inv))

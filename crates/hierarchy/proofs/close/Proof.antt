@@ -25,14 +25,14 @@ loop-holds c =
     let a = c .before .before in
     let b = a .before .before .before .before in
     let s = b .before .before .before .before .before in
-    close-starts _ _ _ _ (s .pre .0) (s .pre .1) (b .before .class-count .ensures) (b .begin .ensures) (a .raise-all .ensures)
+    close-starts _ _ _ (s .pre .0) (s .pre .1) (b .before .class-count .ensures) (b .begin .ensures) (a .raise-all .ensures)
 
 pass-requires : tie.Need-pass-requires Inv-loop μ-loop
 pass-requires c κs =
     let a = c .before .before .before .before in
     let b = a .before .before .before .before in
     let s = b .before .before .before .before .before in
-    (s .pre .0, close-fits _ _ _ _ (s .pre .0) (s .pre .1) (b .before .class-count .ensures) (b .begin .ensures) (a .raise-all .ensures) (c .before .loop .inv))
+    (s .pre .0, close-fits _ _ _ (s .pre .0) (s .pre .1) (b .before .class-count .ensures) (b .begin .ensures) (a .raise-all .ensures) (c .before .loop .inv))
 
 loop-less : tie.Need-loop-less Inv-loop μ-loop
 loop-less c =
@@ -41,7 +41,7 @@ loop-less c =
     let s = b .before .before .before .before .before in
     let n = b .before .class-count .ensures in
     let p = c .before .before .before .pass .ensures in
-    close-less _ _ _ _ (s .pre .0) (s .pre .1) n (b .begin .ensures) (a .raise-all .ensures) (c .before .before .before .before .before .loop .inv) (p .0) (p .1) (c .if1 .taken)
+    close-less _ _ _ (s .pre .0) (s .pre .1) n (b .begin .ensures) (a .raise-all .ensures) (c .before .before .before .before .before .loop .inv) (p .0) (p .1) (c .if1 .taken)
     (λ k. omega (arith, c .before .slice-known4 .given k))
 
 loop-again : tie.Need-loop-again Inv-loop μ-loop
@@ -50,7 +50,7 @@ loop-again c =
     let b = a .before .before .before .before in
     let s = b .before .before .before .before .before in
     let n = b .before .class-count .ensures in
-    close-on _ _ _ _ (s .pre .0) (s .pre .1) n (b .begin .ensures) (a .raise-all .ensures) (c .before .before .before .before .before .loop .inv) (c .before .before .before .pass .ensures .0)
+    close-on _ _ _ (s .pre .0) (s .pre .1) n (b .begin .ensures) (a .raise-all .ensures) (c .before .before .before .before .before .loop .inv) (c .before .before .before .pass .ensures .0)
 
 same-length : tie.Need-same-length Inv-loop μ-loop
 same-length c =
@@ -58,7 +58,7 @@ same-length c =
     let b = a .before .before .before .before in
     let s = b .before .before .before .before .before in
     let n = b .before .class-count .ensures in
-    close-length _ _ _ _ (s .pre .0) (s .pre .1) n (b .begin .ensures) (a .raise-all .ensures) (c .before .before .before .before .before .loop .inv) (c .before .before .before .pass .ensures .0)
+    close-length _ _ _ (s .pre .0) (s .pre .1) n (b .begin .ensures) (a .raise-all .ensures) (c .before .before .before .before .before .loop .inv) (c .before .before .before .pass .ensures .0)
 
 returns : tie.Need-returns Inv-loop μ-loop
 returns c =
@@ -67,7 +67,7 @@ returns c =
     let s = b .before .before .before .before .before in
     let n = b .before .class-count .ensures in
     let p = c .before .before .before .pass .ensures in
-    close-ends _ _ _ _ (s .pre .0) (s .pre .1) n (b .begin .ensures) (a .raise-all .ensures) (c .before .before .before .before .before .loop .inv) (p .0) (p .1) (c .if1 .left)
+    close-ends _ _ _ (s .pre .0) (s .pre .1) n (b .begin .ensures) (a .raise-all .ensures) (c .before .before .before .before .before .loop .inv) (p .0) (p .1) (c .if1 .left)
 
 pub close-spec : {M : Type 1} → statement M
 close-spec =

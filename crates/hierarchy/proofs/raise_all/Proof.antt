@@ -22,12 +22,16 @@ loop-holds c = (omega arith, raised-none refl, c .before .index .ensures .0)
 
 raise-requires : tie.Need-raise-requires Inv-loop μ-loop
 raise-requires c κs =
-    let s = c .before .before .before .before .before .before .before .before .before .before .before in
-    let p = s .pre in
-    let l = c .before .before .before .before .loop .inv in (
-      (p .0, omega (arith, p .1, raised-length (p .0) (p .1) (l .1)), omega (arith, c .before .before .before .loop-test .taken, c .before .before .before .before .before .class-count .ensures, accepted-counts (s .args .v .now) (p .0) .0 .1)),
-      (l .2, c .before .before .before .before .before .before .index .ensures .1),
-    )
+    let d = c .before .before .before .before .before in
+    let s = d .before .before .before .before .before .before in
+    let v = s .args .v .now in
+    let l = c .before .before .before .before .loop .inv in record {
+      accepted = s .pre .0;
+      room = omega (arith, s .pre .1, raised-length (s .pre .0) (s .pre .1) (l .1));
+      class = omega (arith, c .before .before .before .loop-test .taken, d .class-count .ensures, accepted-counts v (s .pre .0) .0 .1);
+      heads = l .2;
+      nexts = d .before .index .ensures .1;
+    }
 
 loop-again : tie.Need-loop-again Inv-loop μ-loop
 loop-again c = let e = c .before .before .raise .ensures in (omega arith, raised-then (c .before .before .before .before .before .before .before .loop .inv .1) (e .0), e .1 .0)
