@@ -1,4 +1,4 @@
--- The index: what enters it, and the rows that are raised by it. Assumes nothing.
+-- The index: what enters it, the rows that are raised by it, and `close`. Assumes nothing.
 use Prim.Native.Nat.{_*_, _+_, _-_, _<_, _^_, _≤_, suc, zero, ℕ}
 use lib.ListN.{getD, length, replicate, set}
 use mathlib.Core.Bool.{Bool, false, true}
@@ -68,7 +68,7 @@ module _ (v : List ℕ) where
 
 -- ---- the walk that fills the index
 
--- at record k, where 0 is behind the last
+-- what is met when the walk is at record k is before this: 0 is behind the last
 abbrev before : ℕ → ℕ
 before zero = records
 before (suc j) = suc j
@@ -224,7 +224,9 @@ module _ (v w₀ h₀ n : List ℕ) {c : ℕ} (i : ℕ) (p : Raisable v w₀ h�
         lower = omega (arith, l .lower, raising-less s);
       }
 
--- `close`: what may still grow
+-- ---- `close`
+
+-- what may still grow
 abbrev pub slack : ℕ → List ℕ → ℕ
 slack n w = n * 2 ^ 32 - wordSum w
 

@@ -1,11 +1,9 @@
 use borrow.Author.Needs.{needs}
-use native.Mathlib.Omega.{arith}
 use mathlib.Core.Path.{_∙_}
+use native.Mathlib.Omega.{arith}
 use Rattle.hierarchy.proofs.Raising.{enter-below, enter-class, enter-other}
 use Rattle.hierarchy.proofs.enter.Statement.{statement}
 use Rattle.hierarchy.proofs.enter.Tie as tie
-use Rattle.hierarchy.proofs.enter.Reads as reads
-use Rattle.hierarchy.proofs.enter.Lts as lts
 
 returns : tie.Need-returns
 returns c = let s = c .before .before .before in let a = s .args in enter-other (a .v .now) (a .heads .now) (a .next .now) (a .k) (s .pre)

@@ -1,5 +1,4 @@
 use borrow.Author.Needs.{needs}
-use mathlib.Core.Path.{_≡_}
 use Rattle.meaning.proofs.Links.{falling}
 use Rattle.meaning.specs.Records.{lastOf}
 use Rattle.hierarchy.proofs.Raising.{Indexing, indexing-ends, indexing-falls, indexing-met, indexing-on, indexing-starts}
