@@ -78,7 +78,7 @@ module _ {K : Vocabulary} {w : List ℕ} {t : Tables} {x j : ℕ} where
     pub kin-role : roleAt w j ≡ r
     kin-role = k .below .1
 
-    pub kin-individual : Individual K w (t .intervals) j m
+    pub kin-individual : Individual K w (t .constraints) j m
     kin-individual = k .below .2
 
     pub kin-inside : j < t .individuals
@@ -104,7 +104,7 @@ module _ {K : Vocabulary} {w : List ℕ} {t : Tables} {x j : ℕ} where
             ends = λ h. go next (kin-rest .below) (kin-rest .ends) h;
           }
         where
-          go : (ks : Successors) → Below K w (t .intervals) ks x (suc j + size under) →
+          go : (ks : Successors) → Below K w (t .constraints) ks x (suc j + size under) →
               (suc j + size under + size ks < t .individuals → parentAt w (suc j + size under + size ks) < x) →
               suc j + size under < t .individuals → parentAt w (suc j + size under) < suc j
           go none b e h = let z : suc j + size under + 0 ≡ suc j + size under = omega arith in
@@ -114,5 +114,5 @@ module _ {K : Vocabulary} {w : List ℕ} {t : Tables} {x j : ℕ} where
       pub kin-next : nextSuccessor w x (t .individuals - (j + 1)) (j + 1) ≡ nextSuccessor w x (t .individuals - (suc j + size under)) (suc j + size under)
       kin-next =
           let f = k .fits in
-          next-over K w (t .intervals) x (t .individuals) (suc j + size under) (j + 1) (omega arith) (omega arith)
-          (λ i p q. let l = parents K w (t .intervals) under (suc j) (suc j) (omega arith) (k .below .3) i (omega arith) q in omega arith)
+          next-over K w (t .constraints) x (t .individuals) (suc j + size under) (j + 1) (omega arith) (omega arith)
+          (λ i p q. let l = parents K w (t .constraints) under (suc j) (suc j) (omega arith) (k .below .3) i (omega arith) q in omega arith)

@@ -6,7 +6,8 @@ use mathlib.Core.Path.{_≡_}
 use lib.Dec.{eqb, ltb}
 use lib.ListN.{getD}
 use Rattle.meaning.specs.Countermodel.{individuals, size}
-use Rattle.meaning.specs.NormalForm.{Form, Interval, Node, Successors, none, successor}
+use Rattle.meaning.specs.Intervals.{Constraint}
+use Rattle.meaning.specs.NormalForm.{Form, Node, Successors, none, successor}
 use Rattle.meaning.specs.Vocabulary.{Vocabulary}
 use Rattle.normal_form.specs.Clean.{setAt}
 use Rattle.normal_form.specs.Tables.{Above, individualPlace, intervalPlace}
@@ -25,16 +26,16 @@ roleAt w n = getD w (individualPlace n + 1) 0
 abbrev pub holderAt : List ℕ → ℕ → ℕ
 holderAt w m = getD w (intervalPlace m) 0
 
-unfoldable pub pieceAt : List ℕ → ℕ → Interval
+unfoldable pub pieceAt : List ℕ → ℕ → Constraint
 pieceAt w m = record { feature = getD w (intervalPlace m + 1) 0; lo = getD w (intervalPlace m + 4) 0; hi = getD w (intervalPlace m + 5) 0 }
 
 -- the pieces of individual x among so many constraints from m on
-unfoldable pub piecesFrom : List ℕ → ℕ → ℕ → ℕ → List Interval
+unfoldable pub piecesFrom : List ℕ → ℕ → ℕ → ℕ → List Constraint
 piecesFrom w x zero m = []
 piecesFrom w x (suc left) m = let rest = piecesFrom w x left (suc m) in cond (eqb (holderAt w m) x) (pieceAt w m ∷ rest) rest
 
 -- among the first n
-abbrev pub piecesOf : List ℕ → ℕ → ℕ → List Interval
+abbrev pub piecesOf : List ℕ → ℕ → ℕ → List Constraint
 piecesOf w n x = piecesFrom w x n 0
 
 -- among so many rows from j on, the next successor of individual x: rows of individuals below another one are passed over, a
@@ -50,7 +51,7 @@ nextSuccessor w x (suc left) j =
 -- row n and n + 1's pieces, of so many constraints, are the individual's
 pub record Individual (K : Vocabulary) (w : List ℕ) (top n : ℕ) (m : Node) : Type 0 where
   pub classes : Above K (setAt w n) (m .classes)
-  pub pieces : piecesOf w top (suc n) ≡ m .intervals
+  pub pieces : piecesOf w top (suc n) ≡ m .constraints
 
 -- the individuals below individual i have the rows from n on, "parent first, then each child's subtree in place order"
 abbrev pub Below : Vocabulary → List ℕ → ℕ → Successors → ℕ → ℕ → Type 0
@@ -61,13 +62,13 @@ Below K w top (successor r m under next) i n =
 -- the tables hold the combination
 pub record Combined (K : Vocabulary) (u : Form) (w : List ℕ) (t : Tables) : Type 0 where
   pub count : t .individuals ≡ individuals u
-  pub root : Individual K w (t .intervals) 0 (u .node)
-  pub below : Below K w (t .intervals) (u .successors) 1 1
+  pub root : Individual K w (t .constraints) 0 (u .node)
+  pub below : Below K w (t .constraints) (u .successors) 1 1
 
 -- ---- for a walk over the successors of an individual
 
 -- the individuals ks are all that is below individual x from row j on, among so many rows: they end there, or a smaller parent's row follows
 pub record Kin (K : Vocabulary) (w : List ℕ) (t : Tables) (x j : ℕ) (ks : Successors) : Type 0 where
-  pub below : Below K w (t .intervals) ks x j
+  pub below : Below K w (t .constraints) ks x j
   pub fits : j + size ks ≤ t .individuals
   pub ends : j + size ks < t .individuals → parentAt w (j + size ks) < x

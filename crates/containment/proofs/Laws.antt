@@ -1,15 +1,16 @@
 -- Laws of Possible: the search for the first possible simple policy, the refusals in their order, the work slice afterwards.
 use Prim.Native.Nat.{_+_, _≤_, suc, ℕ}
 use mathlib.Core.Bool.{Bool, cond, false, not, true}
-use mathlib.Core.List.{List, [], _∷_}
+use mathlib.Core.List.{List, _∷_}
 use mathlib.Core.Path.{_∙_, _≡_, ap, refl, sym}
 use native.Mathlib.Omega.{arith}
 use borrow.Author.Tests.{ne-eqb}
 use Rattle.hierarchy.specs.declared.Functional.{Functional}
 use Rattle.meaning.proofs.Refusals.{or-assoc, or-few, or-zero, policy-few, unless-some, vocabulary-few}
-use Rattle.meaning.specs.Answers.{Answer, firstPossible, refused}
+use Rattle.meaning.specs.Answers.{Answer, PossibilityResult, firstPossible, refused, result}
+use Rattle.meaning.specs.Limits.{workSize}
 use Rattle.meaning.specs.NormalForm.{possible}
-use Rattle.meaning.specs.Operations.{comesLate, possibility, possibleFrom, unless, workAfter, workRefusal, workSize}
+use Rattle.meaning.specs.Operations.{comesLate, possibility, possibleFrom, unless, workAfter, workRefusal}
 use Rattle.meaning.specs.Policy.{Chain, Policy, policyOf, policyRefusal}
 use Rattle.meaning.specs.Records.{orElse}
 use Rattle.meaning.specs.Vocabulary.{Vocabulary, vocabularyOf, vocabularyRefusal}
@@ -38,9 +39,9 @@ module _ (K : Vocabulary) (s : ℕ) (c : Chain) {b : Bool} (e : b ≡ not (possi
 -- ---- the operation
 
 module _ (v p : List ℕ) (w : ℕ) {m r : ℕ} (e : m ≡ orElse (vocabularyRefusal v) (policyRefusal v p)) (f : r ≡ orElse m (workRefusal w)) where
-  in-order : possibility v p w ≡ unless refused r (possibleFrom (vocabularyOf v) 1 (policyOf p))
+  in-order : possibility v p w ≡ unless refused r (result (possibleFrom (vocabularyOf v) 1 (policyOf p)))
   unfolding possibility
-  in-order = ap (λ (n : ℕ). unless refused n (possibleFrom (vocabularyOf v) 1 (policyOf p)))
+  in-order = ap (λ (n : ℕ). unless refused n (result (possibleFrom (vocabularyOf v) 1 (policyOf p))))
       (or-assoc (vocabularyRefusal v) (policyRefusal v p) (workRefusal w) ∙ sym (f ∙ ap (λ (n : ℕ). orElse n (workRefusal w)) e))
 
   pub refuses : (r ≡ 0 → ⊥) → refused r ≡ possibility v p w
@@ -59,27 +60,19 @@ module _ (v p : List ℕ) (w : ℕ) {m r : ℕ} (e : m ≡ orElse (vocabularyRef
     pub work-full : workSize ≤ w
     work-full = none-full m w (sym f ∙ z)
 
-    -- behind `prepare`
+    -- after `prepare`
     pub accepting : {w′ : List ℕ} {x : Functional} → Prepared v w′ x → Accepting v p w′ x
     accepting g = record { prepared = g; policy = both-accepted .1 }
 
-    pub answers : {a : Answer} → a ≡ possibleFrom (vocabularyOf v) 1 (policyOf p) → a ≡ possibility v p w
-    answers q = q ∙ sym (in-order ∙ ap (λ (n : ℕ). unless refused n (possibleFrom (vocabularyOf v) 1 (policyOf p))) z)
+    pub answers : {a : Answer PossibilityResult} → a ≡ result (possibleFrom (vocabularyOf v) 1 (policyOf p)) → a ≡ possibility v p w
+    answers q = q ∙ sym (in-order ∙ ap (λ (n : ℕ). unless refused n (result (possibleFrom (vocabularyOf v) 1 (policyOf p)))) z)
 
 -- ---- the work slice afterwards
 
-pub early-work : (n : ℕ) (w : List ℕ) → n ≤ 21 → w ≡ workAfter (refused n) w
+pub early-work : (A : Type 0) (n : ℕ) (w : List ℕ) → n ≤ 21 → w ≡ workAfter {A = A} (refused n) w
 unfolding workAfter
-early-work n w h = rw (ne-eqb n 22 (λ e. omega arith), ne-eqb n 23 (λ e. omega arith))
+early-work A n w h = rw (ne-eqb n 22 (λ e. omega arith), ne-eqb n 23 (λ e. omega arith))
 
-result-late : (K : Vocabulary) (s : ℕ) (P : Policy) → comesLate (possibleFrom K s P) ≡ true
-result-late K s [] = refl
-result-late K s (p ∷ P) = go (possible K p) (result-late K (suc s) P)
-  where
-    go : (b : Bool) → comesLate (possibleFrom K (suc s) P) ≡ true → comesLate (cond b (firstPossible s) (possibleFrom K (suc s) P)) ≡ true
-    go true h = refl
-    go false h = h
-
-pub late-work : {w w₁ w₂ w₃ : List ℕ} (K : Vocabulary) (P : Policy) {a : Answer} → Beyond w w₁ → Beyond w₁ w₂ → Cleared 0 workSize w₂ w₃ → a ≡ possibleFrom K 1 P → w₃ ≡ workAfter a w
+pub late-work : {w w₁ w₂ w₃ : List ℕ} (K : Vocabulary) (P : Policy) {a : Answer PossibilityResult} → Beyond w w₁ → Beyond w₁ w₂ → Cleared 0 workSize w₂ w₃ → a ≡ result (possibleFrom K 1 P) → w₃ ≡ workAfter a w
 unfolding workAfter
-late-work K P b c z e = rw (ap comesLate e ∙ result-late K 1 P) (cleared-beyond (beyond-then b c) z)
+late-work K P b c z e = rw (ap comesLate e) (cleared-beyond (beyond-then b c) z)

@@ -4,23 +4,22 @@ use decision::has_too_many;
 use hierarchy::Functional;
 use meaning::Possibility;
 use meaning::Verdict;
+use meaning::limits::WORK_SIZE;
 use policy::first_term;
 use policy::next_of;
 use splitting::ENDS;
 use splitting::collect;
-use workspace::WORK;
 use workspace::clear;
 use workspace::prepare;
 use workspace::tabulate;
 use workspace::work_refusal;
 ghost use mathlib.Core.List.{List};
 ghost use mathlib.Core.Path.{_≡_};
-ghost use Prim.Native.Nat.{ℕ, _≤_};
+ghost use Prim.Native.Nat.{_≤_, ℕ};
 ghost use lib.ListN.{length};
-ghost use Rattle.containment.specs.Verdicts.{Complied, PossibleBy, SettledBy};
-ghost use Rattle.decision.specs.Decisions.{Ready};
-ghost use Rattle.meaning.specs.Answers.{possibilityAnswer};
-ghost use Rattle.meaning.specs.Operations.{possibility, workAfter, workSize};
+ghost use Rattle.containment.specs.Verdicts.{CompliancePost, PossibleBy, PossiblePost, SettledBy};
+ghost use Rattle.decision.specs.Decisions.{PreparedPair};
+ghost use Rattle.meaning.specs.Limits.{workSize};
 ghost use Rattle.workspace.specs.Work.{Accepting, Beyond};
 
 // The first simple policy that is possible, counted from 1, impossible ones too.
@@ -33,7 +32,7 @@ fn first_possible(p: &[u32], work: &mut [u32], f: Functional) -> Possibility
     let mut k = first_term(p);
     while k != 0 {
         let t = tabulate(p, work, f, k);
-        if !t.blocked {
+        if !t.impossible {
             return Possibility::Possible(s);
         }
         s += 1;
@@ -44,7 +43,7 @@ fn first_possible(p: &[u32], work: &mut [u32], f: Functional) -> Possibility
 
 // What Compliance answers behind 21: 22 for every simple policy of p before any verdict.
 fn settle(p: &[u32], q: &[u32], work: &mut [u32], f: Functional, out: &mut [u32]) -> Verdict
-    requires { ⌜ ((v : List ℕ) × Ready v (now p) (now q) (now work) f) ⌝ }
+    requires { ⌜ ((v : List ℕ) × PreparedPair v (now p) (now q) (now work) f) ⌝ }
     ensures { λ r. ⌜ SettledBy (now (p .entry)) (now (q .entry)) (now (work .entry)) f (now (out .entry)) (now (out .exit)) r ⌝ }
     ensures { λ _. ⌜ Beyond (now (work .entry)) (now (work .exit)) × (length (now (out .exit)) ≡ length (now (out .entry))) ⌝ }
 {
@@ -61,8 +60,7 @@ fn settle(p: &[u32], q: &[u32], work: &mut [u32], f: Functional, out: &mut [u32]
 // Possible: the vocabulary's refusals, the policy's, 21, then the answer. Time grows with the vocabulary's records times its
 // classes, and with the policy's records.
 pub fn possible(v: &[u32], p: &[u32], work: &mut [u32]) -> Possibility
-    ensures { λ r. ⌜ possibilityAnswer r ≡ possibility (now (v .entry)) (now (p .entry)) (length (now (work .entry))) ⌝ }
-    ensures { λ r. ⌜ now (work .exit) ≡ workAfter (possibilityAnswer r) (now (work .entry)) ⌝ }
+    ensures { λ r. ⌜ PossiblePost (now (v .entry)) (now (p .entry)) (now (work .entry)) (now (work .exit)) r ⌝ }
 {
     let refusal = work_refusal(policy::first_refusal(v, p), work);
     if refusal != 0 {
@@ -70,14 +68,14 @@ pub fn possible(v: &[u32], p: &[u32], work: &mut [u32]) -> Possibility
     }
     let f = prepare(v, work);
     let answer = first_possible(p, work, f);
-    clear(work, 0, WORK);
+    clear(work, 0, WORK_SIZE);
     answer
 }
 
 // Compliance: the refusals of the vocabulary, the first policy and the second, 21, 22, then the verdict, and 23 where a countermodel
 // does not fit. Time grows with the vocabulary's records times its classes, with both policies' records, and with the combinations.
 pub fn compliance(v: &[u32], p: &[u32], q: &[u32], work: &mut [u32], out: &mut [u32]) -> Verdict
-    ensures { λ r. ⌜ Complied (now (v .entry)) (now (p .entry)) (now (q .entry)) (now (work .entry)) (now (work .exit)) (now (out .entry)) (now (out .exit)) r ⌝ }
+    ensures { λ r. ⌜ CompliancePost (now (v .entry)) (now (p .entry)) (now (q .entry)) (now (work .entry)) (now (work .exit)) (now (out .entry)) (now (out .exit)) r ⌝ }
 {
     let refusal = work_refusal(policy::input_refusal(v, p, q), work);
     if refusal != 0 {
@@ -85,6 +83,6 @@ pub fn compliance(v: &[u32], p: &[u32], q: &[u32], work: &mut [u32], out: &mut [
     }
     let f = prepare(v, work);
     let verdict = settle(p, q, work, f, out);
-    clear(work, 0, WORK);
+    clear(work, 0, WORK_SIZE);
     verdict
 }

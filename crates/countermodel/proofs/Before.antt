@@ -10,7 +10,7 @@ use borrow.Author.Tests.{eq-eqb, le-leb, le-ltb, lt-leb, ne-eqb}
 use Rattle.combination.specs.Combination.{holderAt, pieceAt}
 use Rattle.countermodel.specs.Facts.{isAbove, isBetter}
 use Rattle.meaning.specs.Countermodel.{pairBefore}
-use Rattle.meaning.specs.Splitting.{valueOf}
+use Rattle.meaning.specs.Intervals.{valueOf}
 use Rattle.normal_form.specs.Tables.{intervalPlace}
 
 module _ (w : List ℕ) (a b : ℕ) where

@@ -8,7 +8,8 @@ use lib.Dec.{eqb, ltb}
 use borrow.Author.Tests.{eq-eqb, le-ltb, lt-ltb, ne-eqb}
 use Rattle.combination.specs.Combination.{Below, Kin, nextSuccessor, parentAt, roleAt}
 use Rattle.countermodel.specs.Facts.{edgeFacts, edgesFrom}
-use Rattle.meaning.specs.Countermodel.{Fact, edge, edges, size}
+use Rattle.meaning.specs.Countermodel.{edges, size}
+use Rattle.meaning.specs.Model.{Fact, edge}
 use Rattle.meaning.specs.NormalForm.{Successors, none, successor}
 use Rattle.meaning.specs.Vocabulary.{Vocabulary}
 use Rattle.normal_form.specs.declared.Tables.{Tables}
@@ -94,7 +95,7 @@ unfolding edgesFrom
 kin-edges {K} {w} {t} {x} {ks} k =
     let fits = k .fits in
     let rows : t .individuals - x ≡ size ks + (t .individuals - (x + size ks)) = omega arith in
-    rw rows (own K w (t .intervals) x x ks (t .individuals - (x + size ks)) (k .below) (omega arith)
+    rw rows (own K w (t .constraints) x x ks (t .individuals - (x + size ks)) (k .below) (omega arith)
     ∙ ap (λ (F : List Fact). edges ks x (suc x) ++ F) (ended (t .individuals - (x + size ks)) refl) ∙ append-nil (edges ks x (suc x)))
   where
     ended : (left : ℕ) → t .individuals - (x + size ks) ≡ left → edgesFrom w x left (x + size ks) ≡ []

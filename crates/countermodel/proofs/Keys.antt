@@ -11,10 +11,10 @@ use borrow.Author.Tests.{eq-eqb, le-ltb, lt-ltb, ltb-false, ltb-true, ne-eqb}
 use Rattle.countermodel.specs.Facts.{valueFact}
 use Rattle.meaning.proofs.Pairs.{pairs-in, pairs-out}
 use Rattle.meaning.proofs.Rules.{all-at, all-map, all-of, any-map, any-mono, head, order, tail}
-use Rattle.meaning.specs.Countermodel.{Fact, insertPair, pairBefore, pairs, samePair, value}
+use Rattle.meaning.specs.Countermodel.{insertPair, pairBefore, pairs, samePair}
+use Rattle.meaning.specs.Intervals.{Constraint, valueOf}
 use Rattle.meaning.specs.Lists.{All, _∈_, filter, here}
-use Rattle.meaning.specs.NormalForm.{Interval}
-use Rattle.meaning.specs.Splitting.{valueOf}
+use Rattle.meaning.specs.Model.{Fact, value}
 use Rattle.words.proofs.Lists.{Rising, above-first, above-least, above-rest, filter-from}
 
 -- ---- rising numbers above c
@@ -39,19 +39,19 @@ none-above (y ∷ L) c h = go (ltb c y) refl (none-above L c (tail h))
 -- ---- the key of a pair
 
 module _ (B : ℕ) where
-  abbrev pub key : Interval → ℕ
+  abbrev pub key : Constraint → ℕ
   key s = suc (s .feature * B + valueOf s)
 
-  abbrev pub Low : Interval → Type 0
+  abbrev pub Low : Constraint → Type 0
   Low s = valueOf s < B
 
   -- a smaller feature's keys are smaller
-  apart : (s t : Interval) → Low s → s .feature < t .feature → key s < key t
+  apart : (s t : Constraint) → Low s → s .feature < t .feature → key s < key t
   apart s t h l =
       let more : suc (s .feature) * B ≤ t .feature * B = mul-le-mul-right B l in
       omega (arith, suc-mul (s .feature) B)
 
-  module _ (s t : Interval) (hs : Low s) (ht : Low t) where
+  module _ (s t : Constraint) (hs : Low s) (ht : Low t) where
     pub before-key : pairBefore s t ≡ ltb (key s) (key t)
     before-key = go (order (s .feature) (t .feature)) (order (t .feature) (s .feature))
       where
@@ -83,7 +83,7 @@ module _ (B : ℕ) where
             (f, omega arith)
 
   -- a pair that is neither the same nor before stands behind
-  behind : (s t : Interval) → Low s → Low t → samePair s t ≡ false → pairBefore s t ≡ false → key t < key s
+  behind : (s t : Constraint) → Low s → Low t → samePair s t ≡ false → pairBefore s t ≡ false → key t < key s
   behind s t hs ht p q =
       go (order (key t) (key s))
     where
@@ -97,7 +97,7 @@ module _ (B : ℕ) where
       go (inl h) = h
       go (inr h) = absurd (let l = ltb-false (key s) (key t) (sym (before-key s t hs ht) ∙ q) in differ (omega arith))
 
-  insert-rising : (k : ℕ) (s : Interval) (l : List Interval) → k < key s → Low s → All Low l → Rising k (map key l) → Rising k (map key (insertPair s l))
+  insert-rising : (k : ℕ) (s : Constraint) (l : List Constraint) → k < key s → Low s → All Low l → Rising k (map key l) → Rising k (map key (insertPair s l))
   insert-rising k s [] h b a r = (h, tt)
   insert-rising k s (t ∷ l) h b a r =
       go (samePair s t) (pairBefore s t) refl refl (λ g. insert-rising (key t) s l g b (tail a) (r .1))
@@ -108,23 +108,23 @@ module _ (B : ℕ) where
       go false true d e ih = (h, (ltb-true (key s) (key t) (sym (before-key s t b (head a)) ∙ e), r .1))
       go false false d e ih = (r .0, ih (behind s t b (head a) d e))
 
-  pub pairs-low : (l : List Interval) → All Low l → All Low (pairs l)
+  pub pairs-low : (l : List Constraint) → All Low l → All Low (pairs l)
   pairs-low l h = pairs-in (λ f v. v < B) l h
 
-  pub pairs-rising : (l : List Interval) → All Low l → Rising 0 (map key (pairs l))
+  pub pairs-rising : (l : List Constraint) → All Low l → Rising 0 (map key (pairs l))
   pairs-rising [] h = tt
   pairs-rising (s ∷ l) h = insert-rising 0 s (pairs l) (omega arith) (head h) (pairs-low l (tail h)) (pairs-rising l (tail h))
 
   -- each pair of the list has its key there, and a law of the list's keys is one of theirs
-  pub pairs-have : (l : List Interval) → All (λ s. key s ∈ map key (pairs l)) l
+  pub pairs-have : (l : List Constraint) → All (λ s. key s ∈ map key (pairs l)) l
   pairs-have l = pairs-out (λ f v. suc (f * B + v) ∈ map key (pairs l)) l (all-of (pairs l) (λ s m. any-map key (any-mono (λ t e. ap key e) m)))
 
-  pub pairs-only : (P : ℕ → Type 0) (l : List Interval) → All (λ s. P (key s)) l → All P (map key (pairs l))
+  pub pairs-only : (P : ℕ → Type 0) (l : List Constraint) → All (λ s. P (key s)) l → All P (map key (pairs l))
   pairs-only P l h = all-map key (pairs-in (λ f v. P (suc (f * B + v))) l h)
 
   -- ---- lists with the same keys state the same facts
 
-  pub same-facts : (x : ℕ) (l m : List Interval) → All Low l → All Low m → map key l ≡ map key m → map (valueFact x) l ≡ map (valueFact x) m
+  pub same-facts : (x : ℕ) (l m : List Constraint) → All Low l → All Low m → map key l ≡ map key m → map (valueFact x) l ≡ map (valueFact x) m
   same-facts x [] [] h g e = refl
   same-facts x [] (t ∷ m) h g e = absurd (let z : _≡_ {A = ℕ} 0 1 = cc in omega arith)
   same-facts x (s ∷ l) [] h g e = absurd (let z : _≡_ {A = ℕ} 0 1 = cc in omega arith)

@@ -3,7 +3,7 @@ use Prim.Native.Nat.{_+_, ℕ}
 use mathlib.Core.List.{List, [], _∷_, map}
 use mathlib.Core.Path.{_≡_, ap}
 use Rattle.countermodel.specs.Facts.{memberFacts}
-use Rattle.meaning.specs.Countermodel.{Fact, member}
+use Rattle.meaning.specs.Model.{Fact, member}
 use Rattle.normal_form.specs.Clean.{setAt}
 use Rattle.words.proofs.Listing.{from-end, from-more, from-start}
 use Rattle.words.specs.Members.{membersFrom, nextMember}

@@ -8,7 +8,7 @@ use lib.ListN.{drop, length, length-append, length-set, length-take, set, take, 
 use lib.Seq.{sets-eq, take-at}
 use borrow.Author.Tests.{eq-eqb, ne-eqb}
 use Rattle.countermodel.specs.Written.{Room, Written, linkAt, linkedWords, recorded}
-use Rattle.meaning.specs.Countermodel.{Fact, chainedWords, edge, factWords, linkTo, member, modelWords, value}
+use Rattle.meaning.specs.Model.{Fact, chainedWords, edge, factWords, linkTo, member, modelWords, value}
 use Rattle.meaning.specs.Operations.{outputAfter}
 use Rattle.words.proofs.Rows.{length-put, put-drop}
 use Rattle.words.specs.Rows.{putAt}

@@ -9,13 +9,14 @@ use lib.Dec.{eqb, leb, ltb}
 use lib.ListN.{getD}
 use borrow.Author.Tests.{eq-eqb, eqb-false, eqb-true, le-leb, le-ltb, leb-false, lt-leb, lt-ltb, ltb-false, ltb-true}
 use Rattle.combination.specs.Combination.{holderAt, pieceAt, piecesFrom, piecesOf}
+use Rattle.countermodel.proofs.Keys.{Low, before-key, key, least-above, none-above, pairs-have, pairs-low, pairs-only}
+use Rattle.countermodel.proofs.Keys.{pairs-rising, same-facts}
 use Rattle.countermodel.specs.Facts.{isAbove, isBetter, pairsAbove, valueFact, valueFacts, valuesFrom}
-use Rattle.countermodel.proofs.Keys.{Low, before-key, key, least-above, none-above, pairs-have, pairs-low, pairs-only, pairs-rising, same-facts}
 use Rattle.meaning.proofs.Rules.{all-at, head, order, tail}
-use Rattle.meaning.specs.Countermodel.{Fact, pairBefore, pairs}
+use Rattle.meaning.specs.Countermodel.{pairBefore, pairs}
+use Rattle.meaning.specs.Intervals.{Constraint, valueOf}
 use Rattle.meaning.specs.Lists.{All, _∈_, cons, filter, here, nil, there}
-use Rattle.meaning.specs.NormalForm.{Interval}
-use Rattle.meaning.specs.Splitting.{valueOf}
+use Rattle.meaning.specs.Model.{Fact}
 use Rattle.normal_form.specs.Tables.{intervalPlace}
 use Rattle.words.specs.Sets.{wordSum}
 
@@ -26,7 +27,7 @@ within [] k = omega arith
 within (x ∷ ws) zero = omega arith
 within (x ∷ ws) (suc k) = omega (arith, within ws k)
 
-all-filter : {P : Interval → Type 0} (p : Interval → Bool) (l : List Interval) → All P l → All P (filter p l)
+all-filter : {P : Constraint → Type 0} (p : Constraint → Bool) (l : List Constraint) → All P l → All P (filter p l)
 all-filter p [] h = nil
 all-filter {P} p (s ∷ l) h = go (p s) (all-filter p l (tail h))
   where
@@ -51,7 +52,7 @@ module _ (w : List ℕ) (x : ℕ) where
           let q : j ≡ m = omega arith in
           absurd (eqb-false (holderAt w m) x e (ap (holderAt w) (sym q) ∙ h))
 
-  piece-out : (P : Interval → Type 0) (left m : ℕ) → ((j : ℕ) → m ≤ j → j < m + left → holderAt w j ≡ x → P (pieceAt w j)) → All P (piecesFrom w x left m)
+  piece-out : (P : Constraint → Type 0) (left m : ℕ) → ((j : ℕ) → m ≤ j → j < m + left → holderAt w j ≡ x → P (pieceAt w j)) → All P (piecesFrom w x left m)
   unfolding piecesFrom
   piece-out P zero m f = nil
   piece-out P (suc left) m f =
@@ -79,14 +80,14 @@ module _ (w : List ℕ) where
   abbrev floor : ℕ → ℕ → ℕ
   floor n m = cond (ltb m n) (keyAt m) 0
 
-  above-floor : (n m : ℕ) (s : Interval) → Low B s → isAbove w n m s ≡ ltb (floor n m) (key B s)
+  above-floor : (n m : ℕ) (s : Constraint) → Low B s → isAbove w n m s ≡ ltb (floor n m) (key B s)
   above-floor n m s h = go (order m n)
     where
       go : (m < n) ⊎ (n ≤ m) → isAbove w n m s ≡ ltb (floor n m) (key B s)
       go (inl l) = rw (lt-leb n m l, lt-ltb m n l) (before-key B (pieceAt w m) s (low m) h)
       go (inr l) = rw (le-leb n m l, le-ltb m n l) (sym (lt-ltb 0 (key B s) (omega arith)))
 
-  filter-floor : (n m : ℕ) (l : List Interval) → All (Low B) l → map (key B) (filter (isAbove w n m) l) ≡ filter (ltb (floor n m)) (map (key B) l)
+  filter-floor : (n m : ℕ) (l : List Constraint) → All (Low B) l → map (key B) (filter (isAbove w n m) l) ≡ filter (ltb (floor n m)) (map (key B) l)
   filter-floor n m [] h = refl
   filter-floor n m (s ∷ l) h = rw (above-floor n m s (head h)) (go (ltb (floor n m) (key B s)) (filter-floor n m l (tail h)))
     where
@@ -159,7 +160,7 @@ module _ (w : List ℕ) where
 
     -- ---- what the best of all is
 
-    abbrev all : List Interval
+    abbrev all : List Constraint
     all = piecesOf w n x
 
     all-low : All (Low B) all
@@ -198,7 +199,7 @@ module _ (w : List ℕ) where
     unfolding pairsAbove valueFacts
     values-start r e = e ∙ ap (map (valueFact x)) (go (pairs all))
       where
-        go : (l : List Interval) → filter (isAbove w n n) l ≡ l
+        go : (l : List Constraint) → filter (isAbove w n n) l ≡ l
         go [] = refl
         go (s ∷ l) = rw (le-leb n n (omega arith), go l)
 

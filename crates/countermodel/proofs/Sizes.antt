@@ -7,9 +7,11 @@ use native.Mathlib.Omega.{arith}
 use lib.Dec.{eqb, ltb}
 use lib.ListN.{drop, length, length-append, length-map, length-take}
 use Rattle.combination.specs.Combination.{holderAt, parentAt, pieceAt, piecesFrom, piecesOf, roleAt}
-use Rattle.countermodel.specs.Facts.{Standing, edgeFacts, edgesFrom, factsAt, factsFrom, memberFacts, recordCount, valueFact, valueFacts}
-use Rattle.meaning.specs.Countermodel.{edge, insertPair, member, pairBefore, pairs, samePair}
-use Rattle.meaning.specs.NormalForm.{Interval}
+use Rattle.countermodel.specs.Facts.{Standing, edgeFacts, edgesFrom, factsAt, factsFrom, memberFacts, recordCount, valueFact}
+use Rattle.countermodel.specs.Facts.{valueFacts}
+use Rattle.meaning.specs.Countermodel.{insertPair, pairBefore, pairs, samePair}
+use Rattle.meaning.specs.Intervals.{Constraint}
+use Rattle.meaning.specs.Model.{edge, member}
 use Rattle.normal_form.specs.Clean.{setAt}
 use Rattle.normal_form.specs.Tables.{individualPlace}
 use Rattle.normal_form.specs.declared.Tables.{Tables}
@@ -17,7 +19,7 @@ use Rattle.words.proofs.Laws.{members-few}
 use Rattle.words.specs.Members.{members}
 use Rattle.words.specs.Rows.{classWords}
 
-insert-few : (s : Interval) (l : List Interval) → length (insertPair s l) ≤ suc (length l)
+insert-few : (s : Constraint) (l : List Constraint) → length (insertPair s l) ≤ suc (length l)
 insert-few s [] = omega arith
 insert-few s (t ∷ l) = go (samePair s t) (pairBefore s t) (insert-few s l)
   where
@@ -27,7 +29,7 @@ insert-few s (t ∷ l) = go (samePair s t) (pairBefore s t) (insert-few s l)
     go false true h = omega arith
     go false false h = omega arith
 
-pairs-few : (l : List Interval) → length (pairs l) ≤ length l
+pairs-few : (l : List Constraint) → length (pairs l) ≤ length l
 pairs-few [] = omega arith
 pairs-few (s ∷ l) = omega (arith, insert-few s (pairs l), pairs-few l)
 
@@ -68,13 +70,13 @@ edges-most w n x = omega (arith, edges-few w x (n - x) x)
 
 module _ (w : List ℕ) (t : Tables) where
   pub row-length : (i : ℕ) →
-      length (factsAt w t i) ≡ length (memberFacts w i) + length (valueFacts w (t .intervals) (i + 1)) + length (edgeFacts w (t .individuals) (i + 1))
+      length (factsAt w t i) ≡ length (memberFacts w i) + length (valueFacts w (t .constraints) (i + 1)) + length (edgeFacts w (t .individuals) (i + 1))
   unfolding factsAt
   row-length i = simp length-append (omega arith)
 
   -- what `count_row` adds up
   pub row-counted : (i : ℕ) {p n q v r e : ℕ} {ws : List ℕ} → p ≡ i → ws ≡ setAt w p → n ≡ length (members ws) → q ≡ n →
-      v ≡ length (valueFacts w (t .intervals) (i + 1)) → r ≡ t .individuals → e ≡ length (edgeFacts w r (i + 1)) → q + v + e ≡ length (factsAt w t i)
+      v ≡ length (valueFacts w (t .constraints) (i + 1)) → r ≡ t .individuals → e ≡ length (edgeFacts w r (i + 1)) → q + v + e ≡ length (factsAt w t i)
   row-counted i {ws = ws} a b d f g h k =
       let classes : length (members ws) ≡ length (members (setAt w i)) = rw (b, a) in
       let edges = ap (λ (n : ℕ). length (edgeFacts w n (i + 1))) h in
@@ -84,8 +86,8 @@ module _ (w : List ℕ) (t : Tables) where
     pub row-most : (i : ℕ) → length (factsAt w t i) ≤ 1280
     row-most i =
         let a = stand .individuals in
-        let b = stand .intervals in
-        omega (arith, row-length i, members-length w i, members-most w i, values-most w (t .intervals) (i + 1), edges-most w (t .individuals) (i + 1))
+        let b = stand .constraints in
+        omega (arith, row-length i, members-length w i, members-most w i, values-most w (t .constraints) (i + 1), edges-most w (t .individuals) (i + 1))
 
     facts-most : (left i : ℕ) → length (factsFrom w t left i) ≤ 1280 * left
     unfolding factsFrom

@@ -4,21 +4,33 @@ use mathlib.Core.Bool.{Bool, _&&_, _||_, cond}
 use mathlib.Core.List.{List, [], _++_, _∷_, map}
 use lib.Dec.{eqb, leb, ltb}
 use lib.ListN.{length}
-use Rattle.combination.specs.Combination.{holderAt, parentAt, pieceAt, piecesOf, roleAt}
-use Rattle.meaning.specs.Countermodel.{Fact, edge, member, pairBefore, pairs, value}
+use Rattle.combination.specs.Combination.{Combined, holderAt, parentAt, pieceAt, piecesOf, roleAt}
+use Rattle.meaning.specs.Countermodel.{pairBefore, pairs}
+use Rattle.meaning.specs.Intervals.{Constraint, valueOf}
+use Rattle.meaning.specs.Limits.{mostClasses, mostRecords}
 use Rattle.meaning.specs.Lists.{filter}
-use Rattle.meaning.specs.NormalForm.{Interval}
-use Rattle.meaning.specs.Splitting.{valueOf}
+use Rattle.meaning.specs.Model.{Fact, edge, member, value}
+use Rattle.meaning.specs.Normal.{Bounded, Normal}
+use Rattle.meaning.specs.NormalForm.{Form}
+use Rattle.meaning.specs.Records.{Name}
+use Rattle.meaning.specs.Vocabulary.{Vocabulary}
 use Rattle.normal_form.specs.Clean.{setAt}
-use Rattle.normal_form.specs.Tables.{mostEntries, tablesEnd}
+use Rattle.normal_form.specs.Tables.{tablesEnd}
 use Rattle.normal_form.specs.declared.Tables.{Tables}
 use Rattle.words.specs.Members.{members}
 
 -- the tables stand in the slice
 pub record Standing (w : List ℕ) (t : Tables) : Type 0 where
   pub long : tablesEnd ≤ length w
-  pub individuals : t .individuals ≤ mostEntries
-  pub intervals : t .intervals ≤ mostEntries
+  pub individuals : t .individuals ≤ mostRecords
+  pub constraints : t .constraints ≤ mostRecords
+
+-- the tables hold the combination u, a normal one, and the vocabulary's classes have a bit in a set
+pub record Modelled (K : Vocabulary) (u : Form) (w : List ℕ) (t : Tables) : Type 0 where
+  pub few : K .classes ≤ mostClasses
+  pub bounded : Bounded K
+  pub normal : Normal (Name (K .classes)) K u
+  pub combined : Combined K u w t
 
 -- "classes rising", of row i, individual i + 1
 unfoldable pub memberFacts : List ℕ → ℕ → List Fact
@@ -26,14 +38,14 @@ memberFacts w i = map (λ c. member c (i + 1)) (members (setAt w i))
 
 -- ---- "(feature, value) pairs rising, no repeats", of individual x among n constraints
 
-abbrev pub valueFact : ℕ → Interval → Fact
+abbrev pub valueFact : ℕ → Constraint → Fact
 valueFact x s = value (s .feature) x (valueOf s)
 
 unfoldable pub valueFacts : List ℕ → ℕ → ℕ → List Fact
 valueFacts w n x = map (valueFact x) (pairs (piecesOf w n x))
 
 -- piece s stands above constraint m's; every one does at the end of the constraints
-abbrev pub isAbove : List ℕ → ℕ → ℕ → Interval → Bool
+abbrev pub isAbove : List ℕ → ℕ → ℕ → Constraint → Bool
 isAbove w n m s = leb n m || pairBefore (pieceAt w m) s
 
 -- constraint i is x's, above m's pair and before that of the best so far
@@ -41,7 +53,7 @@ abbrev pub isBetter : List ℕ → ℕ → ℕ → ℕ → ℕ → ℕ → Bool
 isBetter w n x m best i =
     eqb (holderAt w i) x && (isAbove w n m (pieceAt w i) && (leb n best || pairBefore (pieceAt w i) (pieceAt w best)))
 
-unfoldable pub pairsAbove : List ℕ → ℕ → ℕ → ℕ → List Interval
+unfoldable pub pairsAbove : List ℕ → ℕ → ℕ → ℕ → List Constraint
 pairsAbove w n x m = filter (isAbove w n m) (pairs (piecesOf w n x))
 
 -- constraint m's pair and those above it; none at the end of the constraints
@@ -64,7 +76,7 @@ edgeFacts w n x = edgesFrom w x (n - x) x
 -- ---- "For each individual in turn"
 
 unfoldable pub factsAt : List ℕ → Tables → ℕ → List Fact
-factsAt w t i = memberFacts w i ++ (valueFacts w (t .intervals) (i + 1) ++ edgeFacts w (t .individuals) (i + 1))
+factsAt w t i = memberFacts w i ++ (valueFacts w (t .constraints) (i + 1) ++ edgeFacts w (t .individuals) (i + 1))
 
 -- of so many rows from i on
 unfoldable pub factsFrom : List ℕ → Tables → ℕ → ℕ → List Fact

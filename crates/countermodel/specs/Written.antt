@@ -5,7 +5,7 @@ use mathlib.Core.List.{List, [], _++_, _∷_}
 use mathlib.Core.Path.{_≡_}
 use lib.Dec.{eqb}
 use lib.ListN.{length}
-use Rattle.meaning.specs.Countermodel.{Fact, factWords}
+use Rattle.meaning.specs.Model.{Fact, factWords}
 use Rattle.words.specs.Rows.{putAt}
 
 -- the header and so many records have room in the output, and a word holds each link

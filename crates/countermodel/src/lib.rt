@@ -8,28 +8,27 @@ use normal_form::ROWS;
 use normal_form::Tables;
 use words::ClassSet;
 use words::place;
-ghost use mathlib.Core.List.{_∷_, [], map};
+ghost use mathlib.Core.List.{[], _∷_, map};
 ghost use mathlib.Core.Path.{_≡_};
-ghost use Prim.Native.Nat.{ℕ, _+_, _*_, _<_, _≤_, _^_};
+ghost use Prim.Native.Nat.{_*_, _+_, _<_, _^_, _≤_};
 ghost use lib.ListN.{length};
-ghost use Rattle.combination.specs.Combination.{Combined, pieceAt};
-ghost use Rattle.countermodel.specs.Facts.{Standing, edgeFacts, factsAt, isAbove, isBetter, memberFacts, pairsAbove, recordCount, tableFacts, valueFact, valueFacts, valuesFrom};
+ghost use Rattle.combination.specs.Combination.{pieceAt};
+ghost use Rattle.countermodel.specs.Facts.{Modelled, Standing, edgeFacts, factsAt, isAbove, isBetter, memberFacts};
+ghost use Rattle.countermodel.specs.Facts.{pairsAbove, recordCount, tableFacts, valueFact, valueFacts, valuesFrom};
 ghost use Rattle.countermodel.specs.Written.{Room, Written, linkAt, recorded};
-ghost use Rattle.meaning.proofs.Links.{Name};
-ghost use Rattle.meaning.proofs.Neat.{NeatForm};
-ghost use Rattle.meaning.proofs.Stated.{Bounded};
 ghost use Rattle.meaning.specs.Countermodel.{canonicalModel, countermodel, pairBefore};
+ghost use Rattle.meaning.specs.Limits.{mostRecords};
 ghost use Rattle.meaning.specs.NormalForm.{Form};
 ghost use Rattle.meaning.specs.Operations.{outputAfter};
-ghost use Rattle.meaning.specs.Vocabulary.{Vocabulary, mostClasses};
-ghost use Rattle.normal_form.specs.Tables.{mostEntries, tablesEnd};
+ghost use Rattle.meaning.specs.Vocabulary.{Vocabulary};
+ghost use Rattle.normal_form.specs.Tables.{tablesEnd};
 ghost use Rattle.words.specs.Rows.{putAt};
 
 // ---- the pairs of an individual, rising
 
 // Whether constraint a's pair stands before constraint b's: by feature, then by upper end.
 fn is_before(work: &[u32], a: usize, b: usize) -> bool
-    requires { ⌜ (a < mostEntries) × (b < mostEntries) × (tablesEnd ≤ length (now work)) ⌝ }
+    requires { ⌜ (a < mostRecords) × (b < mostRecords) × (tablesEnd ≤ length (now work)) ⌝ }
     ensures { λ r. ⌜ r ≡ pairBefore (pieceAt (now (work .entry)) a) (pieceAt (now (work .entry)) b) ⌝ }
 {
     let f = work[INTERVALS + INTERVAL * a + 1];
@@ -42,7 +41,7 @@ fn is_before(work: &[u32], a: usize, b: usize) -> bool
 
 // Whether constraint i's pair stands above constraint m's, or m is n and no constraint.
 fn is_above(work: &[u32], n: usize, m: usize, i: usize) -> bool
-    requires { ⌜ (i < n) × (n ≤ mostEntries) × (tablesEnd ≤ length (now work)) ⌝ }
+    requires { ⌜ (i < n) × (n ≤ mostRecords) × (tablesEnd ≤ length (now work)) ⌝ }
     ensures { λ r. ⌜ r ≡ isAbove (now (work .entry)) n m (pieceAt (now (work .entry)) i) ⌝ }
 {
     if m < n {
@@ -53,7 +52,7 @@ fn is_above(work: &[u32], n: usize, m: usize, i: usize) -> bool
 
 // Whether constraint i is individual x's and its pair stands above constraint m's and before that of the best so far.
 fn is_better(work: &[u32], n: usize, x: u32, m: usize, best: usize, i: usize) -> bool
-    requires { ⌜ (i < n) × (n ≤ mostEntries) × (tablesEnd ≤ length (now work)) ⌝ }
+    requires { ⌜ (i < n) × (n ≤ mostRecords) × (tablesEnd ≤ length (now work)) ⌝ }
     ensures { λ r. ⌜ r ≡ isBetter (now (work .entry)) n x m best i ⌝ }
 {
     if work[INTERVALS + INTERVAL * i] != x {
@@ -70,7 +69,7 @@ fn is_better(work: &[u32], n: usize, x: u32, m: usize, best: usize, i: usize) ->
 
 // Of n constraints, one of individual x whose pair is the least above constraint m's, or n; from n on, the least of all.
 fn next_pair(work: &[u32], n: usize, x: u32, m: usize) -> usize
-    requires { ⌜ (n ≤ mostEntries) × (tablesEnd ≤ length (now work)) ⌝ }
+    requires { ⌜ (n ≤ mostRecords) × (tablesEnd ≤ length (now work)) ⌝ }
     ensures { λ r. ⌜ (r ≤ n) × (valuesFrom (now (work .entry)) n x r ≡ map (valueFact x) (pairsAbove (now (work .entry)) n x m)) ⌝ }
 {
     let mut best = n;
@@ -85,7 +84,7 @@ fn next_pair(work: &[u32], n: usize, x: u32, m: usize) -> usize
 // ---- how many records
 
 fn count_values(work: &[u32], n: usize, x: u32) -> usize
-    requires { ⌜ (n ≤ mostEntries) × (tablesEnd ≤ length (now work)) ⌝ }
+    requires { ⌜ (n ≤ mostRecords) × (tablesEnd ≤ length (now work)) ⌝ }
     ensures { λ r. ⌜ r ≡ length (valueFacts (now (work .entry)) n x) ⌝ }
 {
     let mut found = 0;
@@ -98,7 +97,7 @@ fn count_values(work: &[u32], n: usize, x: u32) -> usize
 }
 
 fn count_edges(work: &[u32], n: usize, x: u32) -> usize
-    requires { ⌜ (x ≤ n) × (n ≤ mostEntries) × (tablesEnd ≤ length (now work)) ⌝ }
+    requires { ⌜ (x ≤ n) × (n ≤ mostRecords) × (tablesEnd ≤ length (now work)) ⌝ }
     ensures { λ r. ⌜ r ≡ length (edgeFacts (now (work .entry)) n x) ⌝ }
 {
     let mut found = 0;
@@ -116,7 +115,7 @@ fn count_row(work: &[u32], t: Tables, i: u32) -> usize
     ensures { λ r. ⌜ r ≡ length (factsAt (now (work .entry)) t i) ⌝ }
 {
     let classes = ClassSet::load(work, ROWS + ROW * place(i) + 2).count();
-    let values = count_values(work, t.intervals, i + 1);
+    let values = count_values(work, t.constraints, i + 1);
     let edges = count_edges(work, place(t.individuals), i + 1);
     place(classes) + values + edges
 }
@@ -125,7 +124,7 @@ fn count_row(work: &[u32], t: Tables, i: u32) -> usize
 pub fn size(work: &[u32], t: Tables) -> usize
     requires { ⌜ Standing (now work) t ⌝ }
     ensures { λ r. ⌜ r ≡ recordCount (now (work .entry)) t ⌝ }
-    ensures { λ r. ⌜ ((N : ℕ) (K : Vocabulary) (u : Form) → N ≤ mostClasses → Bounded N K → NeatForm (Name N) K u → Combined K u (now (work .entry)) t → r ≡ length (canonicalModel N K u)) ⌝ }
+    ensures { λ r. ⌜ ((K : Vocabulary) (u : Form) → Modelled K u (now (work .entry)) t → r ≡ length (canonicalModel K u)) ⌝ }
 {
     let n = t.individuals;
     let mut records = 0;
@@ -160,7 +159,7 @@ fn put(out: &mut [u32], k: usize, last: usize, kind: u32, name: u32, x: u32, oth
 
 // The classes of row i, individual i + 1, rising.
 fn write_classes(work: &[u32], i: u32, out: &mut [u32], k: usize, last: usize) -> usize
-    requires { ⌜ (i < mostEntries) × (tablesEnd ≤ length (now work)) × Room last (now out) × (k + length (memberFacts (now work) i) ≤ last + 1) ⌝ }
+    requires { ⌜ (i < mostRecords) × (tablesEnd ≤ length (now work)) × Room last (now out) × (k + length (memberFacts (now work) i) ≤ last + 1) ⌝ }
     ensures { λ r. ⌜ Written last k (memberFacts (now (work .entry)) i) (now (out .entry)) (now (out .exit)) r ⌝ }
 {
     let classes = ClassSet::load(work, ROWS + ROW * place(i) + 2);
@@ -176,7 +175,7 @@ fn write_classes(work: &[u32], i: u32, out: &mut [u32], k: usize, last: usize) -
 
 // The pairs of individual x, rising.
 fn write_values(work: &[u32], n: usize, x: u32, out: &mut [u32], k: usize, last: usize) -> usize
-    requires { ⌜ (n ≤ mostEntries) × (tablesEnd ≤ length (now work)) × Room last (now out) × (k + length (valueFacts (now work) n x) ≤ last + 1) ⌝ }
+    requires { ⌜ (n ≤ mostRecords) × (tablesEnd ≤ length (now work)) × Room last (now out) × (k + length (valueFacts (now work) n x) ≤ last + 1) ⌝ }
     ensures { λ r. ⌜ Written last k (valueFacts (now (work .entry)) n x) (now (out .entry)) (now (out .exit)) r ⌝ }
 {
     let mut at = k;
@@ -193,7 +192,7 @@ fn write_values(work: &[u32], n: usize, x: u32, out: &mut [u32], k: usize, last:
 
 // The edges of individual x, by target.
 fn write_edges(work: &[u32], n: usize, x: u32, out: &mut [u32], k: usize, last: usize) -> usize
-    requires { ⌜ (x ≤ n) × (n ≤ mostEntries) × (tablesEnd ≤ length (now work)) × Room last (now out) × (k + length (edgeFacts (now work) n x) ≤ last + 1) ⌝ }
+    requires { ⌜ (x ≤ n) × (n ≤ mostRecords) × (tablesEnd ≤ length (now work)) × Room last (now out) × (k + length (edgeFacts (now work) n x) ≤ last + 1) ⌝ }
     ensures { λ r. ⌜ Written last k (edgeFacts (now (work .entry)) n x) (now (out .entry)) (now (out .exit)) r ⌝ }
 {
     let mut at = k;
@@ -213,7 +212,7 @@ fn write_row(work: &[u32], t: Tables, i: u32, out: &mut [u32], k: usize, last: u
     ensures { λ r. ⌜ Written last k (factsAt (now (work .entry)) t i) (now (out .entry)) (now (out .exit)) r ⌝ }
 {
     let a = write_classes(work, i, out, k, last);
-    let b = write_values(work, t.intervals, i + 1, out, a, last);
+    let b = write_values(work, t.constraints, i + 1, out, a, last);
     write_edges(work, place(t.individuals), i + 1, out, b, last)
 }
 
@@ -233,7 +232,7 @@ fn write_rows(work: &[u32], t: Tables, last: usize, out: &mut [u32])
 pub fn write(work: &[u32], t: Tables, records: usize, out: &mut [u32])
     requires { ⌜ Standing (now work) t × (records ≡ recordCount (now work) t) × (5 * (records + 1) ≤ length (now out)) ⌝ }
     ensures { λ _. ⌜ length (now (out .exit)) ≡ length (now (out .entry)) ⌝ }
-    ensures { λ _. ⌜ ((N : ℕ) (K : Vocabulary) (u : Form) → N ≤ mostClasses → Bounded N K → NeatForm (Name N) K u → Combined K u (now (work .entry)) t → now (out .exit) ≡ outputAfter (countermodel N K u) (now (out .entry))) ⌝ }
+    ensures { λ _. ⌜ ((K : Vocabulary) (u : Form) → Modelled K u (now (work .entry)) t → now (out .exit) ≡ outputAfter (countermodel K u) (now (out .entry))) ⌝ }
 {
     out[0] = link(0, records);
     out[1] = t.individuals;

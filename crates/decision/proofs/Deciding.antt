@@ -10,41 +10,42 @@ use lib.Seq.{take-at}
 use native.Mathlib.Omega.{arith}
 use borrow.Author.Tests.{le-leb, le-ltb, lt-leb, lt-ltb, ltb-false}
 use Rattle.combination.specs.Combination.{Combined}
-use Rattle.decision.specs.Decisions.{Delivers, Failed, Failure, Reports, decision, exceeds}
 use Rattle.countermodel.specs.Facts.{Standing}
+use Rattle.decision.specs.Decisions.{Delivers, Failed, Failure, Reports, decision, exceeds}
+use Rattle.hierarchy.specs.declared.Functional.{Functional}
 use Rattle.meaning.proofs.Bounds.{bounded, chain-bounded}
 use Rattle.meaning.proofs.Containment.{witness}
-use Rattle.meaning.proofs.Links.{Name}
 use Rattle.meaning.proofs.ModelWords.{model-length}
-use Rattle.meaning.proofs.Neat.{BoundedChain, NeatForm}
+use Rattle.meaning.proofs.Normal.{BoundedChain}
 use Rattle.meaning.proofs.Rules.{isTrue, order}
-use Rattle.meaning.proofs.Stated.{Bounded}
-use Rattle.meaning.proofs.Terms.{ChainOf}
 use Rattle.meaning.proofs.Wellformed.{accepted-counts}
-use Rattle.meaning.specs.Answers.{outside}
-use Rattle.meaning.specs.Containment.{contained, decide, decideFrom, escapes, firstFailure, mostCombinations, orEscape, passes, tooMany}
+use Rattle.meaning.specs.Accepted.{ChainOf}
+use Rattle.meaning.specs.Answers.{VerdictResult, outside, result}
+use Rattle.meaning.specs.Containment.{contained, decide, decideFrom, escapes, firstFailure, orEscape, passes, tooMany}
 use Rattle.meaning.specs.Countermodel.{canonicalModel, countermodel, individuals}
+use Rattle.meaning.specs.Limits.{mostClasses, mostCombinations, mostRecords, workSize}
 use Rattle.meaning.specs.Lists.{_∈_, any, firstFailing, found, here, nowhere, there}
-use Rattle.meaning.specs.NormalForm.{Form, blocked, normalForm, possible}
-use Rattle.meaning.specs.Operations.{Outcome, outputAfter, reported, says, workSize, written}
+use Rattle.meaning.specs.Normal.{Bounded, Normal}
+use Rattle.meaning.specs.NormalForm.{Form, hasBottom, normalForm, possible}
+use Rattle.meaning.specs.Operations.{Outcome, outputAfter, reported, says, written}
 use Rattle.meaning.specs.Policy.{Chain, Policy, nextOf, policyOf, policyRefusal}
+use Rattle.meaning.specs.Records.{Name}
 use Rattle.meaning.specs.Splitting.{combinationCount, combinations, product}
-use Rattle.meaning.specs.Vocabulary.{Vocabulary, classCount, vocabularyOf}
-use Rattle.meaning.specs.declared.Verdict.the-variants as verdict
+use Rattle.meaning.specs.Vocabulary.{Vocabulary, classCount, featureCount, roleCount, vocabularyOf, vocabularyRefusal}
 use Rattle.meaning.specs.declared.Verdict.{Verdict}
-use Rattle.hierarchy.specs.declared.Functional.{Functional}
 use Rattle.normal_form.proofs.Groups.{prepared-same}
-use Rattle.normal_form.specs.Clean.{TellsClean, cleanForm}
-use Rattle.normal_form.specs.Tables.{Prepared, mostEntries, termAt}
+use Rattle.normal_form.specs.Clean.{DecidesClean, cleanForm}
+use Rattle.normal_form.specs.Tables.{Prepared, termAt}
 use Rattle.normal_form.specs.declared.Tables.{Tables}
 use Rattle.splitting.proofs.Callers.{full-clean, full-filled, kept-refl, product-at}
 use Rattle.splitting.specs.Ends.{Ends}
 use Rattle.splitting.specs.Odometer.{Kept, Splittable, constraintsAt}
-use Rattle.trial.specs.Trials as Tries
 use Rattle.trial.specs.Trials.{Triable, Tried}
 use Rattle.workspace.proofs.Laws.{beyond-then}
 use Rattle.workspace.proofs.Walk.{Asking, asking-found, asking-named, asking-on}
 use Rattle.workspace.specs.Work.{Beyond, Shaped, Stays, Tabulated}
+use Rattle.meaning.specs.declared.Verdict.the-variants as verdict
+use Rattle.trial.specs.Trials as Tries
 
 -- ---- 22: too many combinations
 
@@ -87,21 +88,21 @@ is-false false e h = refl
 
 clean-is : (K : Vocabulary) (c : Chain) → possible K c ≡ true → cleanForm K (normalForm K c) ≡ true
 unfolding possible
-clean-is K c h = go (not (blocked c)) h
+clean-is K c h = go (not (hasBottom c)) h
   where
     go : (t : Bool) → (t && cleanForm K (normalForm K c)) ≡ true → cleanForm K (normalForm K c) ≡ true
     go true h = h
     go false h = cc
 
 module _ {c : Chain} {f : Functional} {w w′ : List ℕ} {t : Tables} (d : Shaped c f w w′ t) where
-  pub shape-splittable : workSize ≤ length w → t .blocked ≡ false → Splittable w′ (t .intervals)
-  shape-splittable full h = let s = d .beyond .size in record { few = d .most .1; long = omega arith; full = full-filled w′ (t .intervals) (d .filled h) }
+  pub shape-splittable : workSize ≤ length w → t .impossible ≡ false → Splittable w′ (t .constraints)
+  shape-splittable full h = let s = d .beyond .size in record { few = d .most .1; long = omega arith; full = full-filled w′ (t .constraints) (d .filled h) }
 
   module _ {v : List ℕ} (g : Prepared v w f) (o : ChainOf v c) (Q : Policy) where
-    pub shape-impossible : t .blocked ≡ true → false ≡ exceeds (vocabularyOf v) Q c
-    shape-impossible h = rw (d .barred v g o h)
+    pub shape-impossible : t .impossible ≡ true → false ≡ exceeds (vocabularyOf v) Q c
+    shape-impossible h = rw (d .bottomHere v g o h)
 
-    pub shape-within : product Q (constraintsAt w′ (t .intervals)) ≤ mostCombinations → false ≡ exceeds (vocabularyOf v) Q c
+    pub shape-within : product Q (constraintsAt w′ (t .constraints)) ≤ mostCombinations → false ≡ exceeds (vocabularyOf v) Q c
     shape-within l =
         let b = subst (λ (m : ℕ). m ≤ mostCombinations) (product-at (d .tabled v g o) Q) l in
         rw (le-ltb mostCombinations _ b) (go (possible (vocabularyOf v) c))
@@ -110,14 +111,14 @@ module _ {c : Chain} {f : Functional} {w w′ : List ℕ} {t : Tables} (d : Shap
         go true = refl
         go false = refl
 
-    module _ {n : ℕ} (e : n ≡ min (product Q (constraintsAt w′ (t .intervals))) (suc mostCombinations)) where
+    module _ {n : ℕ} (e : n ≡ min (product Q (constraintsAt w′ (t .constraints))) (suc mostCombinations)) where
       counted : ltb mostCombinations n ≡ ltb mostCombinations (combinationCount Q (normalForm (vocabularyOf v) c))
       counted = capped n _ (e ∙ ap (λ (m : ℕ). min m (suc mostCombinations)) (product-at (d .tabled v g o) Q))
 
       pub shape-few : n ≤ mostCombinations → false ≡ exceeds (vocabularyOf v) Q c
       shape-few l = shape-within (omega arith)
 
-      pub shape-many : {b : Bool} → t .blocked ≡ false → mostCombinations < n → TellsClean w′ t b → b ≡ exceeds (vocabularyOf v) Q c
+      pub shape-many : {b : Bool} → t .impossible ≡ false → mostCombinations < n → DecidesClean w′ t b → b ≡ exceeds (vocabularyOf v) Q c
       shape-many h l q =
           rw (sym counted ∙ lt-ltb mostCombinations n l, d .unbarred v h) (go _ (q v (normalForm (vocabularyOf v) c) (d .prepared v g .paired) (d .tabled v g o)))
         where
@@ -129,11 +130,11 @@ module _ {v : List ℕ} {c : Chain} {f : Functional} {w w′ : List ℕ} {t : Ta
   abbrev K : Vocabulary
   K = vocabularyOf v
 
-  module _ (full : workSize ≤ length w) (h : t .blocked ≡ false) where
+  module _ (full : workSize ≤ length w) (h : t .impossible ≡ false) where
     is-possible : possible K c ≡ true
     is-possible = is-true (possible K c) (d .impossible v g o) h
 
-    pub term-splittable : Splittable w′ (t .intervals)
+    pub term-splittable : Splittable w′ (t .constraints)
     term-splittable =
         let s = d .beyond .size in
         record { few = d .most .1; long = omega arith; full = full-clean (d .tabled v g o) (clean-is K c is-possible) }
@@ -143,7 +144,7 @@ module _ {v : List ℕ} {c : Chain} {f : Functional} {w w′ : List ℕ} {t : Ta
         let s = d .beyond .size in
         let i = d .tabled v g o .count in
         record {
-          askable = record { long = omega arith; some = omega arith; individuals = d .most .0; intervals = d .most .1; vocabulary = v; accepted = a };
+          askable = record { long = omega arith; some = omega arith; individuals = d .most .0; constraints = d .most .1; vocabulary = v; accepted = a };
           splittable = term-splittable;
           ends = n;
           few = rw (product-at (d .tabled v g o) (policyOf q)) (le-of (combinationCount (policyOf q) (normalForm K c)) (rw is-possible at x));
@@ -155,11 +156,11 @@ module _ {v : List ℕ} {c : Chain} {f : Functional} {w w′ : List ℕ} {t : Ta
 -- ---- the first combination to fail, where the term is possible
 
 module _ (Q : Policy) {w : List ℕ} {t : Tables} where
-  pub failed-impossible : t .blocked ≡ true → Failed Q w w t 0
+  pub failed-impossible : t .impossible ≡ true → Failed Q w w t 0
   unfolding firstFailure
-  failed-impossible h = record { told = λ v c e s. rw (is-false (possible (vocabularyOf v) c) e h); kept = kept-refl (t .intervals) w }
+  failed-impossible h = record { told = λ v c e s. rw (is-false (possible (vocabularyOf v) c) e h); kept = kept-refl (t .constraints) w }
 
-  pub failed-tried : {w′ : List ℕ} {r : ℕ} → t .blocked ≡ false → Tried Q w w′ t r → Failed Q w w′ t r
+  pub failed-tried : {w′ : List ℕ} {r : ℕ} → t .impossible ≡ false → Tried Q w w′ t r → Failed Q w w′ t r
   unfolding firstFailure
   failed-tried {w′} {r} h y = record { told = λ v c e s. go r (vocabularyOf v) c (is-true (possible (vocabularyOf v) c) e h) (y .told (vocabularyOf v) (normalForm (vocabularyOf v) c) s); kept = y .kept }
     where
@@ -168,7 +169,7 @@ module _ (Q : Policy) {w : List ℕ} {t : Tables} where
       go (suc k) K c e y = (y .0, rw e (y .1), y .2)
 
 -- a piece put beside a constraint leaves what was prepared, and what stands behind
-module _ {n : ℕ} {w w′ : List ℕ} (k : Kept n w w′) (few : n ≤ mostEntries) where
+module _ {n : ℕ} {w w′ : List ℕ} (k : Kept n w w′) (few : n ≤ mostRecords) where
   pub pieces-stay : {f : Functional} → Stays f w w′
   pieces-stay v g = prepared-same (k .same) (λ i h. k .others i (λ m l. (λ z. omega arith, λ z. omega arith))) g
 
@@ -200,13 +201,13 @@ found-in f s (y ∷ l) {k} {x} e = go (f y) (λ h. found-in f (suc s) l h) e
     go true r e = there (r e)
     go false r e = here (let z : x ≡ y = cc in z)
 
--- the combination that fails is as neat as the term's normal form
-pub fails-neat : (N : ℕ) (K : Vocabulary) → Bounded N K → (Q : Policy) (c : Chain) (r : ℕ) (u : Form) → BoundedChain N c → firstFailure K Q c ≡ found r u → NeatForm (Name N) K u
+-- the combination that fails is as normal as the term's normal form
+pub fails-normal : (K : Vocabulary) → Bounded K → (Q : Policy) (c : Chain) (r : ℕ) (u : Form) → BoundedChain (K .classes) c → firstFailure K Q c ≡ found r u → Normal (Name (K .classes)) K u
 unfolding firstFailure
-fails-neat N K b Q c r u f e = go (possible K c) refl e
+fails-normal K b Q c r u f e = go (possible K c) refl e
   where
-    go : (t : Bool) → possible K c ≡ t → cond t (firstFailing (passes K Q) 1 (combinations Q (normalForm K c))) nowhere ≡ found r u → NeatForm (Name N) K u
-    go true p e = witness N K b Q c f (isTrue p) u (found-in (passes K Q) 1 (combinations Q (normalForm K c)) e) .ready .neat
+    go : (t : Bool) → possible K c ≡ t → cond t (firstFailing (passes K Q) 1 (combinations Q (normalForm K c))) nowhere ≡ found r u → Normal (Name (K .classes)) K u
+    go true p e = witness K b Q c f (isTrue p) u (found-in (passes K Q) 1 (combinations Q (normalForm K c)) e) .ready .normal
     go false p e = absurd (let z : _≡_ {A = ℕ} 0 1 = cc in omega arith)
 
 -- what the rest decides is what all decide, and none of the rest has too many combinations
@@ -239,9 +240,9 @@ module _ (v p q : List ℕ) where
 
 -- ---- the report
 
-pub countermodel-length : (N : ℕ) (K : Vocabulary) (u : Form) → length (countermodel N K u) ≡ 5 * (length (canonicalModel N K u) + 1)
+pub countermodel-length : (K : Vocabulary) (u : Form) → length (countermodel K u) ≡ 5 * (length (canonicalModel K u) + 1)
 unfolding countermodel
-countermodel-length N K u = model-length (individuals u) (canonicalModel N K u)
+countermodel-length K u = model-length (individuals u) (canonicalModel K u)
 
 pub outputs-none : (o : List ℕ) → o ≡ outputAfter [] o
 unfolding outputAfter
@@ -258,26 +259,36 @@ module _ (s q : ℕ) (words o : List ℕ) where
 
   pub reports-words : {o′ : List ℕ} {n : ℕ} → length words ≤ length o → n ≡ length words → o′ ≡ outputAfter words o →
       Delivers (written (length o) (outside s q) words) o o′ (verdict.Outside s q n)
-  reports-words h e d = rw (le-leb (length words) (length o) h) (record { answer = ap (outside s q) e; output = d })
+  reports-words h e d = rw (le-leb (length words) (length o) h) (record { answer = ap (λ (k : ℕ). result (outside s q k)) e; output = d })
 
 -- ---- what is decided
 
-module _ (N : ℕ) (K : Vocabulary) (P Q : Policy) (o : List ℕ) where
-  abbrev told : Outcome
-  told = reported N K (length o) outside (decide K P Q) (says Rattle.meaning.specs.Answers.compliant)
+module _ (K : Vocabulary) (P Q : Policy) (o : List ℕ) where
+  abbrev told : Outcome VerdictResult
+  told = reported K (length o) outside (decide K P Q) (says Rattle.meaning.specs.Answers.compliant)
 
   pub delivers-compliant : {o′ : List ℕ} → o′ ≡ o → contained ≡ decide K P Q → Delivers told o o′ verdict.Compliant
   delivers-compliant h e = rw (sym e) (record { answer = refl; output = h ∙ outputs-none o })
 
-  pub delivers-report : {s q : ℕ} {u : Form} {o′ : List ℕ} {r : Verdict} → escapes s q u ≡ decide K P Q → Delivers (written (length o) (outside s q) (countermodel N K u)) o o′ r →
+  pub delivers-report : {s q : ℕ} {u : Form} {o′ : List ℕ} {r : Verdict} → escapes s q u ≡ decide K P Q → Delivers (written (length o) (outside s q) (countermodel K u)) o o′ r →
       Delivers told o o′ r
   delivers-report e d = rw (sym e) d
+
+-- ---- what is known of an accepted vocabulary and of its terms
+
+few-classes : (v : List ℕ) → vocabularyRefusal v ≡ 0 → vocabularyOf v .classes ≤ mostClasses
+unfolding vocabularyOf
+few-classes v e = accepted-counts v e .0 .1
+
+term-bounded : (v : List ℕ) (c : Chain) → ChainOf v c → BoundedChain (vocabularyOf v .classes) c
+unfolding vocabularyOf
+term-bounded v c h = chain-bounded (classCount v) (roleCount v) (featureCount v) c h
 
 -- ---- one term of the loop
 
 module _ {c : Chain} {f : Functional} {Q : Policy} {w w′ w″ : List ℕ} {t : Tables} {r : ℕ} (d : Tabulated c f w w′ t) (g : Failed Q w′ w″ t r) where
   pub term-standing : workSize ≤ length w → Standing w″ t
-  term-standing h = let x = d .beyond .size in let y = g .kept .same in record { long = omega arith; individuals = d .most .0; intervals = d .most .1 }
+  term-standing h = let x = d .beyond .size in let y = g .kept .same in record { long = omega arith; individuals = d .most .0; constraints = d .most .1 }
 
   pub term-stays : Stays f w w″
   term-stays v b = pieces-stay (g .kept) (d .most .1) v (d .prepared v b)
@@ -297,10 +308,10 @@ module _ {v p : List ℕ} (q : List ℕ) {s k : ℕ} (a : Asking (Undecided v p 
     term-fails {o} {o₀} {o′} {x} z e y =
         let i = fails-some (vocabularyOf v) (policyOf q) (termAt p k) w″ t z failure in
         let h = bounded v (b .accepted) in
-        let m = fails-neat (classCount v) (vocabularyOf v) h (policyOf q) (termAt p k) r (i .0) (chain-bounded _ _ _ (termAt p k) (asking-named a n)) (i .1) in
-        delivers-report (classCount v) (vocabularyOf v) (policyOf p) (policyOf q) o₀ (asking-found a n (λ l u. undecided-found v p q s (termAt p k) l u (i .1)))
-        (subst (λ (l : List ℕ). Delivers (written (length l) (outside s r) (countermodel (classCount v) (vocabularyOf v) (i .0))) l o′ x) e
-        (y (classCount v) (vocabularyOf v) (i .0) (accepted-counts v (b .accepted) .0 .1) h m (i .2)))
+        let m = fails-normal (vocabularyOf v) h (policyOf q) (termAt p k) r (i .0) (term-bounded v (termAt p k) (asking-named a n)) (i .1) in
+        delivers-report (vocabularyOf v) (policyOf p) (policyOf q) o₀ (asking-found a n (λ l u. undecided-found v p q s (termAt p k) l u (i .1)))
+        (subst (λ (l : List ℕ). Delivers (written (length l) (outside s r) (countermodel (vocabularyOf v) (i .0))) l o′ x) e
+        (y (vocabularyOf v) (i .0) (record { few = few-classes v (b .accepted); bounded = h; normal = m; combined = i .2 })))
 
     pub term-passes : {j : ℕ} → r ≡ 0 → j ≡ nextOf p k → Asking (Undecided v p q) v p (s + 1) j
     term-passes z e = asking-on a n e (λ l u. undecided-on v p q s (termAt p k) l u (fails-none (vocabularyOf v) (policyOf q) (termAt p k) w″ t z failure))

@@ -6,20 +6,19 @@ use mathlib.Core.Path.{_≡_}
 use lib.Dec.{ltb}
 use lib.ListN.{length}
 use Rattle.combination.specs.Combination.{Combined}
+use Rattle.countermodel.specs.Facts.{Modelled}
 use Rattle.hierarchy.specs.declared.Functional.{Functional}
-use Rattle.meaning.proofs.Links.{Name}
-use Rattle.meaning.proofs.Neat.{NeatForm}
-use Rattle.meaning.proofs.Stated.{Bounded}
-use Rattle.meaning.proofs.Terms.{ChainOf}
-use Rattle.meaning.specs.Answers.{compliant, outside, verdictAnswer}
-use Rattle.meaning.specs.Containment.{decide, firstFailure, mostCombinations, tooMany}
+use Rattle.meaning.specs.Accepted.{ChainOf}
+use Rattle.meaning.specs.Answers.{VerdictResult, compliant, outside, verdictAnswer}
+use Rattle.meaning.specs.Containment.{decide, firstFailure, tooMany}
 use Rattle.meaning.specs.Countermodel.{countermodel}
+use Rattle.meaning.specs.Limits.{mostCombinations, workSize}
 use Rattle.meaning.specs.Lists.{found, nowhere}
 use Rattle.meaning.specs.NormalForm.{Form, normalForm, possible}
-use Rattle.meaning.specs.Operations.{Outcome, outputAfter, reported, says, workSize, written}
+use Rattle.meaning.specs.Operations.{Outcome, outputAfter, reported, says, written}
 use Rattle.meaning.specs.Policy.{Chain, Policy, policyOf, policyRefusal}
 use Rattle.meaning.specs.Splitting.{combinationCount}
-use Rattle.meaning.specs.Vocabulary.{Vocabulary, classCount, mostClasses, vocabularyOf}
+use Rattle.meaning.specs.Vocabulary.{Vocabulary, vocabularyOf}
 use Rattle.meaning.specs.declared.Verdict.{Verdict}
 use Rattle.normal_form.specs.Tables.{Prepared, Tabled}
 use Rattle.normal_form.specs.declared.Tables.{Tables}
@@ -28,12 +27,12 @@ use Rattle.splitting.specs.Odometer.{Kept}
 use Rattle.workspace.specs.Work.{Accepting}
 
 -- the answer is the outcome's, and the output holds the outcome's words
-pub record Delivers (x : Outcome) (o o′ : List ℕ) (r : Verdict) : Type 0 where
+pub record Delivers (x : Outcome VerdictResult) (o o′ : List ℕ) (r : Verdict) : Type 0 where
   pub answer : verdictAnswer r ≡ x .answer
   pub output : o′ ≡ outputAfter (x .words) o
 
 -- the vocabulary is prepared, and both policies are accepted
-pub record Ready (v p q w : List ℕ) (f : Functional) : Type 0 where
+pub record PreparedPair (v p q w : List ℕ) (f : Functional) : Type 0 where
   pub prepared : Prepared v w f
   pub full : workSize ≤ length w
   pub first : policyRefusal v p ≡ 0
@@ -41,18 +40,17 @@ pub record Ready (v p q w : List ℕ) (f : Functional) : Type 0 where
 
 -- the same, and no simple policy of the first has too many combinations
 pub record Countable (v p q w : List ℕ) (f : Functional) : Type 0 where
-  pub ready : Ready v p q w f
+  pub ready : PreparedPair v p q w f
   pub few : tooMany (vocabularyOf v) (policyOf p) (policyOf q) ≡ false
 
--- what is reported of the combination that the tables hold, by whatever vocabulary of N classes
+-- what is reported of the combination that the tables hold, by whatever vocabulary
 abbrev pub Reports : ℕ → ℕ → List ℕ → Tables → List ℕ → List ℕ → Verdict → Type 0
 Reports s c w t o o′ r =
-    (N : ℕ) (K : Vocabulary) (u : Form) → N ≤ mostClasses → Bounded N K → NeatForm (Name N) K u → Combined K u w t →
-    Delivers (written (length o) (outside s c) (countermodel N K u)) o o′ r
+    (K : Vocabulary) (u : Form) → Modelled K u w t → Delivers (written (length o) (outside s c) (countermodel K u)) o o′ r
 
 -- the decision's outcome, with an output of so many words
-abbrev pub decision : List ℕ → List ℕ → List ℕ → ℕ → Outcome
-decision v p q o = reported (classCount v) (vocabularyOf v) o outside (decide (vocabularyOf v) (policyOf p) (policyOf q)) (says compliant)
+abbrev pub decision : List ℕ → List ℕ → List ℕ → ℕ → Outcome VerdictResult
+decision v p q o = reported (vocabularyOf v) o outside (decide (vocabularyOf v) (policyOf p) (policyOf q)) (says compliant)
 
 -- "22: some possible simple policy of the first has over 65,536 combinations": one of them
 abbrev pub exceeds : Vocabulary → Policy → Chain → Bool
@@ -77,6 +75,6 @@ Failure K Q c w t (suc k) = (u : Form) × (firstFailure K Q c ≡ found (suc k) 
 
 -- so for whatever term the tables hold; nothing but pieces has changed
 pub record Failed (Q : Policy) (w w′ : List ℕ) (t : Tables) (r : ℕ) : Type 0 where
-  pub told : (v : List ℕ) (c : Chain) → t .blocked ≡ not (possible (vocabularyOf v) c) → Tabled (vocabularyOf v) (normalForm (vocabularyOf v) c) w t →
+  pub told : (v : List ℕ) (c : Chain) → t .impossible ≡ not (possible (vocabularyOf v) c) → Tabled (vocabularyOf v) (normalForm (vocabularyOf v) c) w t →
       Failure (vocabularyOf v) Q c w′ t r
-  pub kept : Kept (t .intervals) w w′
+  pub kept : Kept (t .constraints) w w′

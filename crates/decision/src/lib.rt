@@ -1,6 +1,7 @@
 // One policy against another: whether a simple policy has too many combinations, and the first combination to fail.
 use hierarchy::Functional;
 use meaning::Verdict;
+use meaning::limits::MOST_COMBINATIONS;
 use normal_form::Tables;
 use normal_form::is_clean;
 use policy::first_term;
@@ -13,20 +14,17 @@ use workspace::tabulate;
 ghost use mathlib.Core.Bool.{false};
 ghost use mathlib.Core.List.{List};
 ghost use mathlib.Core.Path.{_≡_};
-ghost use Prim.Native.Nat.{ℕ, _≤_};
+ghost use Prim.Native.Nat.{_≤_, ℕ};
 ghost use lib.ListN.{length};
 ghost use Rattle.countermodel.specs.Facts.{Standing};
 ghost use Rattle.decision.specs.Decisions.{Countable, Counts, Decides, Exceeds, Failed, Reports};
 ghost use Rattle.hierarchy.specs.Pairs.{mostPairs, pairCount};
-ghost use Rattle.meaning.specs.Operations.{workSize};
+ghost use Rattle.meaning.specs.Limits.{workSize};
 ghost use Rattle.meaning.specs.Policy.{policyOf};
 ghost use Rattle.normal_form.specs.Tables.{Fit, termAt};
 ghost use Rattle.splitting.specs.Ends.{Ends};
 ghost use Rattle.trial.specs.Trials.{Triable};
 ghost use Rattle.workspace.specs.Work.{Accepting, Beyond, Stays};
-
-// The most combinations of a simple policy.
-const MOST: usize = 65536;
 
 // Whether the simple policy at record k is possible and has too many combinations. Mostly a glance at the number of ends tells that it
 // has not; few have, so the look at the pairs comes last.
@@ -36,13 +34,13 @@ fn is_too_many(p: &[u32], work: &mut [u32], f: Functional, ends: &[u32], k: u32)
     ensures { λ _. ⌜ Stays f (now (work .entry)) (now (work .exit)) × Beyond (now (work .entry)) (now (work .exit)) ⌝ }
 {
     let t = shape(p, work, f, k);
-    if t.blocked {
+    if t.impossible {
         return false;
     }
-    if !may_exceed(ends, t.intervals) {
+    if !may_exceed(ends, t.constraints) {
         return false;
     }
-    if combinations(ends, work, t.intervals) <= MOST {
+    if combinations(ends, work, t.constraints) <= MOST_COMBINATIONS {
         return false;
     }
     is_clean(work, t)
@@ -67,10 +65,10 @@ pub fn has_too_many(p: &[u32], work: &mut [u32], f: Functional, ends: &[u32]) ->
 
 // The first combination to fail of the simple policy that the tables hold, counted from 1; 0 where it is impossible or all pass.
 fn failure_of(q: &[u32], work: &mut [u32], ends: &[u32], t: Tables) -> u32
-    requires { ⌜ (t .blocked ≡ false → Triable (now q) (now ends) (now work) t) ⌝ }
+    requires { ⌜ (t .impossible ≡ false → Triable (now q) (now ends) (now work) t) ⌝ }
     ensures { λ r. ⌜ Failed (policyOf (now (q .entry))) (now (work .entry)) (now (work .exit)) t r ⌝ }
 {
-    if t.blocked {
+    if t.impossible {
         return 0;
     }
     first_failure(q, work, ends, t)

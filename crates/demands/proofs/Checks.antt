@@ -5,66 +5,55 @@ use mathlib.Core.Logic.{_↔_}
 use mathlib.Core.Path.{_∙_, _≡_, ap, refl, sym}
 use lib.ListN.{length, take}
 use native.Mathlib.Omega.{arith}
-use Rattle.containment.specs.Verdicts.{Complied}
-use Rattle.equality.specs.Comparisons.{Equated}
+use Rattle.containment.specs.Verdicts.{CompliancePost}
 use Rattle.decision.proofs.Deciding.{taken}
+use Rattle.demands.proofs.Afterwards.{comparison-written, verdict-written}
+use Rattle.equality.specs.Comparisons.{EqualityPost}
 use Rattle.meaning.proofs.Checking.{check-right}
 use Rattle.meaning.proofs.Compliance.{compliance-told}
 use Rattle.meaning.proofs.Equality.{equality-compared}
 use Rattle.meaning.proofs.Written.{first-checked, second-checked, written-checked}
-use Rattle.meaning.specs.Answers.{answeredYes, checkedAnswer, differs, outside}
-use Rattle.meaning.specs.Operations.{Outcome, compliance, equality, modelCheck, workSize}
-use Rattle.meaning.specs.Policy.{policyOf}
-use Rattle.meaning.specs.Promises.{Compared, Countered, IsRefusal, Told, agreed, escaped, same, side1, side2, unsaidComparison, unsaidVerdict}
-use Rattle.meaning.specs.Vocabulary.{classCount, vocabularyOf}
-use Rattle.meaning.specs.declared.Checked.the-variants as checked
+use Rattle.meaning.specs.Answers.{checkedAnswer, result, yes}
+use Rattle.meaning.specs.Limits.{workSize}
+use Rattle.meaning.specs.Operations.{compliance, equality, modelCheck}
+use Rattle.meaning.specs.Promises.{Countered, IsRefusal}
 use Rattle.meaning.specs.declared.Checked.{Checked}
+use Rattle.model_check.specs.Judging.{ModelCheckPost}
+use Rattle.meaning.specs.declared.Checked.the-variants as checked
 use Rattle.meaning.specs.declared.Comparison.the-variants as comparison
 use Rattle.meaning.specs.declared.Verdict.the-variants as verdict
-use Rattle.model_check.specs.Judging.{Judged}
 
-is-yes : (r : Checked) → checkedAnswer r ≡ answeredYes → r ≡ checked.Yes
+is-yes : (r : Checked) → checkedAnswer r ≡ result yes → r ≡ checked.Yes
 is-yes checked.Yes e = refl
 is-yes checked.No e = absurd (let z : _≡_ {A = ℕ} 0 1 = cc in omega arith)
 is-yes (checked.Refused n) e = absurd (let z : _≡_ {A = ℕ} 0 1 = cc in omega arith)
 
--- "passes if and only if it satisfies the vocabulary and its first individual is in the policy and outside the consent"
-pub yes-where : {v p q m w w′ : List ℕ} {r : Checked} → Judged v p q m w w′ r → (IsRefusal (checkedAnswer r) → ⊥) → (r ≡ checked.Yes) ↔ Countered v p q m
+-- demand 2: "passes if and only if it satisfies the vocabulary and its first individual is in the policy and outside the consent"
+pub yes-where : {v p q m w w′ : List ℕ} {r : Checked} → ModelCheckPost v p q m w w′ r → (IsRefusal (checkedAnswer r) → ⊥) → (r ≡ checked.Yes) ↔ Countered v p q m
 yes-where {v} {p} {q} {m} {w} {r = r} j t =
     let e = j .answer in
     let h = check-right v p q m (length w) (λ x. t (x .0, e ∙ x .1)) in
     (λ y. h .0 (sym e ∙ ap checkedAnswer y), λ y. is-yes r (e ∙ h .1 y))
 
-told-length : (v p q : List ℕ) (o : ℕ) {s c n : ℕ} (x : Outcome) → Told (classCount v) (vocabularyOf v) (policyOf p) (policyOf q) o x → x .answer ≡ outside s c n → n ≡ length (x .words)
-told-length v p q o x (unsaidVerdict m) e = absurd (let z : _≡_ {A = ℕ} 0 1 = cc in omega arith)
-told-length v p q o x (agreed h) e = absurd (let z : _≡_ {A = ℕ} 0 1 = cc in omega arith)
-told-length v p q o x (escaped i k words h l) e = cc
-
-compared-length : (v p q : List ℕ) (o : ℕ) {side s c n : ℕ} (x : Outcome) → Compared (classCount v) (vocabularyOf v) (policyOf p) (policyOf q) o x → x .answer ≡ differs side s c n → n ≡ length (x .words)
-compared-length v p q o x (unsaidComparison m) e = absurd (let z : _≡_ {A = ℕ} 0 1 = cc in omega arith)
-compared-length v p q o x (same h) e = absurd (let z : _≡_ {A = ℕ} 0 1 = cc in omega arith)
-compared-length v p q o x (side1 i k words h l) e = cc
-compared-length v p q o x (side2 i k words d h l) e = cc
-
 -- "A countermodel handed to the model check ..": what is written is answered yes, with any full work slice
-pub outside-checked : {v p q w w′ o o′ : List ℕ} {s c n : ℕ} → Complied v p q w w′ o o′ (verdict.Outside s c n) → {w₁ w₁′ : List ℕ} {r : Checked} →
-    Judged v p q (take n o′) w₁ w₁′ r → workSize ≤ length w₁ → r ≡ checked.Yes
+pub outside-checked : {v p q w w′ o o′ : List ℕ} {s c n : ℕ} → CompliancePost v p q w w′ o o′ (verdict.Outside s c n) → {w₁ w₁′ : List ℕ} {r : Checked} →
+    ModelCheckPost v p q (take n o′) w₁ w₁′ r → workSize ≤ length w₁ → r ≡ checked.Yes
 outside-checked {v} {p} {q} {w} {o = o} {n = n} a {w₁} {r = r} j l =
     let x = sym (a .answer) in
-    let y = taken (compliance v p q (length w) (length o) .words) o n (told-length v p q (length o) _ (compliance-told v p q (length w) (length o)) x) (a .output) in
+    let y = taken (compliance v p q (length w) (length o) .words) o n (verdict-written _ (compliance-told v p q (length w) (length o)) x .0) (a .output) in
     is-yes r (j .answer ∙ ap (λ (m : List ℕ). modelCheck v p q m (length w₁)) (sym y) ∙ written-checked v p q (length w) (length o) x (length w₁) l)
 
-pub first-side-checked : {v p q w w′ o o′ : List ℕ} {s c n : ℕ} → Equated v p q w w′ o o′ (comparison.Differs 1 s c n) → {w₁ w₁′ : List ℕ} {r : Checked} →
-    Judged v p q (take n o′) w₁ w₁′ r → workSize ≤ length w₁ → r ≡ checked.Yes
+pub first-side-checked : {v p q w w′ o o′ : List ℕ} {s c n : ℕ} → EqualityPost v p q w w′ o o′ (comparison.Differs 1 s c n) → {w₁ w₁′ : List ℕ} {r : Checked} →
+    ModelCheckPost v p q (take n o′) w₁ w₁′ r → workSize ≤ length w₁ → r ≡ checked.Yes
 first-side-checked {v} {p} {q} {w} {o = o} {n = n} a {w₁} {r = r} j l =
     let x = sym (a .answer) in
-    let y = taken (equality v p q (length w) (length o) .words) o n (compared-length v p q (length o) _ (equality-compared v p q (length w) (length o)) x) (a .output) in
+    let y = taken (equality v p q (length w) (length o) .words) o n (comparison-written _ (equality-compared v p q (length w) (length o)) x .0) (a .output) in
     is-yes r (j .answer ∙ ap (λ (m : List ℕ). modelCheck v p q m (length w₁)) (sym y) ∙ first-checked v p q (length w) (length o) x (length w₁) l)
 
 -- a side 2 countermodel with the policies in the other order
-pub second-side-checked : {v p q w w′ o o′ : List ℕ} {s c n : ℕ} → Equated v p q w w′ o o′ (comparison.Differs 2 s c n) → {w₁ w₁′ : List ℕ} {r : Checked} →
-    Judged v q p (take n o′) w₁ w₁′ r → workSize ≤ length w₁ → r ≡ checked.Yes
+pub second-side-checked : {v p q w w′ o o′ : List ℕ} {s c n : ℕ} → EqualityPost v p q w w′ o o′ (comparison.Differs 2 s c n) → {w₁ w₁′ : List ℕ} {r : Checked} →
+    ModelCheckPost v q p (take n o′) w₁ w₁′ r → workSize ≤ length w₁ → r ≡ checked.Yes
 second-side-checked {v} {p} {q} {w} {o = o} {n = n} a {w₁} {r = r} j l =
     let x = sym (a .answer) in
-    let y = taken (equality v p q (length w) (length o) .words) o n (compared-length v p q (length o) _ (equality-compared v p q (length w) (length o)) x) (a .output) in
+    let y = taken (equality v p q (length w) (length o) .words) o n (comparison-written _ (equality-compared v p q (length w) (length o)) x .0) (a .output) in
     is-yes r (j .answer ∙ ap (λ (m : List ℕ). modelCheck v q p m (length w₁)) (sym y) ∙ second-checked v p q (length w) (length o) x (length w₁) l)

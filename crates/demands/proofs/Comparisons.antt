@@ -1,114 +1,130 @@
--- Demand 3: whatever `equality::equality` leaves behind is `Equated`, and here is what follows, with what Compliance leaves behind.
+-- Demand 3: whatever `equality::equality` leaves behind is `EqualityPost`, and here is what follows, with what Compliance leaves behind.
 use Prim.Native.Nat.{ℕ}
 use mathlib.Core.Bool.{Bool, cond, false, true}
-use mathlib.Core.List.{List, []}
-use mathlib.Core.Logic.{_↔_}
+use mathlib.Core.List.{List}
+use mathlib.Core.Logic.{_↔_, _⊎_, inl, inr, ⊎-elim}
 use mathlib.Core.Path.{_∙_, _≡_, ap, refl, sym}
 use lib.Dec.{leb}
 use lib.ListN.{length}
 use native.Mathlib.Omega.{arith}
 use borrow.Author.Tests.{le-leb, le-ltb}
-use Rattle.containment.specs.Verdicts.{Complied}
-use Rattle.equality.specs.Comparisons.{Equated}
-use Rattle.demands.proofs.Verdicts.{Answers, compliant-only, compliant-where}
-use Rattle.demands.specs.Enough.{Comparable, Long}
-use Rattle.meaning.proofs.Equality.{equal-right, equality-compared, indistinct-right}
-use Rattle.meaning.specs.Answers.{comparisonAnswer, differs, equal, refused}
-use Rattle.meaning.specs.Containment.{Decision, Indistinct, contained, decide, escapes}
+use Rattle.containment.specs.Verdicts.{CompliancePost}
+use Rattle.demands.proofs.Slices.{differs-output}
+use Rattle.demands.proofs.Verdicts.{compliant-only, compliant-where}
+use Rattle.demands.specs.Enough.{Answers, BothWithinLimits, Comparable, Compares, Long}
+use Rattle.demands.specs.Sides.{NamesASide}
+use Rattle.equality.specs.Comparisons.{EqualityPost}
+use Rattle.meaning.proofs.Apart.{indistinct-not-told-apart, refutes-apart, within-equal-iff}
+use Rattle.meaning.proofs.Equality.{equal-right, indistinct-right}
+use Rattle.meaning.specs.Answers.{ComparisonResult, comparisonAnswer, differs, equal, refused, result}
+use Rattle.meaning.specs.Containment.{Decision, Indistinct, ToldApart, contained, decide, escapes}
 use Rattle.meaning.specs.Countermodel.{countermodel}
-use Rattle.meaning.specs.Operations.{Outcome, equality, equalityOf, outputAfter, refuses, reported, says, workSize}
+use Rattle.meaning.specs.Limits.{workSize}
+use Rattle.meaning.specs.Operations.{Outcome, equality, equalityOf, refuses, reported, says}
 use Rattle.meaning.specs.Policy.{policyOf}
-use Rattle.meaning.specs.Promises.{Compared, IsRefusal, same, side1, side2, unsaidComparison}
-use Rattle.meaning.specs.Vocabulary.{Vocabulary, classCount, vocabularyOf}
-use Rattle.meaning.specs.declared.Comparison.the-variants as comparison
+use Rattle.meaning.specs.Promises.{IsRefusal}
+use Rattle.meaning.specs.Vocabulary.{Vocabulary, vocabularyOf}
 use Rattle.meaning.specs.declared.Comparison.{Comparison}
-use Rattle.meaning.specs.declared.Verdict.the-variants as verdict
 use Rattle.meaning.specs.declared.Verdict.{Verdict}
+use Rattle.meaning.specs.declared.Comparison.the-variants as comparison
+use Rattle.meaning.specs.declared.Verdict.the-variants as verdict
 
--- a comparison that is no refusal
-abbrev pub Compares : Comparison → Type 0
-Compares r = IsRefusal (comparisonAnswer r) → ⊥
-
-is-equal : (r : Comparison) → comparisonAnswer r ≡ equal → r ≡ comparison.Equal
+is-equal : (r : Comparison) → comparisonAnswer r ≡ result equal → r ≡ comparison.Equal
 is-equal comparison.Equal e = refl
 is-equal (comparison.Differs side s q n) e = absurd (let z : _≡_ {A = ℕ} 0 1 = cc in omega arith)
 is-equal (comparison.Refused n) e = absurd (let z : _≡_ {A = ℕ} 0 1 = cc in omega arith)
 
-module _ {v p q w w′ o o′ : List ℕ} {r : Comparison} (c : Equated v p q w w′ o o′ r) where
-  -- ""equal" exactly when no interpretation, finite or countable, tells the two policies apart"
+module _ {v p q w w′ o o′ : List ℕ} {r : Comparison} (c : EqualityPost v p q w w′ o o′ r) where
+  -- "equal" only where the two policies have the same individuals, in every interpretation, whatever its sets are
   pub equal-only : r ≡ comparison.Equal → Indistinct (vocabularyOf v) (policyOf p) (policyOf q)
   equal-only e = equal-right v p q (length w) (length o) (sym (c .answer) ∙ ap comparisonAnswer e)
 
+  -- a comparison that is given is "equal" where the two policies have the same individuals, in every interpretation
   pub equal-where : Compares r → Indistinct (vocabularyOf v) (policyOf p) (policyOf q) → r ≡ comparison.Equal
   equal-where t h = is-equal r (c .answer ∙ indistinct-right v p q (length w) (length o) h (λ x. t (x .0, c .answer ∙ x .1)))
 
-  -- "A refusal writes no output"; nor does "equal"
-  outcome-silent : (x : Outcome) → Compared (classCount v) (vocabularyOf v) (policyOf p) (policyOf q) (length o) x →
-      ((side s k n : ℕ) → x .answer ≡ differs side s k n → ⊥) → x .words ≡ []
-  outcome-silent x (unsaidComparison n) f = refl
-  outcome-silent x (same h) f = refl
-  outcome-silent x (side1 s k words h l) f = absurd (f _ _ _ _ refl)
-  outcome-silent x (side2 s k words d h l) f = absurd (f _ _ _ _ refl)
+  -- demand 3: "equal" exactly when no interpretation, finite or countable, tells the two apart, whatever the output's length
+  pub equal-iff : BothWithinLimits v p q (length w) → (r ≡ comparison.Equal) ↔ (ToldApart (vocabularyOf v) (policyOf p) (policyOf q) → ⊥)
+  equal-iff a =
+      let h = within-equal-iff v p q (length w) (length o) (a .accepted) (a .full) (a .few) (a .fewer) in
+      (λ e. h .0 (sym (c .answer) ∙ ap comparisonAnswer e), λ none. is-equal r (c .answer ∙ h .1 none))
 
-  silent : ((side s k n : ℕ) → comparisonAnswer r ≡ differs side s k n → ⊥) → o′ ≡ o
-  unfolding outputAfter
-  silent f =
-      c .output
-      ∙ ap (λ (l : List ℕ). outputAfter l o)
-      (outcome-silent (equality v p q (length w) (length o)) (equality-compared v p q (length w) (length o)) (λ side s k n e. f side s k n (c .answer ∙ e)))
-
-  pub refused-silent : {n : ℕ} → r ≡ comparison.Refused n → o′ ≡ o
-  refused-silent e = silent (λ side s k n h. let x = ap comparisonAnswer e in absurd (let z : _≡_ {A = ℕ} 0 1 = cc in omega arith))
-
-  pub equal-silent : r ≡ comparison.Equal → o′ ≡ o
-  equal-silent e = silent (λ side s k n h. let x = ap comparisonAnswer e in absurd (let z : _≡_ {A = ℕ} 0 1 = cc in omega arith))
+  -- "equal" exactly when the two policies have the same individuals in every interpretation
+  pub equal-iff-indistinct : BothWithinLimits v p q (length w) → (r ≡ comparison.Equal) ↔ Indistinct (vocabularyOf v) (policyOf p) (policyOf q)
+  equal-iff-indistinct a = (equal-only, λ h. equal-iff a .1 (λ x. indistinct-not-told-apart h x))
 
 -- where all is within the limits it answers
 module _ (v p q : List ℕ) (w o : ℕ) (a : Comparable v p q w o) where
-  told-long : (N : ℕ) (K : Vocabulary) (side : ℕ) (d : Decision) (rest : Outcome) (R : Type 0) → Long N K o d R → (R → IsRefusal (rest .answer) → ⊥) →
-      IsRefusal (reported N K o (differs side) d rest .answer) → ⊥
-  told-long N K side contained rest R l f r = f l r
-  told-long N K side (escapes s q u) rest R l f r = go (leb (length (countermodel N K u)) o) (le-leb (length (countermodel N K u)) o l) (r .1)
+  told-long : (K : Vocabulary) (side : ℕ) (d : Decision) (rest : Outcome ComparisonResult) (R : Type 0) → Long K o d R → (R → IsRefusal (rest .answer) → ⊥) →
+      IsRefusal (reported K o (differs side) d rest .answer) → ⊥
+  told-long K side contained rest R l f r = f l r
+  told-long K side (escapes s q u) rest R l f r = go (leb (length (countermodel K u)) o) (le-leb (length (countermodel K u)) o l) (r .1)
     where
-      go : (b : Bool) → b ≡ true → cond b (record { answer = differs side s q (length (countermodel N K u)); words = countermodel N K u }) (refuses 23) .answer ≡ refused (r .0) → ⊥
+      go : (b : Bool) → b ≡ true → cond b (record { answer = result (differs side s q (length (countermodel K u))); words = countermodel K u }) (refuses 23) .answer ≡ refused (r .0) → ⊥
       go true h e = absurd (let z : _≡_ {A = ℕ} 0 1 = cc in omega arith)
       go false h e = absurd (let z : _≡_ {A = ℕ} 0 1 = cc in omega arith)
 
   answered : IsRefusal (equality v p q w o .answer) → ⊥
   unfolding equality equalityOf
   answered r =
-      told-long (classCount v) (vocabularyOf v) 1 (decide (vocabularyOf v) (policyOf p) (policyOf q)) _ _ (a .long) (λ l.
-      told-long (classCount v) (vocabularyOf v) 2 (decide (vocabularyOf v) (policyOf q) (policyOf p)) (says equal) _ l
+      told-long (vocabularyOf v) 1 (decide (vocabularyOf v) (policyOf p) (policyOf q)) _ _ (a .long) (λ l.
+      told-long (vocabularyOf v) 2 (decide (vocabularyOf v) (policyOf q) (policyOf p)) (says equal) _ l
       (λ u x. let e = x .1 in absurd (let z : _≡_ {A = ℕ} 0 1 = cc in omega arith)))
-      (rw (a .accepted, le-ltb w workSize (a .full), a .few, a .fewer) at r)
+      (rw (a .within .accepted, le-ltb w workSize (a .within .full), a .within .few, a .within .fewer) at r)
 
-pub equality-answers : {v p q w w′ o o′ : List ℕ} {r : Comparison} → Equated v p q w w′ o o′ r → Comparable v p q (length w) (length o) → Compares r
+pub equality-answers : {v p q w w′ o o′ : List ℕ} {r : Comparison} → EqualityPost v p q w w′ o o′ r → Comparable v p q (length w) (length o) → Compares r
 equality-answers {v} {p} {q} {w} {o = o} c a x = answered v p q (length w) (length o) a (x .0, sym (c .answer) ∙ x .1)
 
--- "policies found equal get the same compliance verdicts with every third policy, on either side, wherever neither call is refused"
-module _ {v p q w w′ o o′ : List ℕ} (c : Equated v p q w w′ o o′ comparison.Equal) {t w₁ w₁′ o₁ o₁′ w₂ w₂′ o₂ o₂′ : List ℕ} {r s : Verdict} where
-  pub same-verdict : Complied v p t w₁ w₁′ o₁ o₁′ r → Complied v q t w₂ w₂′ o₂ o₂′ s → Answers r → Answers s → (r ≡ verdict.Compliant) ↔ (s ≡ verdict.Compliant)
+-- a comparison that is given is "equal", or it names a side and writes a finite interpretation
+pub equal-or-differs : {v p q w w′ o o′ : List ℕ} {r : Comparison} → EqualityPost v p q w w′ o o′ r → Compares r → (r ≡ comparison.Equal) ⊎ NamesASide v p q o′ r
+equal-or-differs {r = comparison.Equal} c t = inl refl
+equal-or-differs {r = comparison.Differs side s k n} c t = inr (record {
+  side = side;
+  term = s;
+  combination = k;
+  size = n;
+  answer = refl;
+  fits = let f = differs-output c refl in omega (arith, f .fits, f .size);
+  one-or-two = ⊎-elim (λ h. inl (h .0)) (λ h. inr (h .0)) (c .right .0);
+  first = λ e. ⊎-elim (λ h. h .1) (λ h. absurd (let z = h .0 in omega arith)) (c .right .0);
+  second = λ e. ⊎-elim (λ h. absurd (let z = h .0 in omega arith)) (λ h. h .1) (c .right .0);
+})
+equal-or-differs {r = comparison.Refused n} c t = absurd (t (n, refl))
+
+-- demand 3: "else, the output being long enough, it names a side and writes a finite interpretation that does"
+pub differs-where : {v p q w w′ o o′ : List ℕ} {r : Comparison} → EqualityPost v p q w w′ o o′ r → Comparable v p q (length w) (length o) →
+    ToldApart (vocabularyOf v) (policyOf p) (policyOf q) → NamesASide v p q o′ r
+differs-where c a x =
+    ⊎-elim (λ e. absurd (indistinct-not-told-apart (equal-only c e) x)) (λ h. h) (equal-or-differs c (equality-answers c a))
+
+-- the interpretation that is written tells the two apart
+pub names-told-apart : {v p q o : List ℕ} {r : Comparison} → NamesASide v p q o r → ToldApart (vocabularyOf v) (policyOf p) (policyOf q)
+names-told-apart n = ⊎-elim (λ e. inl (refutes-apart (n .first e))) (λ e. inr (refutes-apart (n .second e))) (n .one-or-two)
+
+-- demand 3: "policies found equal get the same compliance verdicts with every third policy, on either side, wherever neither call is refused"
+module _ {v p q w w′ o o′ : List ℕ} (c : EqualityPost v p q w w′ o o′ comparison.Equal) {t w₁ w₁′ o₁ o₁′ w₂ w₂′ o₂ o₂′ : List ℕ} {r s : Verdict} where
+  pub same-verdict : CompliancePost v p t w₁ w₁′ o₁ o₁′ r → CompliancePost v q t w₂ w₂′ o₂ o₂′ s → Answers r → Answers s → (r ≡ verdict.Compliant) ↔ (s ≡ verdict.Compliant)
   same-verdict a b x y = (
     λ e. compliant-where b y (λ I proper m d i k. compliant-only a e I proper m d i (equal-only c refl I proper m d i .1 k)),
     λ e. compliant-where a x (λ I proper m d i k. compliant-only b e I proper m d i (equal-only c refl I proper m d i .0 k)),
   )
 
-  pub same-consent : Complied v t p w₁ w₁′ o₁ o₁′ r → Complied v t q w₂ w₂′ o₂ o₂′ s → Answers r → Answers s → (r ≡ verdict.Compliant) ↔ (s ≡ verdict.Compliant)
+  pub same-consent : CompliancePost v t p w₁ w₁′ o₁ o₁′ r → CompliancePost v t q w₂ w₂′ o₂ o₂′ s → Answers r → Answers s → (r ≡ verdict.Compliant) ↔ (s ≡ verdict.Compliant)
   same-consent a b x y = (
     λ e. compliant-where b y (λ I proper m d i k. equal-only c refl I proper m d i .0 (compliant-only a e I proper m d i k)),
     λ e. compliant-where a x (λ I proper m d i k. equal-only c refl I proper m d i .1 (compliant-only b e I proper m d i k)),
   )
 
 -- equality is reflexive, symmetric and transitive where it answers: one filed copy may stand for a class of consents
-pub reflexive : {v p w w′ o o′ : List ℕ} {r : Comparison} → Equated v p p w w′ o o′ r → Compares r → r ≡ comparison.Equal
+pub reflexive : {v p w w′ o o′ : List ℕ} {r : Comparison} → EqualityPost v p p w w′ o o′ r → Compares r → r ≡ comparison.Equal
 reflexive c t = equal-where c t (λ I proper m d i. (λ h. h, λ h. h))
 
-pub symmetric : {v p q w w′ o o′ w₁ w₁′ o₁ o₁′ : List ℕ} {r : Comparison} → Equated v p q w w′ o o′ comparison.Equal → Equated v q p w₁ w₁′ o₁ o₁′ r → Compares r →
+pub symmetric : {v p q w w′ o o′ w₁ w₁′ o₁ o₁′ : List ℕ} {r : Comparison} → EqualityPost v p q w w′ o o′ comparison.Equal → EqualityPost v q p w₁ w₁′ o₁ o₁′ r → Compares r →
     r ≡ comparison.Equal
 symmetric a c t = equal-where c t (λ I proper m d i. (equal-only a refl I proper m d i .1, equal-only a refl I proper m d i .0))
 
-pub transitive : {v p q s w w′ o o′ w₁ w₁′ o₁ o₁′ w₂ w₂′ o₂ o₂′ : List ℕ} {r : Comparison} → Equated v p q w w′ o o′ comparison.Equal →
-    Equated v q s w₁ w₁′ o₁ o₁′ comparison.Equal → Equated v p s w₂ w₂′ o₂ o₂′ r → Compares r → r ≡ comparison.Equal
+pub transitive : {v p q s w w′ o o′ w₁ w₁′ o₁ o₁′ w₂ w₂′ o₂ o₂′ : List ℕ} {r : Comparison} → EqualityPost v p q w w′ o o′ comparison.Equal →
+    EqualityPost v q s w₁ w₁′ o₁ o₁′ comparison.Equal → EqualityPost v p s w₂ w₂′ o₂ o₂′ r → Compares r → r ≡ comparison.Equal
 transitive a b c t = equal-where c t (λ I proper m d i. (
   λ h. equal-only b refl I proper m d i .0 (equal-only a refl I proper m d i .0 h),
   λ h. equal-only a refl I proper m d i .1 (equal-only b refl I proper m d i .1 h),

@@ -1,4 +1,8 @@
 -- The demands, each sentence a theorem about what the operations' contracts say.
+pub mod Orders
+pub mod Refusals
+pub mod Afterwards
+pub mod Slices
 pub mod Verdicts
 pub mod Comparisons
 pub mod Checks

@@ -1,1 +1,4 @@
 pub mod Enough
+pub mod Refusals
+pub mod Sides
+pub mod Slices

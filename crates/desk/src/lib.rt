@@ -10,9 +10,9 @@ use text::put_verdict;
 ghost use mathlib.Core.Path.{_≡_};
 ghost use Prim.Native.Nat.{_*_, _/_, _≤_};
 ghost use lib.ListN.{length, take};
-ghost use Rattle.meaning.specs.Operations.{workSize};
+ghost use Rattle.input.specs.Input.{decided, decidedWords};
+ghost use Rattle.meaning.specs.Limits.{mostBytes, outputSize, workSize};
 ghost use Rattle.meaning.specs.Program.{program};
-ghost use Rattle.input.specs.Input.{decided, decidedWords, mostBytes, outputSize};
 ghost use Rattle.text.specs.Text.{Shows, textSize};
 
 // The verdict on the words of an input of so many bytes.

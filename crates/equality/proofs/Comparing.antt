@@ -8,86 +8,89 @@ use lib.Dec.{leb}
 use lib.ListN.{length}
 use native.Mathlib.Omega.{arith}
 use Rattle.containment.proofs.Complying.{in-order, ready-back, ready-stays}
-use Rattle.equality.specs.Comparisons.{Comparable, Compares, RightComparison, compared, difference, reverse, sidedAnswer}
 use Rattle.decision.proofs.Deciding.{outputs-none, taken}
-use Rattle.decision.specs.Decisions.{Countable, Delivers, Ready, decision}
+use Rattle.decision.specs.Decisions.{Countable, Delivers, PreparedPair, decision}
+use Rattle.equality.specs.Comparisons.{Comparable, Compares, ComparisonTested, compared, difference, reverse, sidedAnswer}
 use Rattle.hierarchy.specs.declared.Functional.{Functional}
 use Rattle.meaning.proofs.Compliance.{no-escape}
 use Rattle.meaning.proofs.Equality.{equality-compared}
 use Rattle.meaning.proofs.Interpretations.{tested-finite}
-use Rattle.meaning.specs.Answers.{Answer, comparisonAnswer, compliant, differs, equal, outside, refused, verdictAnswer}
+use Rattle.meaning.specs.Answers.{Answer, ComparisonResult, comparisonAnswer, compliant, differs, equal, outside, refused, result}
+use Rattle.meaning.specs.Answers.{verdictAnswer}
 use Rattle.meaning.specs.Containment.{Decision, Refutes, contained, decide, escapes, tooMany}
-use Rattle.meaning.specs.Countermodel.{Fact, countermodel}
-use Rattle.meaning.specs.ModelCheck.{factsOf, individualCount}
-use Rattle.meaning.specs.Operations.{Outcome, comesLate, equality, equalityOf, inputRefusal, outputAfter, refuses, reported, says, unless, workAfter, workRefusal, workSize}
+use Rattle.meaning.specs.Countermodel.{countermodel}
+use Rattle.meaning.specs.Limits.{workSize}
+use Rattle.meaning.specs.Model.{Fact, factsOf, individualCount}
+use Rattle.meaning.specs.Operations.{Outcome, comesLate, equality, equalityOf, inputRefusal, outputAfter, refuses, reported, says}
+use Rattle.meaning.specs.Operations.{unless, workAfter, workRefusal}
 use Rattle.meaning.specs.Policy.{Policy, policyOf}
-use Rattle.meaning.specs.Promises.{Compared, same, side1, side2, unsaidComparison}
+use Rattle.meaning.specs.Promises.{CorrectComparison, same, side1, side2, unsaidComparison}
 use Rattle.meaning.specs.Records.{orElse}
-use Rattle.meaning.specs.Vocabulary.{Vocabulary, classCount, vocabularyOf}
-use Rattle.meaning.specs.declared.Comparison.the-variants as comparison
+use Rattle.meaning.specs.Vocabulary.{Vocabulary, vocabularyOf}
 use Rattle.meaning.specs.declared.Comparison.{Comparison}
-use Rattle.meaning.specs.declared.Verdict.the-variants as verdict
 use Rattle.meaning.specs.declared.Verdict.{Verdict}
 use Rattle.workspace.proofs.Changes.{cleared-beyond}
 use Rattle.workspace.proofs.Laws.{beyond-then}
 use Rattle.workspace.specs.Work.{Beyond, Cleared, Stays}
+use Rattle.meaning.specs.declared.Comparison.the-variants as comparison
+use Rattle.meaning.specs.declared.Verdict.the-variants as verdict
 
 -- ---- the sides
 
-module _ (N : ℕ) (K : Vocabulary) (o o′ : List ℕ) where
+module _ (K : Vocabulary) (o o′ : List ℕ) where
   -- what one direction reports, by a teller and with what follows
-  abbrev told : (ℕ → ℕ → ℕ → Answer) → Decision → Outcome → Outcome
-  told tell d rest = reported N K (length o) tell d rest
+  abbrev told : {A : Type 0} → (ℕ → ℕ → ℕ → A) → Decision → Outcome A → Outcome A
+  told tell d rest = reported K (length o) tell d rest
 
   pub side-answer : (side : ℕ) (d : Decision) → sidedAnswer side (told outside d (says compliant) .answer) ≡ told (differs side) d (says equal) .answer
   side-answer side contained = refl
-  side-answer side (escapes s q u) = go (leb (length (countermodel N K u)) (length o))
+  side-answer side (escapes s q u) = go (leb (length (countermodel K u)) (length o))
     where
-      go : (b : Bool) → sidedAnswer side (cond b (record { answer = outside s q (length (countermodel N K u)); words = countermodel N K u }) (refuses 23) .answer) ≡
-          cond b (record { answer = differs side s q (length (countermodel N K u)); words = countermodel N K u }) (refuses 23) .answer
+      go : (b : Bool) → sidedAnswer side (cond b (record { answer = result (outside s q (length (countermodel K u))); words = countermodel K u }) (refuses 23) .answer) ≡
+          cond b (record { answer = result (differs side s q (length (countermodel K u))); words = countermodel K u }) (refuses 23) .answer
       go true = refl
       go false = refl
 
   pub side-words : (side : ℕ) (d : Decision) → told outside d (says compliant) .words ≡ told (differs side) d (says equal) .words
   side-words side contained = refl
-  side-words side (escapes s q u) = go (leb (length (countermodel N K u)) (length o))
+  side-words side (escapes s q u) = go (leb (length (countermodel K u)) (length o))
     where
-      go : (b : Bool) → cond b (record { answer = outside s q (length (countermodel N K u)); words = countermodel N K u }) (refuses 23) .words ≡
-          cond b (record { answer = differs side s q (length (countermodel N K u)); words = countermodel N K u }) (refuses 23) .words
+      go : (b : Bool) → cond b (record { answer = result (outside s q (length (countermodel K u))); words = countermodel K u }) (refuses 23) .words ≡
+          cond b (record { answer = result (differs side s q (length (countermodel K u))); words = countermodel K u }) (refuses 23) .words
       go true = refl
       go false = refl
 
   -- compliant: nothing is written, and what follows is told
   pub forth-on : (d : Decision) → Delivers (told outside d (says compliant)) o o′ verdict.Compliant → (d ≡ contained) × (o′ ≡ o)
   forth-on contained x = (refl, x .output ∙ sym (outputs-none o))
-  forth-on (escapes s q u) x = go (leb (length (countermodel N K u)) (length o)) (x .answer)
+  forth-on (escapes s q u) x = go (leb (length (countermodel K u)) (length o)) (x .answer)
     where
-      go : (b : Bool) → compliant ≡ cond b (record { answer = outside s q (length (countermodel N K u)); words = countermodel N K u }) (refuses 23) .answer →
+      go : (b : Bool) → result compliant ≡ cond b (record { answer = result (outside s q (length (countermodel K u))); words = countermodel K u }) (refuses 23) .answer →
           (escapes s q u ≡ contained) × (o′ ≡ o)
       go true e = absurd (let z : _≡_ {A = ℕ} 0 1 = cc in omega arith)
       go false e = absurd (let z : _≡_ {A = ℕ} 0 1 = cc in omega arith)
 
   -- else what follows does not matter
-  module _ (rest : Outcome) where
+  module _ (rest : Outcome ComparisonResult) where
     pub forth-outside : {s c n : ℕ} (d : Decision) → Delivers (told outside d (says compliant)) o o′ (verdict.Outside s c n) → Compares (told (differs 1) d rest) o o′ (comparison.Differs 1 s c n)
     forth-outside contained x = let a = x .answer in absurd (let z : _≡_ {A = ℕ} 0 1 = cc in omega arith)
-    forth-outside {s} {c} {n} (escapes i q u) x = go (leb (length (countermodel N K u)) (length o)) (x .answer) (x .output)
+    forth-outside {s} {c} {n} (escapes i q u) x = go (leb (length (countermodel K u)) (length o)) (x .answer) (x .output)
       where
-        go : (b : Bool) → outside s c n ≡ cond b (record { answer = outside i q (length (countermodel N K u)); words = countermodel N K u }) (refuses 23) .answer →
-            o′ ≡ outputAfter (cond b (record { answer = outside i q (length (countermodel N K u)); words = countermodel N K u }) (refuses 23) .words) o →
-            Compares (cond b (record { answer = differs 1 i q (length (countermodel N K u)); words = countermodel N K u }) (refuses 23)) o o′ (comparison.Differs 1 s c n)
+        go : (b : Bool) → result (outside s c n) ≡ cond b (record { answer = result (outside i q (length (countermodel K u))); words = countermodel K u }) (refuses 23) .answer →
+            o′ ≡ outputAfter (cond b (record { answer = result (outside i q (length (countermodel K u))); words = countermodel K u }) (refuses 23) .words) o →
+            Compares (cond b (record { answer = result (differs 1 i q (length (countermodel K u))); words = countermodel K u }) (refuses 23)) o o′ (comparison.Differs 1 s c n)
         go true e f = record { answer = cc; output = f }
         go false e f = absurd (let z : _≡_ {A = ℕ} 0 1 = cc in omega arith)
 
     pub forth-refused : {n : ℕ} (d : Decision) → Delivers (told outside d (says compliant)) o o′ (verdict.Refused n) → Compares (told (differs 1) d rest) o o′ (comparison.Refused n)
     forth-refused contained x = let a = x .answer in absurd (let z : _≡_ {A = ℕ} 0 1 = cc in omega arith)
-    forth-refused {n} (escapes i q u) x = go (leb (length (countermodel N K u)) (length o)) (x .answer) (x .output)
+    forth-refused {n} (escapes i q u) x = go (leb (length (countermodel K u)) (length o)) (x .answer) (x .output)
       where
-        go : (b : Bool) → refused n ≡ cond b (record { answer = outside i q (length (countermodel N K u)); words = countermodel N K u }) (refuses 23) .answer →
-            o′ ≡ outputAfter (cond b (record { answer = outside i q (length (countermodel N K u)); words = countermodel N K u }) (refuses 23) .words) o →
-            Compares (cond b (record { answer = differs 1 i q (length (countermodel N K u)); words = countermodel N K u }) (refuses 23)) o o′ (comparison.Refused n)
+        go : (b : Bool) → refused n ≡ cond b (record { answer = result (outside i q (length (countermodel K u))); words = countermodel K u }) (refuses 23) .answer →
+            o′ ≡ outputAfter (cond b (record { answer = result (outside i q (length (countermodel K u))); words = countermodel K u }) (refuses 23) .words) o →
+            Compares (cond b (record { answer = result (differs 1 i q (length (countermodel K u))); words = countermodel K u }) (refuses 23)) o o′ (comparison.Refused n)
         go true e f = absurd (let z : _≡_ {A = ℕ} 0 1 = cc in omega arith)
-        go false e f = record { answer = e; output = f }
+        go false e f = record { answer = cc; output = f }
 
 module _ (v p q : List ℕ) where
   abbrev decided : Decision
@@ -101,18 +104,18 @@ module _ (v p q : List ℕ) where
     pub differs-back : {o″ : List ℕ} {r : Verdict} {x : Comparison} → y ≡ verdict.Compliant → Delivers (decision v q p (length o′)) o′ o″ r →
         comparisonAnswer x ≡ sidedAnswer 2 (verdictAnswer r) → Compares (difference v p q (length o)) o o″ x
     differs-back {o″} {r} {x} h b e =
-        let f = forth-on (classCount v) (vocabularyOf v) o o′ decided (is h) in
+        let f = forth-on (vocabularyOf v) o o′ decided (is h) in
         let d = subst (λ (l : List ℕ). Delivers (decision v q p (length l)) l o″ r) (f .1) b in
         rw (f .0) (record {
-          answer = e ∙ ap (sidedAnswer 2) (d .answer) ∙ side-answer (classCount v) (vocabularyOf v) o o″ 2 (decide (vocabularyOf v) (policyOf q) (policyOf p));
-          output = d .output ∙ ap (λ (l : List ℕ). outputAfter l o) (side-words (classCount v) (vocabularyOf v) o o″ 2 (decide (vocabularyOf v) (policyOf q) (policyOf p)));
+          answer = e ∙ ap (sidedAnswer 2) (d .answer) ∙ side-answer (vocabularyOf v) o o″ 2 (decide (vocabularyOf v) (policyOf q) (policyOf p));
+          output = d .output ∙ ap (λ (l : List ℕ). outputAfter l o) (side-words (vocabularyOf v) o o″ 2 (decide (vocabularyOf v) (policyOf q) (policyOf p)));
         })
 
     pub differs-outside : {s c n : ℕ} → y ≡ verdict.Outside s c n → Compares (difference v p q (length o)) o o′ (comparison.Differs 1 s c n)
-    differs-outside h = forth-outside (classCount v) (vocabularyOf v) o o′ (reverse v p q (length o)) decided (is h)
+    differs-outside h = forth-outside (vocabularyOf v) o o′ (reverse v p q (length o)) decided (is h)
 
     pub differs-refused : {n : ℕ} → y ≡ verdict.Refused n → Compares (difference v p q (length o)) o o′ (comparison.Refused n)
-    differs-refused h = forth-refused (classCount v) (vocabularyOf v) o o′ (reverse v p q (length o)) decided (is h)
+    differs-refused h = forth-refused (vocabularyOf v) o o′ (reverse v p q (length o)) decided (is h)
 
 -- ---- one direction, then the other
 
@@ -131,7 +134,7 @@ module _ (v p q o : List ℕ) {a b : Bool} (e : a ≡ tooMany (vocabularyOf v) (
   compares-22 h = rw (sym e, sym f, h) (record { answer = refl; output = outputs-none o })
 
   module _ (h : (a || b) ≡ false) where
-    pub compares-none : {w : List ℕ} {x : Functional} → Ready v p q w x → Comparable v p q w x
+    pub compares-none : {w : List ℕ} {x : Functional} → PreparedPair v p q w x → Comparable v p q w x
     compares-none r = record { ready = r; forth = sym e ∙ go a b h .0; back = sym f ∙ go a b h .1 }
       where
         go : (a b : Bool) → (a || b) ≡ false → (a ≡ false) × (b ≡ false)
@@ -149,7 +152,7 @@ module _ (v p q : List ℕ) (w : ℕ) (o : List ℕ) {m r : ℕ} (e : m ≡ inpu
   unfolding equality
   compares-refused n = rw (sym (in-order v p q w o e f)) (go r n (compared v p q (length o)))
     where
-      go : (r : ℕ) → (r ≡ 0 → ⊥) → (x : Outcome) → Compares (unless refuses r x) o o (comparison.Refused r)
+      go : (r : ℕ) → (r ≡ 0 → ⊥) → (x : Outcome ComparisonResult) → Compares (unless refuses r x) o o (comparison.Refused r)
       go zero n x = absurd (n refl)
       go (suc r) n x = record { answer = refl; output = outputs-none o }
 
@@ -159,22 +162,22 @@ module _ (v p q : List ℕ) (w : ℕ) (o : List ℕ) {m r : ℕ} (e : m ≡ inpu
 
 -- ---- the work slice afterwards
 
-module _ (N : ℕ) (K : Vocabulary) (P Q : Policy) (o : ℕ) where
-  compared-late : comesLate (equalityOf N K P Q o .answer) ≡ true
+module _ (K : Vocabulary) (P Q : Policy) (o : ℕ) where
+  compared-late : comesLate (equalityOf K P Q o .answer) ≡ true
   unfolding equalityOf
   compared-late = go (tooMany K P Q || tooMany K Q P) (decide K P Q) (decide K Q P)
     where
-      fits : (b : Bool) (side s q : ℕ) (words : List ℕ) → comesLate ((cond b (record { answer = differs side s q (length words); words = words }) (refuses 23)) .answer) ≡ true
+      fits : (b : Bool) (side s q : ℕ) (words : List ℕ) → comesLate ((cond b (record { answer = result (differs side s q (length words)); words = words }) (refuses 23)) .answer) ≡ true
       fits true side s q words = refl
       fits false side s q words = refl
 
-      go : (b : Bool) (d e : Decision) → comesLate (cond b (refuses 22) (reported N K o (differs 1) d (reported N K o (differs 2) e (says equal))) .answer) ≡ true
+      go : (b : Bool) (d e : Decision) → comesLate (cond b (refuses 22) (reported K o (differs 1) d (reported K o (differs 2) e (says equal))) .answer) ≡ true
       go true d e = refl
       go false contained contained = refl
-      go false contained (escapes s q u) = fits (leb (length (countermodel N K u)) o) 2 s q (countermodel N K u)
-      go false (escapes s q u) e = fits (leb (length (countermodel N K u)) o) 1 s q (countermodel N K u)
+      go false contained (escapes s q u) = fits (leb (length (countermodel K u)) o) 2 s q (countermodel K u)
+      go false (escapes s q u) e = fits (leb (length (countermodel K u)) o) 1 s q (countermodel K u)
 
-  pub compared-work : {w w₁ w₂ w₃ : List ℕ} {a : Answer} → Beyond w w₁ → Beyond w₁ w₂ → Cleared 0 workSize w₂ w₃ → a ≡ equalityOf N K P Q o .answer → w₃ ≡ workAfter a w
+  pub compared-work : {w w₁ w₂ w₃ : List ℕ} {a : Answer ComparisonResult} → Beyond w w₁ → Beyond w₁ w₂ → Cleared 0 workSize w₂ w₃ → a ≡ equalityOf K P Q o .answer → w₃ ≡ workAfter a w
   unfolding workAfter
   compared-work b c z e = rw (ap comesLate e ∙ compared-late) (cleared-beyond (beyond-then b c) z)
 
@@ -184,8 +187,8 @@ module _ (v p q o o′ : List ℕ) where
   abbrev K : Vocabulary
   K = vocabularyOf v
 
-  right : (r : Comparison) (x : Outcome) → Compared (classCount v) K (policyOf p) (policyOf q) (length o) x → comparisonAnswer r ≡ x .answer → o′ ≡ outputAfter (x .words) o →
-      RightComparison v p q o′ r
+  right : (r : Comparison) (x : Outcome ComparisonResult) → CorrectComparison K (policyOf p) (policyOf q) (length o) x → comparisonAnswer r ≡ x .answer → o′ ≡ outputAfter (x .words) o →
+      ComparisonTested v p q o′ r
   right comparison.Equal x (same h) a d = λ M proper s i j. h _ proper s i j
   right comparison.Equal x (unsaidComparison n) a d = absurd (let z : _≡_ {A = ℕ} 0 1 = cc in omega arith)
   right comparison.Equal x (side1 s k words h l) a d = absurd (let z : _≡_ {A = ℕ} 0 1 = cc in omega arith)
@@ -208,5 +211,5 @@ module _ (v p q o o′ : List ℕ) where
       )
   right (comparison.Refused m) x t a d = tt
 
-  pub compares-right : (w : ℕ) {r : Comparison} → Compares (equality v p q w (length o)) o o′ r → RightComparison v p q o′ r
+  pub compares-right : (w : ℕ) {r : Comparison} → Compares (equality v p q w (length o)) o o′ r → ComparisonTested v p q o′ r
   compares-right w {r} d = right r (equality v p q w (length o)) (equality-compared v p q w (length o)) (d .answer) (d .output)

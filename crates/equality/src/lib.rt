@@ -4,9 +4,9 @@ use decision::has_too_many;
 use hierarchy::Functional;
 use meaning::Comparison;
 use meaning::Verdict;
+use meaning::limits::WORK_SIZE;
 use splitting::ENDS;
 use splitting::collect;
-use workspace::WORK;
 use workspace::clear;
 use workspace::prepare;
 use workspace::work_refusal;
@@ -14,8 +14,8 @@ ghost use mathlib.Core.List.{List};
 ghost use mathlib.Core.Path.{_≡_};
 ghost use Prim.Native.Nat.{ℕ};
 ghost use lib.ListN.{length};
-ghost use Rattle.decision.specs.Decisions.{Ready};
-ghost use Rattle.equality.specs.Comparisons.{BothEnds, Comparable, ComparedBy, DifferenceBy, Equated, sidedAnswer};
+ghost use Rattle.decision.specs.Decisions.{PreparedPair};
+ghost use Rattle.equality.specs.Comparisons.{BothEnds, Comparable, ComparedBy, DifferenceBy, EqualityPost, sidedAnswer};
 ghost use Rattle.meaning.specs.Answers.{comparisonAnswer, verdictAnswer};
 ghost use Rattle.workspace.specs.Work.{Beyond};
 
@@ -54,7 +54,7 @@ fn differ(
 
 // What Equality answers behind 21: 22 for both directions before any verdict.
 fn compare(p: &[u32], q: &[u32], work: &mut [u32], f: Functional, out: &mut [u32]) -> Comparison
-    requires { ⌜ ((v : List ℕ) × Ready v (now p) (now q) (now work) f) ⌝ }
+    requires { ⌜ ((v : List ℕ) × PreparedPair v (now p) (now q) (now work) f) ⌝ }
     ensures { λ r. ⌜ ComparedBy (now (p .entry)) (now (q .entry)) (now (work .entry)) f (now (out .entry)) (now (out .exit)) r ⌝ }
     ensures { λ _. ⌜ Beyond (now (work .entry)) (now (work .exit)) × (length (now (out .exit)) ≡ length (now (out .entry))) ⌝ }
 {
@@ -75,7 +75,7 @@ fn compare(p: &[u32], q: &[u32], work: &mut [u32], f: Functional, out: &mut [u32
 // Equality: the same refusals in the same order, 22 for both directions; then the first direction's difference, the second's, or
 // equal. Time grows as that of two calls of Compliance.
 pub fn equality(v: &[u32], p: &[u32], q: &[u32], work: &mut [u32], out: &mut [u32]) -> Comparison
-    ensures { λ r. ⌜ Equated (now (v .entry)) (now (p .entry)) (now (q .entry)) (now (work .entry)) (now (work .exit)) (now (out .entry)) (now (out .exit)) r ⌝ }
+    ensures { λ r. ⌜ EqualityPost (now (v .entry)) (now (p .entry)) (now (q .entry)) (now (work .entry)) (now (work .exit)) (now (out .entry)) (now (out .exit)) r ⌝ }
 {
     let refusal = work_refusal(policy::input_refusal(v, p, q), work);
     if refusal != 0 {
@@ -83,6 +83,6 @@ pub fn equality(v: &[u32], p: &[u32], q: &[u32], work: &mut [u32], out: &mut [u3
     }
     let f = prepare(v, work);
     let comparison = compare(p, q, work, f, out);
-    clear(work, 0, WORK);
+    clear(work, 0, WORK_SIZE);
     comparison
 }

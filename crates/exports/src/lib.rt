@@ -14,13 +14,13 @@ use policy::read_second_policy;
 use vocabulary::read_vocabulary;
 ghost use mathlib.Core.Path.{_≡_};
 ghost use lib.ListN.{length};
-ghost use Rattle.exports.specs.Codes.{Coded, CodedComparison, CodedVerdict};
+ghost use Rattle.exports.specs.Codes.{Coded, CodedComparison, CodedVerdict, checkCode, possibilityCode, readingCode};
 ghost use Rattle.meaning.specs.Answers.{checkedAnswer, comparisonAnswer, possibilityAnswer, readingAnswer, verdictAnswer};
-ghost use Rattle.meaning.specs.Operations.{compliance, equality, modelCheck, outputAfter, possibility, readPolicy, readSecondPolicy};
-ghost use Rattle.meaning.specs.Operations.{readVocabulary, workAfter};
+ghost use Rattle.meaning.specs.Operations.{compliance, equality, modelCheck, outputAfter, possibility, readPolicy};
+ghost use Rattle.meaning.specs.Operations.{readSecondPolicy, readVocabulary, workAfter};
 
 fn reading(r: Reading, number: &mut u32) -> u32
-    ensures { λ k. ⌜ Coded (readingAnswer r) k (now (number .exit)) ⌝ }
+    ensures { λ k. ⌜ Coded (readingCode (readingAnswer r)) k (now (number .exit)) ⌝ }
 {
     match r {
         Reading::Accepted => {
@@ -35,7 +35,7 @@ fn reading(r: Reading, number: &mut u32) -> u32
 }
 
 fn possibility(r: Possibility, number: &mut u32) -> u32
-    ensures { λ k. ⌜ Coded (possibilityAnswer r) k (now (number .exit)) ⌝ }
+    ensures { λ k. ⌜ Coded (possibilityCode (possibilityAnswer r)) k (now (number .exit)) ⌝ }
 {
     match r {
         Possibility::Possible(s) => {
@@ -113,7 +113,7 @@ fn comparison(
 }
 
 fn checked(r: Checked, number: &mut u32) -> u32
-    ensures { λ k. ⌜ Coded (checkedAnswer r) k (now (number .exit)) ⌝ }
+    ensures { λ k. ⌜ Coded (checkCode (checkedAnswer r)) k (now (number .exit)) ⌝ }
 {
     match r {
         Checked::Yes => {
@@ -134,7 +134,7 @@ fn checked(r: Checked, number: &mut u32) -> u32
 // Read vocabulary: 1 accepted.
 #[no_mangle]
 pub extern "C" fn gimbuka_read_vocabulary(v: &[u32], number: &mut u32) -> u32
-    ensures { λ k. ⌜ Coded (readVocabulary (now (v .entry))) k (now (number .exit)) ⌝ }
+    ensures { λ k. ⌜ Coded (readingCode (readVocabulary (now (v .entry)))) k (now (number .exit)) ⌝ }
 {
     reading(read_vocabulary(v), number)
 }
@@ -142,7 +142,7 @@ pub extern "C" fn gimbuka_read_vocabulary(v: &[u32], number: &mut u32) -> u32
 // Read policy: 1 accepted.
 #[no_mangle]
 pub extern "C" fn gimbuka_read_policy(v: &[u32], p: &[u32], number: &mut u32) -> u32
-    ensures { λ k. ⌜ Coded (readPolicy (now (v .entry)) (now (p .entry))) k (now (number .exit)) ⌝ }
+    ensures { λ k. ⌜ Coded (readingCode (readPolicy (now (v .entry)) (now (p .entry)))) k (now (number .exit)) ⌝ }
 {
     reading(read_policy(v, p), number)
 }
@@ -150,7 +150,7 @@ pub extern "C" fn gimbuka_read_policy(v: &[u32], p: &[u32], number: &mut u32) ->
 // The same with the numbers of a second policy.
 #[no_mangle]
 pub extern "C" fn gimbuka_read_second_policy(v: &[u32], q: &[u32], number: &mut u32) -> u32
-    ensures { λ k. ⌜ Coded (readSecondPolicy (now (v .entry)) (now (q .entry))) k (now (number .exit)) ⌝ }
+    ensures { λ k. ⌜ Coded (readingCode (readSecondPolicy (now (v .entry)) (now (q .entry)))) k (now (number .exit)) ⌝ }
 {
     reading(read_second_policy(v, q), number)
 }
@@ -158,7 +158,7 @@ pub extern "C" fn gimbuka_read_second_policy(v: &[u32], q: &[u32], number: &mut 
 // Possible: 1 with the first possible simple policy, 2 impossible.
 #[no_mangle]
 pub extern "C" fn gimbuka_possible(v: &[u32], p: &[u32], work: &mut [u32], number: &mut u32) -> u32
-    ensures { λ k. ⌜ Coded (possibility (now (v .entry)) (now (p .entry)) (length (now (work .entry)))) k (now (number .exit)) ⌝ }
+    ensures { λ k. ⌜ Coded (possibilityCode (possibility (now (v .entry)) (now (p .entry)) (length (now (work .entry))))) k (now (number .exit)) ⌝ }
     ensures { λ _. ⌜ now (work .exit) ≡ workAfter (possibility (now (v .entry)) (now (p .entry)) (length (now (work .entry)))) (now (work .entry)) ⌝ }
 {
     possibility(possible(v, p, work), number)
@@ -219,7 +219,7 @@ pub extern "C" fn gimbuka_model_check(
     work: &mut [u32],
     number: &mut u32,
 ) -> u32
-    ensures { λ k. ⌜ Coded (modelCheck (now (v .entry)) (now (p .entry)) (now (q .entry)) (now (m .entry)) (length (now (work .entry)))) k (now (number .exit)) ⌝ }
+    ensures { λ k. ⌜ Coded (checkCode (modelCheck (now (v .entry)) (now (p .entry)) (now (q .entry)) (now (m .entry)) (length (now (work .entry))))) k (now (number .exit)) ⌝ }
     ensures { λ _. ⌜ now (work .exit) ≡ workAfter (modelCheck (now (v .entry)) (now (p .entry)) (now (q .entry)) (now (m .entry)) (length (now (work .entry)))) (now (work .entry)) ⌝ }
 {
     checked(model_check(v, p, q, m, work), number)

@@ -7,14 +7,16 @@ use mathlib.Core.Path.{_∙_, _≡_, refl, sym}
 use native.Mathlib.Omega.{arith}
 use borrow.Author.Tests.{eqb-true}
 use lib.Dec.{eqb}
-use Rattle.meaning.proofs.Links.{Onward, falling, falls, onward-le}
-use Rattle.meaning.proofs.Terms.{Here, Reads, chain-at, reads-class, reads-end, reads-impossible, reads-interval, reads-some}
-use Rattle.meaning.specs.Countermodel.{Fact, edge, member, value}
+use Rattle.extension.specs.Sets.{Charted, Linked, childAt, conjunctsAt, edgeInto, shown, shows, valueWithin}
+use Rattle.meaning.proofs.Links.{falls, onward-le}
+use Rattle.meaning.proofs.Terms.{chain-at}
+use Rattle.meaning.specs.Accepted.{Here, Reads, reads-class, reads-end, reads-impossible, reads-interval, reads-some}
+use Rattle.meaning.specs.Limits.{mostRecords}
 use Rattle.meaning.specs.Lists.{any}
+use Rattle.meaning.specs.Model.{Fact, edge, member, value}
 use Rattle.meaning.specs.ModelCheck.{hasWithin, holds, isMember, reaches}
 use Rattle.meaning.specs.Policy.{Chain, childOf, hiOf, kindOf, loOf, nameOf, nextOf}
-use Rattle.meaning.specs.Records.{lastOf}
-use Rattle.extension.specs.Sets.{Charted, Linked, childAt, conjunctsAt, edgeInto, shown, shows, valueWithin}
+use Rattle.meaning.specs.Records.{Onward, falling, lastOf}
 use Rattle.satisfaction.specs.Classes.{ownerOf}
 
 -- ---- who is shown
@@ -115,7 +117,7 @@ module _ {p : List ℕ} {k : ℕ} (z : k ≡ 0 → ⊥) (c : Charted p k) where
   child-onward : Onward (lastOf 6 p) k (childAt p k)
   child-onward = child-is (Onward (lastOf 6 p) k) p k (inl refl) (λ e. cut-here .here .child)
 
-  bounded : (j : ℕ) → Onward (lastOf 6 p) k j → (j ≤ 512) × (j ≡ k → ⊥)
+  bounded : (j : ℕ) → Onward (lastOf 6 p) k j → (j ≤ mostRecords) × (j ≡ k → ⊥)
   bounded j o = let h = onward-le (lastOf 6 p) k j o in let f = c .few in (omega arith, apart o)
     where
       apart : Onward (lastOf 6 p) k j → j ≡ k → ⊥

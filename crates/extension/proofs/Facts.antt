@@ -6,8 +6,8 @@ use mathlib.Core.Path.{_∙_, _≡_, refl, sym}
 use borrow.Author.Tests.{eq-eqb, eqb-false, eqb-true, le-leb, lt-leb, ne-eqb}
 use lib.Dec.{eqb, leb}
 use Rattle.extension.specs.Sets.{edgeInto, valueWithin}
-use Rattle.meaning.specs.ModelCheck.{factAt, factKind, factName, factOther}
-use Rattle.model.proofs.Chain.{Stated}
+use Rattle.meaning.specs.Model.{factAt, factKind, factName, factOther}
+use Rattle.model.specs.Chain.{Stated}
 use Rattle.satisfaction.proofs.Facts.{edge-fact, not-edge, not-value, value-fact}
 
 module _ (m : List ℕ) (k : ℕ) {kind : ℕ} (ek : kind ≡ factKind m k) where

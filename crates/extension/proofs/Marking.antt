@@ -8,16 +8,16 @@ use native.Mathlib.Omega.{arith}
 use borrow.Author.Tests.{eqb-false, eqb-true, le-leb, lt-leb, not-false, not-true}
 use lib.Dec.{eqb, leb}
 use lib.ListN.{length}
-use Rattle.meaning.proofs.Links.{Name}
-use Rattle.meaning.specs.Countermodel.{Fact}
-use Rattle.meaning.specs.Lists.{any}
-use Rattle.meaning.specs.ModelCheck.{factAt, factsOf, individualCount, isMember}
-use Rattle.meaning.specs.Operations.{workSize}
-use Rattle.meaning.specs.Policy.{nameOf, nextOf}
-use Rattle.model.proofs.Chain.{Readable, Stated}
 use Rattle.extension.proofs.Sets.{kept-in, kept-only, set-kept}
 use Rattle.extension.specs.Places.{individualWords, setOf, setPlace}
 use Rattle.extension.specs.Sets.{Linked, Marked, Ready, kept, markedMember, markedShown, shown, shows}
+use Rattle.meaning.specs.Limits.{mostIndividuals, workSize}
+use Rattle.meaning.specs.Lists.{any}
+use Rattle.meaning.specs.Model.{Fact, factAt, factsOf, individualCount}
+use Rattle.meaning.specs.ModelCheck.{isMember}
+use Rattle.meaning.specs.Policy.{nameOf, nextOf}
+use Rattle.meaning.specs.Records.{Name}
+use Rattle.model.specs.Chain.{Readable, Stated}
 use Rattle.satisfaction.proofs.Statements.{owner-at}
 use Rattle.satisfaction.specs.Classes.{ownerOf}
 use Rattle.satisfaction.specs.Places.{classesOf}
@@ -66,7 +66,7 @@ module _ (p m : List ℕ) (k : ℕ) where
         last true = refl
         last false = refl
 
-    module _ (n : Linked p k) (long : workSize ≤ length w) (x : Fact) (few : Name 512 (ownerOf x)) where
+    module _ (n : Linked p k) (long : workSize ≤ length w) (x : Fact) (few : Name mostIndividuals (ownerOf x)) where
       marked-only : Only (setPlace k) individualWords w₀ (markedShown (factsOf m) p k w x)
       marked-only = go (shows (factsOf m) p k x)
         where
@@ -110,7 +110,7 @@ module _ (p m : List ℕ) (k : ℕ) where
           go false f = ap (λ (b : Bool). inSet (setOf w k) d || b) (skip (eqb d (ownerOf x)) (any (showsOf d) l) next) ∙ f
 
     module _ (n : Linked p k) (long : workSize ≤ length w) (r : Readable m) {f : ℕ} (s : Stated m f) {w′ : List ℕ} (e : w′ ≡ markedShown (factsOf m) p k w (factAt m f)) where
-      few : Name 512 (ownerOf (factAt m f))
+      few : Name mostIndividuals (ownerOf (factAt m f))
       few = let o = s .owner in let i = r .individuals in omega (arith, owner-at m f)
 
       pub marking-only : Only (setPlace k) individualWords w₀ w′
@@ -137,7 +137,7 @@ module _ (p m : List ℕ) (k : ℕ) where
     telling-ends {i} l h = record { only = o; marks = λ d n. h d n ∙ rw (le-leb d i (omega arith)) }
 
     module _ (n : Linked p k) (r : Ready m w) (i : ℕ) (few : i < individualCount m) where
-      small : Name 512 (i + 1)
+      small : Name mostIndividuals (i + 1)
       small = let c = r .interpreted .readable .individuals in omega arith
 
       member-only : Only (setPlace k) individualWords w₀ (markedMember p k w (i + 1))

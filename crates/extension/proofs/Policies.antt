@@ -6,12 +6,14 @@ use mathlib.Core.Path.{_∙_, _≡_, sym}
 use native.Mathlib.Omega.{arith}
 use Rattle.extension.specs.Places.{setOf, setsAt, setsSize}
 use Rattle.extension.specs.Sets.{Charted, Everyone, Extended, Filled, Ready, Taken, conjunctsAt}
-use Rattle.meaning.proofs.Terms.{Reads, reads-class, reads-end, reads-impossible, reads-interval, reads-some}
 use Rattle.meaning.proofs.Wellformed.{accepted}
-use Rattle.meaning.specs.ModelCheck.{factsOf, holds, isIn}
+use Rattle.meaning.specs.Accepted.{Reads, reads-class, reads-end, reads-impossible, reads-interval, reads-some}
+use Rattle.meaning.specs.Limits.{mostRecords}
+use Rattle.meaning.specs.Model.{factsOf}
+use Rattle.meaning.specs.ModelCheck.{holds, isIn}
 use Rattle.meaning.specs.Policy.{Chain, Policy, policyOf}
 use Rattle.meaning.specs.Records.{lastOf}
-use Rattle.model.proofs.Chain.{Readable}
+use Rattle.model.specs.Chain.{Readable}
 use Rattle.satisfaction.proofs.Classes.{interpreted-kept}
 use Rattle.satisfaction.specs.Classes.{Interpreted}
 use Rattle.words.specs.Sets.{inSet}
@@ -27,13 +29,13 @@ reads-inside (reads-interval h e n) = h .inside .1
 
 -- record j is the first of a simple policy's conjuncts
 module _ {p : List ℕ} (t : Taken p) {i j : ℕ} (e : j ≡ i) (r : Reads p i (conjunctsAt p i)) where
-  small : lastOf 6 p ≤ 512
+  small : lastOf 6 p ≤ mostRecords
   small = accepted (t .0) p (t .1) .small
 
   pub term-charted : Charted p j
   term-charted = record { reads = rw e r; few = small }
 
-  pub term-inside : j ≤ 512
+  pub term-inside : j ≤ mostRecords
   term-inside = let s = small in omega (arith, reads-inside r)
 
 -- b tells whether the first individual is in the set that was made for record j

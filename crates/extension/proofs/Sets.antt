@@ -8,14 +8,15 @@ use native.Mathlib.Omega.{arith}
 use borrow.Author.Tests.{eqb-false}
 use lib.Dec.{eqb}
 use lib.ListN.{length}
-use Rattle.meaning.proofs.Links.{Name}
-use Rattle.meaning.specs.ModelCheck.{factAt, factOther, factsOf, holds}
-use Rattle.meaning.specs.Operations.{workSize}
-use Rattle.meaning.specs.Policy.{childOf, kindOf, nameOf, nextOf}
-use Rattle.model.proofs.Chain.{Stated}
 use Rattle.extension.proofs.Facts.{into-same}
 use Rattle.extension.specs.Places.{individualWords, setOf, setPlace, setsAt}
 use Rattle.extension.specs.Sets.{Linked, Placed, Ready, Right, childAt, conjunctsAt, edgeInto, kept, shows}
+use Rattle.meaning.specs.Limits.{mostIndividuals, mostRecords, workSize}
+use Rattle.meaning.specs.Model.{factAt, factOther, factsOf}
+use Rattle.meaning.specs.ModelCheck.{holds}
+use Rattle.meaning.specs.Policy.{childOf, kindOf, nameOf, nextOf}
+use Rattle.meaning.specs.Records.{Name}
+use Rattle.model.specs.Chain.{Stated}
 use Rattle.satisfaction.proofs.Classes.{interpreted-kept}
 use Rattle.satisfaction.proofs.Rows.{put-in, put-only}
 use Rattle.satisfaction.specs.Places.{putIn}
@@ -27,7 +28,7 @@ use Rattle.workspace.specs.Work.{Only}
 -- ---- a role's child
 
 module _ {p : List ℕ} {k child : ℕ} (l : Linked p k) where
-  pub child-inside : kindOf p k ≡ 3 → child ≡ childOf p k → child ≤ 512
+  pub child-inside : kindOf p k ≡ 3 → child ≡ childOf p k → child ≤ mostRecords
   child-inside e c = let h = l .child .0 in let d : childAt p k ≡ childOf p k = rw e in omega arith
 
 pub edge-shown : (p m w : List ℕ) (k : ℕ) {f child a : ℕ} {b : Bool} → Stated m f → Right p m w (childAt p k) → kindOf p k ≡ 3 → child ≡ childOf p k →
@@ -48,7 +49,7 @@ pub right-kept : (p m : List ℕ) (j : ℕ) {w w′ : List ℕ} {k : ℕ} → (j
 right-kept p m j n o r i h = ap (λ (s : List ℕ). inSet s i) (set-kept n o) ∙ r i h
 
 module _ {w w′ : List ℕ} {k : ℕ} (o : Only (setPlace k) individualWords w w′) where
-  pub ready-kept : {m : List ℕ} → Name 512 k → Ready m w → Ready m w′
+  pub ready-kept : {m : List ℕ} → Name mostRecords k → Ready m w → Ready m w′
   ready-kept n r = record {
     interpreted = interpreted-kept (omega arith) o (r .interpreted);
     everyone = λ i h. ap (λ (t : List ℕ). inSet t i) (set-kept {j = 0} (λ e. omega arith) o) ∙ r .everyone i h;
@@ -63,7 +64,7 @@ module _ {w w′ : List ℕ} {k : ℕ} (o : Only (setPlace k) individualWords w 
 
 -- ---- one individual more
 
-module _ (w : List ℕ) (j k i : ℕ) (few : k ≤ 512) (long : workSize ≤ length w) where
+module _ (w : List ℕ) (j k i : ℕ) (few : k ≤ mostRecords) (long : workSize ≤ length w) where
   pub kept-only : Only (setPlace k) individualWords w (kept w j k i)
   kept-only = go (inSet (setOf w j) i)
     where
@@ -71,7 +72,7 @@ module _ (w : List ℕ) (j k i : ℕ) (few : k ≤ 512) (long : workSize ≤ len
       go true = put-only individualWords w (setPlace k) i (omega arith)
       go false = only-none
 
-  pub kept-in : Name 512 i → (d : ℕ) → inSet (setOf (kept w j k i) k) d ≡ (eqb d i && inSet (setOf w j) i) || inSet (setOf w k) d
+  pub kept-in : Name mostIndividuals i → (d : ℕ) → inSet (setOf (kept w j k i) k) d ≡ (eqb d i && inSet (setOf w j) i) || inSet (setOf w k) d
   kept-in n d = go (inSet (setOf w j) i)
     where
       right : (e : Bool) → e ≡ e && true
@@ -90,7 +91,7 @@ module _ (w : List ℕ) (j k i : ℕ) (few : k ≤ 512) (long : workSize ≤ len
   kept-size e = ap length e ∙ kept-only .size
 
 -- everyone up to i is in the set at 0, then everyone up to i + 1
-pub everyone-more : (w : List ℕ) (i : ℕ) {w′ : List ℕ} → workSize ≤ length w → i < 512 → ((d : ℕ) → 1 ≤ d → d ≤ i → inSet (setOf w 0) d ≡ true) →
+pub everyone-more : (w : List ℕ) (i : ℕ) {w′ : List ℕ} → workSize ≤ length w → i < mostIndividuals → ((d : ℕ) → 1 ≤ d → d ≤ i → inSet (setOf w 0) d ≡ true) →
     w′ ≡ putIn individualWords w setsAt (i + 1) → (d : ℕ) → 1 ≤ d → d ≤ i + 1 → inSet (setOf w′ 0) d ≡ true
 everyone-more w i long few h e d a b = ap (λ (x : List ℕ). inSet (setOf x 0) d) e ∙ put-in individualWords w setsAt (i + 1) (omega arith) (omega arith) d ∙ go (eqb d (i + 1)) refl
   where

@@ -6,14 +6,17 @@ use mathlib.Core.Path.{_∙_, _≡_, ap, refl, subst, sym}
 use native.Mathlib.Omega.{arith}
 use borrow.Author.Tests.{eqb-false, eqb-true}
 use lib.Dec.{eqb}
-use Rattle.meaning.proofs.Terms.{Reads, chain-at, reads-end}
-use Rattle.meaning.specs.Lists.{any}
-use Rattle.meaning.specs.ModelCheck.{factsOf, holds, isMember}
-use Rattle.meaning.specs.Policy.{end, kindOf, nameOf, nextOf}
 use Rattle.extension.proofs.Conjuncts.{Cut, cut, linked-at}
 use Rattle.extension.proofs.Sets.{placed-kept, ready-kept, right-kept}
 use Rattle.extension.specs.Places.{individualWords, setPlace, setsAt, setsSize}
-use Rattle.extension.specs.Sets.{Charted, Everyone, Filled, Marked, Placed, Ready, Right, Settled, Vacant, childAt, conjunctsAt, shown}
+use Rattle.extension.specs.Sets.{Charted, Everyone, Filled, Marked, Placed, Ready, Right, Settled, Vacant, childAt}
+use Rattle.extension.specs.Sets.{conjunctsAt, shown}
+use Rattle.meaning.proofs.Terms.{chain-at}
+use Rattle.meaning.specs.Accepted.{Reads, reads-end}
+use Rattle.meaning.specs.Lists.{any}
+use Rattle.meaning.specs.Model.{factsOf}
+use Rattle.meaning.specs.ModelCheck.{holds, isMember}
+use Rattle.meaning.specs.Policy.{end, kindOf, nameOf, nextOf}
 use Rattle.satisfaction.proofs.Classes.{interpreted-kept}
 use Rattle.satisfaction.proofs.Rows.{none-in}
 use Rattle.workspace.proofs.Changes.{only-none, only-then, only-wider}

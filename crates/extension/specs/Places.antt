@@ -1,12 +1,13 @@
 -- Where the sets of individuals stand in the work slice.
-use Prim.Native.Nat.{_*_, _+_, ℕ}
+use Prim.Native.Nat.{_*_, _+_, _/_, suc, ℕ}
 use mathlib.Core.List.{List}
+use Rattle.meaning.specs.Limits.{mostIndividuals, mostRecords}
 use Rattle.satisfaction.specs.Places.{tablesEnd}
 use Rattle.words.specs.Rows.{rowAt}
 
 -- how many words a set of individuals takes
 abbrev pub individualWords : ℕ
-individualWords = 16
+individualWords = mostIndividuals / 32
 
 -- a set of individuals for each record of a policy, the header among them
 abbrev pub setsAt : ℕ
@@ -19,4 +20,4 @@ abbrev pub setOf : List ℕ → ℕ → List ℕ
 setOf w k = rowAt individualWords w (setPlace k)
 
 abbrev pub setsSize : ℕ
-setsSize = individualWords * 513
+setsSize = individualWords * suc mostRecords

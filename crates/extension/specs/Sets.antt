@@ -6,13 +6,13 @@ use mathlib.Core.Path.{_≡_}
 use lib.Dec.{eqb, leb}
 use lib.ListN.{length}
 use Rattle.extension.specs.Places.{individualWords, setOf, setPlace, setsAt, setsSize}
-use Rattle.meaning.proofs.Links.{Name}
-use Rattle.meaning.proofs.Terms.{Reads}
-use Rattle.meaning.specs.Countermodel.{Fact, edge, member, value}
+use Rattle.meaning.specs.Accepted.{Reads}
+use Rattle.meaning.specs.Limits.{mostRecords}
 use Rattle.meaning.specs.Lists.{any}
-use Rattle.meaning.specs.ModelCheck.{factsOf, holds, individualCount, isIn}
+use Rattle.meaning.specs.Model.{Fact, edge, factsOf, individualCount, member, value}
+use Rattle.meaning.specs.ModelCheck.{holds, isIn}
 use Rattle.meaning.specs.Policy.{Chain, chainFrom, childOf, hiOf, kindOf, loOf, nameOf, nextOf, policyOf, policyRefusal}
-use Rattle.meaning.specs.Records.{lastOf}
+use Rattle.meaning.specs.Records.{Name, lastOf}
 use Rattle.satisfaction.specs.Classes.{Interpreted, ownerOf}
 use Rattle.satisfaction.specs.Places.{classesOf, putIn}
 use Rattle.words.specs.Sets.{inSet}
@@ -42,7 +42,7 @@ childAt p k = cond (eqb (kindOf p k) 3) (childOf p k) 0
 -- the records from k on are a chain
 pub record Charted (p : List ℕ) (k : ℕ) : Type 0 where
   pub reads : Reads p k (conjunctsAt p k)
-  pub few : lastOf 6 p ≤ 512
+  pub few : lastOf 6 p ≤ mostRecords
 
 -- by some vocabulary the policy is accepted
 abbrev pub Taken : List ℕ → Type 0
@@ -80,9 +80,9 @@ Vacant w k = (i : ℕ) → inSet (setOf w k) i ≡ false
 
 -- record k is a conjunct, and its links lead to others or to the end
 pub record Linked (p : List ℕ) (k : ℕ) : Type 0 where
-  pub conjunct : Name 512 k
-  pub child : (childAt p k ≤ 512) × (childAt p k ≡ k → ⊥)
-  pub next : (nextOf p k ≤ 512) × (nextOf p k ≡ k → ⊥)
+  pub conjunct : Name mostRecords k
+  pub child : (childAt p k ≤ mostRecords) × (childAt p k ≡ k → ⊥)
+  pub next : (nextOf p k ≤ mostRecords) × (nextOf p k ≡ k → ⊥)
 
 -- record k is a conjunct, and the sets of what its links lead to are right
 pub record Placed (p m w : List ℕ) (k : ℕ) : Type 0 where

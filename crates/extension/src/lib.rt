@@ -2,6 +2,7 @@
 // The sets stand in the work slice, so that no path of edges is walked twice: time grows with the model's records times the policy's.
 // There are 513, one a record and the header's, of 16 words each, behind what satisfaction keeps: with 8 words to a set of classes
 // they end at 5,120 + 8,208 = 13,328 words, and with 10 at 14,352, of 16,384.
+use meaning::limits::MOST_INDIVIDUALS;
 use model::fact_kind;
 use model::fact_name;
 use model::fact_next;
@@ -17,7 +18,6 @@ use policy::lo_of;
 use policy::name_of;
 use policy::next_of;
 use satisfaction::END;
-use satisfaction::MOST;
 use satisfaction::is_member;
 use satisfaction::put;
 use words::has;
@@ -27,16 +27,17 @@ ghost use mathlib.Core.Path.{_≡_};
 ghost use Prim.Native.Nat.{_≤_};
 ghost use lib.ListN.{length};
 ghost use Rattle.extension.specs.Places.{setOf, setPlace, setsAt, setsSize};
-ghost use Rattle.extension.specs.Sets.{Charted, childAt, edgeInto, Everyone, Extended, Filled, kept, Linked, Marked, markedMember};
-ghost use Rattle.extension.specs.Sets.{markedShown, Placed, Ready, Right, Settled, shown, shows, Taken, Vacant, valueWithin};
-ghost use Rattle.meaning.proofs.Links.{Name};
+ghost use Rattle.extension.specs.Sets.{Charted, Everyone, Extended, Filled, Linked, Marked, Placed, Ready, Right, Settled};
+ghost use Rattle.extension.specs.Sets.{Taken, Vacant, childAt, edgeInto, kept, markedMember, markedShown, shown, shows};
+ghost use Rattle.extension.specs.Sets.{valueWithin};
+ghost use Rattle.meaning.specs.Limits.{mostIndividuals, mostRecords, workSize};
 ghost use Rattle.meaning.specs.Lists.{any};
-ghost use Rattle.meaning.specs.ModelCheck.{factAt, factsOf, isIn, isMember};
-ghost use Rattle.meaning.specs.Operations.{workSize};
+ghost use Rattle.meaning.specs.Model.{factAt, factsOf};
+ghost use Rattle.meaning.specs.ModelCheck.{isIn, isMember};
 ghost use Rattle.meaning.specs.Policy.{nameOf, policyOf};
-ghost use Rattle.model.proofs.Chain.{Readable, Stated};
+ghost use Rattle.meaning.specs.Records.{Name};
+ghost use Rattle.model.specs.Chain.{Readable, Stated};
 ghost use Rattle.satisfaction.specs.Classes.{Interpreted};
-ghost use Rattle.satisfaction.specs.Places.{mostIndividuals};
 ghost use Rattle.words.specs.Sets.{inSet};
 ghost use Rattle.workspace.specs.Work.{Only};
 
@@ -44,11 +45,11 @@ ghost use Rattle.workspace.specs.Work.{Only};
 const FIRST: u32 = 1;
 
 // How many words a set of individuals takes.
-const SET: usize = MOST / 32;
+const SET: usize = MOST_INDIVIDUALS as usize / 32;
 
 // Where the set of individuals of a policy's record k starts.
 fn set_place(k: u32) -> usize
-    requires { ⌜ k ≤ 512 ⌝ }
+    requires { ⌜ k ≤ mostRecords ⌝ }
     ensures { λ r. ⌜ r ≡ setPlace k ⌝ }
 {
     END + SET * place(k)
@@ -56,7 +57,7 @@ fn set_place(k: u32) -> usize
 
 // Whether individual i is in the set at record k.
 fn is_in(work: &[u32], k: u32, i: u32) -> bool
-    requires { ⌜ (k ≤ 512) × (workSize ≤ length (now work)) ⌝ }
+    requires { ⌜ (k ≤ mostRecords) × (workSize ≤ length (now work)) ⌝ }
     ensures { λ r. ⌜ r ≡ inSet (setOf (now (work .entry)) k) i ⌝ }
 {
     let at = set_place(k);
@@ -77,7 +78,7 @@ fn include_all(m: &[u32], work: &mut [u32])
 
 // Puts individual i into the set at record k, where that at record j has it.
 fn keep(work: &mut [u32], j: u32, k: u32, i: u32)
-    requires { ⌜ (j ≤ 512) × (k ≤ 512) × (workSize ≤ length (now work)) ⌝ }
+    requires { ⌜ (j ≤ mostRecords) × (k ≤ mostRecords) × (workSize ≤ length (now work)) ⌝ }
     ensures { λ _. ⌜ now (work .exit) ≡ kept (now (work .entry)) j k i ⌝ }
 {
     if is_in(work, j, i) {
@@ -88,7 +89,7 @@ fn keep(work: &mut [u32], j: u32, k: u32, i: u32)
 
 // Whether record f is an edge of role a into the set at record k.
 fn is_edge_into(m: &[u32], work: &[u32], f: u32, a: u32, k: u32) -> bool
-    requires { ⌜ Stated (now m) f × (k ≤ 512) × (workSize ≤ length (now work)) ⌝ }
+    requires { ⌜ Stated (now m) f × (k ≤ mostRecords) × (workSize ≤ length (now work)) ⌝ }
     ensures { λ r. ⌜ r ≡ edgeInto a (inSet (setOf (now (work .entry)) k)) (factAt (now (m .entry)) f) ⌝ }
 {
     if fact_kind(m, f) != 2 {

@@ -1,19 +1,21 @@
 -- The list of disjoint pairs: one record more, and all of them. Assumes nothing.
 use Prim.Native.Nat.{_+_, _<_, _≤_, suc, zero, ℕ}
-use lib.Dec.{eqb}
 use lib.ListN.{getD, length, length-set, set}
 use lib.Seq.{getD-set-other, getD-set-same}
 use mathlib.Core.List.{List, [], _++_, _∷_, append-assoc, append-nil, foldl, map}
-use mathlib.Core.Path.{_≡_, _∙_, ap, ap₂, refl, sym}
+use mathlib.Core.Path.{_∙_, _≡_, ap, ap₂, refl, sym}
 use native.Mathlib.Numerals.{add-one}
 use native.Mathlib.Omega.{arith}
-use borrow.Author.Tests.{ne-eqb}
-use Rattle.meaning.proofs.Links.{falling, falling-le, passed, split, tests}
+use Rattle.hierarchy.specs.Pairs.{Listed, PairRoom, PairRows, enlisted, mostPairs, pairAt, pairCount, pairPlace, pairsAt}
+use Rattle.hierarchy.specs.Pairs.{pairsEnd, pairsIn, withPair}
+use Rattle.meaning.proofs.Links.{falling-le, passed, tests}
+use Rattle.meaning.proofs.Stated.{disjointPair-at, disjointPair-one, disjointPair-other}
 use Rattle.meaning.specs.Lists.{counting, flatMap}
-use Rattle.meaning.specs.Records.{lastOf}
-use Rattle.meaning.specs.Vocabulary.{Axiom, Vocabulary, axiomAt, axiomKind, axiomLeft, axiomNext, axiomRight, below, disjoint, firstAxiom, functionalFeature, functionalRole, range, vocabularyOf, vocabularyRefusal}
+use Rattle.meaning.specs.Records.{falling, lastOf}
+use Rattle.meaning.specs.Stated.{disjointPair, disjointPairs}
+use Rattle.meaning.specs.Vocabulary.{Axiom, axiomAt, axiomKind, axiomLeft, axiomNext, axiomRight, firstAxiom, vocabularyOf}
+use Rattle.meaning.specs.Vocabulary.{vocabularyRefusal}
 use Rattle.vocabulary.proofs.Chain.{Walking, walking-ends, walking-falls, walking-on, walking-starts}
-use Rattle.hierarchy.specs.Pairs.{Listed, PairRoom, PairRows, enlisted, mostPairs, pairAt, pairCount, pairPlace, pairsAt, pairsEnd, pairsIn, parting, withPair}
 
 -- ---- pairs that stand
 
@@ -37,7 +39,7 @@ pairs-kept w u same h =
     record {
       few = omega arith;
       rows = ap (λ (m : ℕ). map (pairAt u) (counting 0 m)) n
-          ∙ counted-same (pairAt u) (pairAt w) 0 (pairCount w) (λ i l. ap₂ disjoint (same (pairPlace i) (omega arith)) (same (pairPlace i + 1) (omega arith))) ∙ h .rows;
+          ∙ counted-same (pairAt u) (pairAt w) 0 (pairCount w) (λ i l. ap₂ (λ (x y : ℕ). (x, y)) (same (pairPlace i) (omega arith)) (same (pairPlace i + 1) (omega arith))) ∙ h .rows;
     }
 
 -- ---- one pair more
@@ -65,24 +67,24 @@ module _ (w : List ℕ) (a b : ℕ) where
     with-count =
         getD-set-same (set (set w (pairPlace (pairCount w)) a) (pairPlace (pairCount w) + 1) b) pairsAt (pairCount w + 1) 0 (rw (length-set, length-set) (omega arith))
 
-    with-last : pairAt (withPair w a b) (pairCount w) ≡ disjoint a b
+    with-last : pairAt (withPair w a b) (pairCount w) ≡ (a, b)
     unfolding withPair
     with-last =
         let u = set w (pairPlace (pairCount w)) a in
         let t = set u (pairPlace (pairCount w) + 1) b in
-        ap₂ disjoint
+        ap₂ (λ (x y : ℕ). (x, y))
         (getD-set-other t pairsAt (pairPlace (pairCount w)) (pairCount w + 1) 0 (λ z. omega arith)
         ∙ getD-set-other u (pairPlace (pairCount w) + 1) (pairPlace (pairCount w)) b 0 (λ z. omega arith)
         ∙ getD-set-same w (pairPlace (pairCount w)) a 0 (omega arith))
         (getD-set-other t pairsAt (pairPlace (pairCount w) + 1) (pairCount w + 1) 0 (λ z. omega arith)
         ∙ getD-set-same u (pairPlace (pairCount w) + 1) b 0 (rw length-set (omega arith)))
 
-    with-pairs : pairsIn (withPair w a b) ≡ pairsIn w ++ (disjoint a b ∷ [])
+    with-pairs : pairsIn (withPair w a b) ≡ pairsIn w ++ ((a, b) ∷ [])
     with-pairs =
         ap (λ (n : ℕ). map (pairAt (withPair w a b)) (counting 0 n)) with-count
         ∙ counted-more (pairAt (withPair w a b)) (pairCount w)
-        ∙ ap₂ (λ (l : Vocabulary) (x : Axiom). l ++ (x ∷ []))
-        (counted-same (pairAt (withPair w a b)) (pairAt w) 0 (pairCount w) (λ i l. ap₂ disjoint
+        ∙ ap₂ (λ (l : List (ℕ × ℕ)) (x : ℕ × ℕ). l ++ (x ∷ []))
+        (counted-same (pairAt (withPair w a b)) (pairAt w) 0 (pairCount w) (λ i l. ap₂ (λ (x y : ℕ). (x, y))
         (with-other (pairPlace i) (λ z. omega arith) (λ z. omega arith) (λ z. omega arith))
         (with-other (pairPlace i + 1) (λ z. omega arith) (λ z. omega arith) (λ z. omega arith)))) with-last
 
@@ -90,48 +92,39 @@ module _ (w : List ℕ) (a b : ℕ) where
 
 module _ (v w : List ℕ) (k : ℕ) {kind : ℕ} (e : kind ≡ axiomKind v k) where
   pub enlist-other : (kind ≡ 2 → ⊥) → w ≡ enlisted w (axiomAt v k)
-  enlist-other n = rw (← e, ne-eqb kind 2 n) (
-      split P (eqb kind 1) (λ _. refl) (λ _. split P (eqb kind 3) (λ _. refl) (λ _. split P (eqb kind 4) (λ _. refl) (λ _. refl))))
-    where
-      P : Axiom → Type 0
-      P x = w ≡ enlisted w x
+  enlist-other n = sym (ap (foldl (λ u p. withPair u (p .0) (p .1)) w) (disjointPair-other v k (λ z. n (e ∙ z))))
 
   pub enlist-pair : {a b : ℕ} {u : List ℕ} → kind ≡ 2 → a ≡ axiomLeft v k → b ≡ axiomRight v k → u ≡ withPair w a b → u ≡ enlisted w (axiomAt v k)
-  enlist-pair o p q h = h ∙ rw (sym e ∙ o, p, q)
+  enlist-pair o p q h = h ∙ rw (p, q) (sym (ap (foldl (λ u p. withPair u (p .0) (p .1)) w) (disjointPair-at v k (sym e ∙ o))))
 
 -- ---- `list_pairs`
 
 -- the list with what a record states
-abbrev pub gathered : Vocabulary → Axiom → Vocabulary
-gathered l x = l ++ parting x
+abbrev pub gathered : List (ℕ × ℕ) → Axiom → List (ℕ × ℕ)
+gathered l x = l ++ disjointPair x
 
-gathered-all : (l K : Vocabulary) → foldl gathered l K ≡ l ++ flatMap parting K
+gathered-all : (l : List (ℕ × ℕ)) (R : List Axiom) → foldl gathered l R ≡ l ++ flatMap disjointPair R
 gathered-all l [] = sym (append-nil l)
-gathered-all l (x ∷ K) = gathered-all (l ++ parting x) K ∙ append-assoc l (parting x) (flatMap parting K)
+gathered-all l (x ∷ R) = gathered-all (l ++ disjointPair x) R ∙ append-assoc l (disjointPair x) (flatMap disjointPair R)
 
--- one record from w to u
-record Step (x : Axiom) (w u : List ℕ) : Type 0 where
+-- what a record states, from w to u
+record Step (l : List (ℕ × ℕ)) (w u : List ℕ) : Type 0 where
   size : length u ≡ length w
   before : (i : ℕ) → i < pairsAt → getD u i 0 ≡ getD w i 0
   behind : (i : ℕ) → pairsEnd ≤ i → getD u i 0 ≡ getD w i 0
   more : pairCount u ≤ pairCount w + 1
-  pairs : pairsIn u ≡ gathered (pairsIn w) x
+  pairs : pairsIn u ≡ pairsIn w ++ l
 
-step-none : (x : Axiom) (w : List ℕ) → parting x ≡ [] → Step x w w
-step-none x w e = record { size = refl; before = λ i l. refl; behind = λ i l. refl; more = omega arith; pairs = rw e (sym (append-nil (pairsIn w))) }
-
-stepped : (x : Axiom) (w : List ℕ) → PairRoom w → Step x w (enlisted w x)
-stepped (below a b) w r = step-none (below a b) w refl
-stepped (disjoint a b) w r = record {
+stepped : (l : List (ℕ × ℕ)) → length l ≤ 1 → (w : List ℕ) → PairRoom w → Step l w (foldl (λ u p. withPair u (p .0) (p .1)) w l)
+stepped [] few w r = record { size = refl; before = λ i l. refl; behind = λ i l. refl; more = omega arith; pairs = sym (append-nil (pairsIn w)) }
+stepped ((a, b) ∷ []) few w r = record {
   size = with-length w a b;
   before = λ i l. with-other w a b i (λ z. omega arith) (λ z. omega arith) (λ z. omega arith);
   behind = λ i l. with-other w a b i (λ z. omega arith) (λ z. omega arith) (λ z. omega arith);
   more = omega (arith, with-count w a b r);
   pairs = with-pairs w a b r;
 }
-stepped (functionalRole q) w r = step-none (functionalRole q) w refl
-stepped (functionalFeature f) w r = step-none (functionalFeature f) w refl
-stepped (range q c) w r = step-none (range q c) w refl
+stepped (p ∷ (q ∷ l)) few w r = absurd (omega arith)
 
 -- at record k the list has what the records before it state; w₀ has the list begun
 pub record Listing (v w₀ : List ℕ) (k : ℕ) (w : List ℕ) : Type 0 where
@@ -161,11 +154,12 @@ module _ (v w : List ℕ) (r : vocabularyRefusal v ≡ 0) (fits : pairsEnd ≤ l
 
   module _ {k : ℕ} {t : List ℕ} (h : Listing v (set w pairsAt 0) k t) where
     pub listing-ends : k ≡ 0 → Listed v w t
+    unfolding disjointPairs
     listing-ends z = record {
       size = h .size ∙ length-set w pairsAt 0;
       before = λ i l. h .before i l ∙ getD-set-other w pairsAt i 0 0 (λ e. omega arith);
       behind = λ i l. h .behind i l ∙ getD-set-other w pairsAt i 0 0 (λ e. omega arith);
-      listed = record { few = let m = h .room in omega arith; rows = walking-ends (h .walk) z ∙ gathered-all [] (vocabularyOf v) };
+      listed = record { few = let m = h .room in omega arith; rows = walking-ends (h .walk) z ∙ gathered-all [] (vocabularyOf v .axioms) };
     }
 
     module _ (n : k ≡ 0 → ⊥) where
@@ -177,7 +171,7 @@ module _ (v w : List ℕ) (r : vocabularyRefusal v ≡ 0) (fits : pairsEnd ≤ l
 
       pub listing-on : {x : ℕ} {u : List ℕ} → x ≡ axiomNext v k → u ≡ enlisted t (axiomAt v k) → Listing v (set w pairsAt 0) x u
       listing-on {x} {u} p e = rw e (
-          let s = stepped (axiomAt v k) t listing-room in
+          let s = stepped (disjointPair (axiomAt v k)) (disjointPair-one (axiomAt v k)) t listing-room in
           let less : falling (lastOf 4 v) x < falling (lastOf 4 v) k = walking-falls (h .walk) n p in
           record {
             size = s .size ∙ h .size;

@@ -5,24 +5,27 @@ use lib.ListN.{drop, length}
 use mathlib.Core.Bool.{Bool, _||_, cond, false, true}
 use mathlib.Core.List.{List, [], _∷_, foldl}
 use mathlib.Core.Logic.{_⊎_, inl, inr, ⊎-elim}
-use mathlib.Core.Path.{_≡_, _∙_, ap, refl, subst, sym}
+use mathlib.Core.Path.{_∙_, _≡_, ap, refl, subst, sym}
 use native.Mathlib.Omega.{arith}
 use borrow.Author.Tests.{eq-eqb, eqb-false, eqb-true}
-use Rattle.meaning.proofs.Bounds.{bounded}
-use Rattle.meaning.proofs.Closure.{Steps, below-axiom, below-bounded, below-iff, below-refl, below-trans, start, then}
-use Rattle.meaning.proofs.Links.{Name}
-use Rattle.meaning.proofs.Rules.{T-or, all-at, any-cases, any-none, head, isTrue, or-left, same-test, tail}
-use Rattle.meaning.proofs.Wellformed.{AxiomOf, accepted-axioms, accepted-counts}
-use Rattle.meaning.specs.Lists.{All, _∈_, here, there}
-use Rattle.meaning.specs.NormalForm.{isBelow}
-use Rattle.meaning.specs.Records.{named}
-use Rattle.meaning.specs.Vocabulary.{Axiom, Vocabulary, below, classCount, disjoint, functionalFeature, functionalRole, mostClasses, range, vocabularyOf, vocabularyRefusal}
+use Rattle.hierarchy.proofs.Rows.{Fits, filled-drop, filled-length, filled-row, joined-drop, joined-grows, joined-in}
+use Rattle.hierarchy.proofs.Rows.{joined-length, joined-other, joined-shut, joined-still, row-length}
+use Rattle.hierarchy.specs.Rows.{Closed, begun, empty, joined, lift, lifted, rowOf}
+use Rattle.meaning.proofs.Bounds.{bounded, subclasses-named}
+use Rattle.meaning.proofs.Closure.{Steps, below-bounded, below-iff, below-refl, below-subclass, below-trans, start, then}
+use Rattle.meaning.proofs.Rules.{T-or, all-at, any-cases, any-none, isTrue, or-left, same-test}
+use Rattle.meaning.proofs.Stated.{subclass-stated}
+use Rattle.meaning.proofs.Wellformed.{accepted-counts}
+use Rattle.meaning.specs.Limits.{mostClasses}
+use Rattle.meaning.specs.Lists.{_∈_, here, there}
+use Rattle.meaning.specs.Records.{Name, isName}
+use Rattle.meaning.specs.Stated.{isBelow, subclass, subclasses}
+use Rattle.meaning.specs.Vocabulary.{Axiom, classCount, vocabularyOf, vocabularyRefusal}
+use Rattle.vocabulary.proofs.Chain.{foldl-flatMap}
 use Rattle.words.proofs.Growth.{covered}
 use Rattle.words.proofs.Laws.{in-including, in-zeros, length-including, named-within}
 use Rattle.words.specs.Rows.{classWords}
 use Rattle.words.specs.Sets.{inSet, including, unionOf, wordSum}
-use Rattle.hierarchy.specs.Rows.{Closed, begun, empty, joined, lifted, rowOf}
-use Rattle.hierarchy.proofs.Rows.{Fits, filled-drop, filled-length, filled-row, joined-drop, joined-grows, joined-in, joined-length, joined-other, joined-shut, joined-still, row-length}
 
 -- d is in row c
 abbrev pub In : List ℕ → ℕ → ℕ → Type 0
@@ -36,13 +39,13 @@ alone-length c = length-including empty c
 alone-in : (c d : ℕ) → T (inSet (including empty c) d) → c ≡ d
 alone-in c d t = go (eqb d c) refl (subst T (in-including empty c d) t)
   where
-    go : (b : Bool) → eqb d c ≡ b → T (cond b (named mostClasses d) (inSet empty d)) → c ≡ d
+    go : (b : Bool) → eqb d c ≡ b → T (cond b (isName mostClasses d) (inSet empty d)) → c ≡ d
     go true e t = sym (eqb-true d c e)
     go false e t = absurd (subst T (in-zeros classWords d) t)
 
 in-alone : (c : ℕ) → Name mostClasses c → T (inSet (including empty c) c)
 in-alone c n =
-    let bit : cond (eqb c c) (named mostClasses c) (inSet empty c) ≡ true =
+    let bit : cond (eqb c c) (isName mostClasses c) (inSet empty c) ≡ true =
     rw (eq-eqb c c refl) (named-within mostClasses c (n .0) (n .1)) in
     isTrue (in-including empty c c ∙ bit)
 
@@ -67,13 +70,9 @@ pub record Held (v w₀ w : List ℕ) : Type 0 where
   pub sound : (a b : ℕ) → Name (classCount v) a → In w a b → T (isBelow (vocabularyOf v) a b)
   pub self : (a : ℕ) → Name (classCount v) a → In w a a
 
--- row a has all of row b, where x says that a is below b
-abbrev Shut : List ℕ → Axiom → Type 0
-Shut w (below a b) = unionOf (rowOf w a) (rowOf w b) ≡ rowOf w a
-Shut w (disjoint a b) = Unit {0}
-Shut w (functionalRole r) = Unit {0}
-Shut w (functionalFeature f) = Unit {0}
-Shut w (range r c) = Unit {0}
+-- row a has all of row b
+abbrev Shut : List ℕ → ℕ × ℕ → Type 0
+Shut w p = unionOf (rowOf w (p .0)) (rowOf w (p .1)) ≡ rowOf w (p .0)
 
 module _ (v w₀ : List ℕ) (fits : classCount v * classWords ≤ length w₀) where
   pub held-starts : vocabularyRefusal v ≡ 0 → {w : List ℕ} → w ≡ begun (classCount v) w₀ → Held v w₀ w
@@ -91,10 +90,10 @@ module _ (v w₀ : List ℕ) (fits : classCount v * classWords ≤ length w₀) 
     pub held-fits : (c : ℕ) → Name (classCount v) c → Fits w c
     held-fits c n = (n .0, omega (arith, h .size))
 
-    module _ (a b : ℕ) (m : below a b ∈ vocabularyOf v) (p : Name (classCount v) a) (q : Name (classCount v) b) where
+    module _ (a b : ℕ) (m : (a, b) ∈ subclasses (vocabularyOf v)) (p : Name (classCount v) a) (q : Name (classCount v) b) where
       up : (d : ℕ) → In w a d ⊎ In w b d → T (isBelow (vocabularyOf v) a d)
       up d (inl t) = h .sound a d p t
-      up d (inr t) = below-trans (vocabularyOf v) a b d (below-axiom m) (h .sound b d q t)
+      up d (inr t) = below-trans (vocabularyOf v) a b d (below-subclass (vocabularyOf v) a b m) (h .sound b d q t)
 
       -- row a takes in row b
       held-joined : Held v w₀ (joined w a b)
@@ -122,76 +121,80 @@ module _ (v w₀ : List ℕ) (fits : classCount v * classWords ≤ length w₀) 
               subst (λ (i : ℕ). In (joined w a b) i i) (eqb-true a c e) (subst T (sym (in-a a)) (or-left (inSet (rowOf w a) a) (inSet (rowOf w b) a) (h .self a p)))
           self-at c n false e = subst T (sym (other c c n e)) (h .self c n)
 
-    -- a record's step
-    pub held-lifted : (x : Axiom) → x ∈ vocabularyOf v → AxiomOf v x → Held v w₀ (lifted w x)
-    held-lifted (below a b) m n = held-joined a b m (n .0) (n .1)
-    held-lifted (disjoint a b) m n = h
-    held-lifted (functionalRole r) m n = h
-    held-lifted (functionalFeature f) m n = h
-    held-lifted (range r c) m n = h
+  module _ (r : vocabularyRefusal v ≡ 0) where
+    -- the names of a pair that is stated
+    pair-named : (p : ℕ × ℕ) → p ∈ subclasses (vocabularyOf v) → Name (classCount v) (p .0) × Name (classCount v) (p .1)
+    pair-named p m = all-at (subclasses-named v r) m
+
+    -- the pairs of a pass, or of what is left of it
+    abbrev Stated : List (ℕ × ℕ) → Type 0
+    Stated R = (p : ℕ × ℕ) → p ∈ R → p ∈ subclasses (vocabularyOf v)
+
+    later : {p : ℕ × ℕ} {R : List (ℕ × ℕ)} → Stated (p ∷ R) → Stated R
+    later s q m = s q (there m)
+
+    -- a pair's step
+    held-lift : {w : List ℕ} → Held v w₀ w → (p : ℕ × ℕ) → p ∈ subclasses (vocabularyOf v) → Held v w₀ (lift w p)
+    held-lift h p m = let n = pair-named p m in held-joined h (p .0) (p .1) m (n .0) (n .1)
 
     -- which never lowers the words' sum
-    lifted-grows : (x : Axiom) → AxiomOf v x → wordSum w ≤ wordSum (lifted w x)
-    lifted-grows (below a b) n = joined-grows w a b (held-fits a (n .0)) (held-fits b (n .1))
-    lifted-grows (disjoint a b) n = omega arith
-    lifted-grows (functionalRole r) n = omega arith
-    lifted-grows (functionalFeature f) n = omega arith
-    lifted-grows (range r c) n = omega arith
+    lift-grows : {w : List ℕ} → Held v w₀ w → (p : ℕ × ℕ) → p ∈ subclasses (vocabularyOf v) → wordSum w ≤ wordSum (lift w p)
+    lift-grows {w} h p m = let n = pair-named p m in joined-grows w (p .0) (p .1) (held-fits h (p .0) (n .0)) (held-fits h (p .1) (n .1))
 
-    lifted-shut : (x : Axiom) → AxiomOf v x → wordSum (lifted w x) ≤ wordSum w → Shut w x × (lifted w x ≡ w)
-    lifted-shut (below a b) n l =
-        let shut = joined-shut w a b (held-fits a (n .0)) (held-fits b (n .1)) l in
-        (shut, joined-still w a b (held-fits a (n .0)) (held-fits b (n .1)) shut)
-    lifted-shut (disjoint a b) n l = (tt, refl)
-    lifted-shut (functionalRole r) n l = (tt, refl)
-    lifted-shut (functionalFeature f) n l = (tt, refl)
-    lifted-shut (range r c) n l = (tt, refl)
+    lift-shut : {w : List ℕ} → Held v w₀ w → (p : ℕ × ℕ) → p ∈ subclasses (vocabularyOf v) → wordSum (lift w p) ≤ wordSum w → Shut w p × (lift w p ≡ w)
+    lift-shut {w} h p m l =
+        let n = pair-named p m in
+        let shut = joined-shut w (p .0) (p .1) (held-fits h (p .0) (n .0)) (held-fits h (p .1) (n .1)) l in
+        (shut, joined-still w (p .0) (p .1) (held-fits h (p .0) (n .0)) (held-fits h (p .1) (n .1)) shut)
 
-  -- the records of a pass, or of what is left of it
-  abbrev Stated : Vocabulary → Type 0
-  Stated R = All (AxiomOf v) R × ((x : Axiom) → x ∈ R → x ∈ vocabularyOf v)
+    held-pass : {w : List ℕ} → Held v w₀ w → (R : List (ℕ × ℕ)) → Stated R → Held v w₀ (foldl lift w R)
+    held-pass h [] s = h
+    held-pass h (p ∷ R) s = held-pass (held-lift h p (s p (here refl))) R (later s)
 
-  later : {x : Axiom} {R : Vocabulary} → Stated (x ∷ R) → Stated R
-  later s = (tail (s .0), λ y m. s .1 y (there m))
+    -- a record's step
+    pub held-lifted : {w : List ℕ} → Held v w₀ w → (x : Axiom) → x ∈ vocabularyOf v .axioms → Held v w₀ (lifted w x)
+    held-lifted h x m = held-pass h (subclass x) (subclass-stated (vocabularyOf v) x m)
 
-  pub held-pass : {w : List ℕ} → Held v w₀ w → (R : Vocabulary) → Stated R → Held v w₀ (foldl lifted w R)
-  held-pass h [] s = h
-  held-pass h (x ∷ R) s = held-pass (held-lifted h x (s .1 x (here refl)) (head (s .0))) R (later s)
+    pass-grows : {w : List ℕ} → Held v w₀ w → (R : List (ℕ × ℕ)) → Stated R → wordSum w ≤ wordSum (foldl lift w R)
+    pass-grows h [] s = omega arith
+    pass-grows h (p ∷ R) s =
+        let first = lift-grows h p (s p (here refl)) in
+        omega (arith, pass-grows (held-lift h p (s p (here refl))) R (later s))
 
-  pass-grows : {w : List ℕ} → Held v w₀ w → (R : Vocabulary) → Stated R → wordSum w ≤ wordSum (foldl lifted w R)
-  pass-grows h [] s = omega arith
-  pass-grows h (x ∷ R) s =
-      let first = lifted-grows h x (head (s .0)) in
-      omega (arith, pass-grows (held-lifted h x (s .1 x (here refl)) (head (s .0))) R (later s))
-
-  -- a pass that changes nothing finds every record's rows shut
-  pass-shut : {w : List ℕ} → Held v w₀ w → (R : Vocabulary) → Stated R → foldl lifted w R ≡ w → (x : Axiom) → x ∈ R → Shut w x
-  pass-shut h [] s e x m = absurd (any-none m)
-  pass-shut {w} h (y ∷ R) s e x m =
-      let grows = pass-grows (held-lifted h y (s .1 y (here refl)) (head (s .0))) R (later s) in
-      let end = ap wordSum e in
-      let step = lifted-shut h y (head (s .0)) (omega arith) in
-      ⊎-elim (λ k. subst (Shut w) (sym k) (step .0)) (pass-shut h R (later s) (subst (λ (u : List ℕ). foldl lifted u R ≡ w) (step .1) e) x) (any-cases m)
+    -- a pass that changes nothing finds every pair's rows shut
+    pass-shut : {w : List ℕ} → Held v w₀ w → (R : List (ℕ × ℕ)) → Stated R → foldl lift w R ≡ w → (p : ℕ × ℕ) → p ∈ R → Shut w p
+    pass-shut h [] s e p m = absurd (any-none m)
+    pass-shut {w} h (q ∷ R) s e p m =
+        let grows = pass-grows (held-lift h q (s q (here refl))) R (later s) in
+        let end = ap wordSum e in
+        let step = lift-shut h q (s q (here refl)) (omega arith) in
+        ⊎-elim (λ k. subst (Shut w) (sym k) (step .0)) (pass-shut h R (later s) (subst (λ (u : List ℕ). foldl lift u R ≡ w) (step .1) e) p) (any-cases m)
 
   module _ (r : vocabularyRefusal v ≡ 0) {w : List ℕ} (h : Held v w₀ w) where
-    all : Stated (vocabularyOf v)
-    all = (accepted-axioms v r, λ x m. m)
+    -- a pass goes pair by pair
+    pairwise : foldl lifted w (vocabularyOf v .axioms) ≡ foldl lift w (subclasses (vocabularyOf v))
+    unfolding subclasses
+    pairwise = foldl-flatMap lift subclass w (vocabularyOf v .axioms)
 
-    pub held-on : {u : List ℕ} → u ≡ foldl lifted w (vocabularyOf v) → Held v w₀ u
-    held-on e = rw e (held-pass h (vocabularyOf v) all)
+    pub held-on : {u : List ℕ} → u ≡ foldl lifted w (vocabularyOf v .axioms) → Held v w₀ u
+    held-on e = rw (e ∙ pairwise) (held-pass r h (subclasses (vocabularyOf v)) (λ p m. m))
 
-    module _ (e : foldl lifted w (vocabularyOf v) ≡ w) where
+    module _ (e : foldl lifted w (vocabularyOf v .axioms) ≡ w) where
       -- along the records upward, what is above stands in every row on the way
-      carried : {a c : ℕ} → Steps (vocabularyOf v) a c → (d : ℕ) → In w c d → In w a d
+      carried : {a c : ℕ} → Steps (subclasses (vocabularyOf v)) a c → (d : ℕ) → In w c d → In w a d
       carried (start e) d t = subst (λ (i : ℕ). In w i d) (sym e) t
       carried (then {b = b} {c = c} s m) d t =
-          let n = all-at (accepted-axioms v r) m in
+          let n = pair-named r (b, c) m in
           let lower = row-length w b (held-fits h b (n .0)) in
           let upper = row-length w c (held-fits h c (n .1)) in
-          carried s d (covered (rowOf w b) (rowOf w c) (omega arith) (pass-shut h (vocabularyOf v) all e (below b c) m) d t)
+          carried s d (covered (rowOf w b) (rowOf w c) (omega arith) (pass-shut r h (subclasses (vocabularyOf v)) (λ p k. k) (sym pairwise ∙ e) (b, c) m) d t)
+
+      bounded-above : (a b : ℕ) → Name (classCount v) a → T (isBelow (vocabularyOf v) a b) → Name (classCount v) b
+      unfolding vocabularyOf
+      bounded-above a b n t = below-bounded (vocabularyOf v) (bounded v r) a b n t
 
       complete : (a b : ℕ) → Name (classCount v) a → T (isBelow (vocabularyOf v) a b) → In w a b
-      complete a b n t = carried (below-iff (vocabularyOf v) a b .0 t) b (h .self b (below-bounded (bounded v r) a b n t))
+      complete a b n t = carried (below-iff (vocabularyOf v) a b .0 t) b (h .self b (bounded-above a b n t))
 
       pub held-closed : Closed v w₀ w
       held-closed = record {

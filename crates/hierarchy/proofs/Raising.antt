@@ -4,23 +4,26 @@ use lib.ListN.{getD, length, replicate, set}
 use mathlib.Core.Bool.{Bool, false, true}
 use mathlib.Core.List.{List, [], _∷_, foldl}
 use mathlib.Core.Logic.{inl, inr}
-use mathlib.Core.Path.{_≡_, _∙_, ap, refl, subst, sym}
+use mathlib.Core.Path.{_∙_, _≡_, ap, refl, subst, sym}
 use native.Mathlib.Omega.{arith}
-use Rattle.meaning.proofs.Links.{Name, Onward, falling, falls, passed, tests}
-use Rattle.meaning.proofs.Rules.{all-at}
+use Rattle.hierarchy.proofs.Passes.{Held, held-closed, held-lifted, held-on, held-starts}
+use Rattle.hierarchy.proofs.Steps.{lifted-length}
+use Rattle.hierarchy.specs.Index.{Entry, Heads, Met, Nexts, Raisable, Raised, Rises, raised-more, raised-none, records}
+use Rattle.hierarchy.specs.Rows.{Closed, Grown, begun, lifted}
+use Rattle.meaning.proofs.Links.{falls, passed, tests}
+use Rattle.meaning.proofs.Rules.{all-at, head}
+use Rattle.meaning.proofs.Stated.{subclass-at, subclass-named}
 use Rattle.meaning.proofs.Wellformed.{accepted-axioms, accepted-counts, axiom-named}
-use Rattle.meaning.specs.Lists.{_∈_, here, there}
-use Rattle.meaning.specs.Records.{lastOf}
-use Rattle.meaning.specs.Vocabulary.{Axiom, Vocabulary, axiomAt, axiomFits, axiomKind, axiomLeft, axiomNext, axiomRight, below, classCount, firstAxiom, mostClasses, vocabularyOf, vocabularyRefusal}
+use Rattle.meaning.specs.Limits.{mostAxioms, mostClasses}
+use Rattle.meaning.specs.Lists.{All, _∈_, here, there}
+use Rattle.meaning.specs.Records.{Name, Onward, falling, lastOf}
+use Rattle.meaning.specs.Vocabulary.{Axiom, axiomAt, axiomFits, axiomKind, axiomLeft, axiomNext, axiomRight, classCount, firstAxiom}
+use Rattle.meaning.specs.Vocabulary.{vocabularyOf, vocabularyRefusal}
 use Rattle.vocabulary.proofs.Chain.{States, accepted-states, states-more, states-none}
 use Rattle.words.proofs.Growth.{sum-most}
 use Rattle.words.proofs.Laws.{zeros-at}
 use Rattle.words.specs.Rows.{classWords}
 use Rattle.words.specs.Sets.{wordSum}
-use Rattle.hierarchy.specs.Index.{Entry, Heads, Met, Nexts, Raisable, Raised, Rises, raised-more, raised-none, records}
-use Rattle.hierarchy.specs.Rows.{Closed, Grown, begun, lifted}
-use Rattle.hierarchy.proofs.Passes.{Held, held-closed, held-lifted, held-on, held-starts}
-use Rattle.hierarchy.proofs.Steps.{lifted-length}
 
 -- ---- entries
 
@@ -36,8 +39,7 @@ set-all P (y ∷ l) (suc i) x all new (suc j) = set-all (λ n. P (suc n)) l i x 
 rising-named : (v : List ℕ) (k : ℕ) → axiomKind v k ≡ 1 → axiomFits v k ≡ true →
     Name (classCount v) (axiomLeft v k) × Name (classCount v) (axiomRight v k)
 rising-named v k e f =
-    let is : axiomAt v k ≡ below (axiomLeft v k) (axiomRight v k) = rw e in
-    rw is at (axiom-named v k f)
+    head (subst (All _) (subclass-at v k e) (subclass-named v (axiomAt v k) (axiom-named v k f)))
 
 module _ (v : List ℕ) where
   pub heads-none : (n b : ℕ) → Heads v (replicate n 0) b
@@ -75,20 +77,20 @@ before (suc j) = suc j
 
 -- what is left of the chain at k, and what the index has so far
 pub record Indexing (v h n : List ℕ) (k : ℕ) : Type 0 where
-  pub left : Vocabulary
+  pub left : List Axiom
   pub states : States v k left
-  pub among : (x : Axiom) → x ∈ left → x ∈ vocabularyOf v
+  pub among : (x : Axiom) → x ∈ left → x ∈ vocabularyOf v .axioms
   pub heads : Heads v h (before k)
   pub nexts : Nexts v n
 
-accepted-last : (v : List ℕ) → vocabularyRefusal v ≡ 0 → lastOf 4 v ≤ 1024
+accepted-last : (v : List ℕ) → vocabularyRefusal v ≡ 0 → lastOf 4 v ≤ mostAxioms
 unfolding vocabularyRefusal
 accepted-last v h = let u = simp (passed 0, passed 1, tests) at h in omega (arith, u .0)
 
 module _ (v : List ℕ) (r : vocabularyRefusal v ≡ 0) where
   pub indexing-starts : {h n : List ℕ} {k : ℕ} → Heads v h 0 → Nexts v n → k ≡ firstAxiom v → Indexing v h n k
   indexing-starts {k = k} p q e =
-      record { left = vocabularyOf v; states = rw e (accepted-states v r); among = λ x m. m; heads = later v (omega arith) p; nexts = q }
+      record { left = vocabularyOf v .axioms; states = rw e (accepted-states v r); among = λ x m. m; heads = later v (omega arith) p; nexts = q }
 
   module _ {h n : List ℕ} {k : ℕ} (w : Indexing v h n k) where
     pub indexing-ends : k ≡ 0 → Heads v h records × Nexts v n
@@ -102,7 +104,7 @@ module _ (v : List ℕ) (r : vocabularyRefusal v ≡ 0) where
       pub indexing-met : (classCount v ≤ mostClasses) × Met v k × Heads v h k × Nexts v n
       indexing-met = (accepted-counts v r .0 .1, go (w .states) (w .among), rw (at-record k z) at (w .heads), w .nexts)
         where
-          go : {K : Vocabulary} → States v k K → ((x : Axiom) → x ∈ K → x ∈ vocabularyOf v) → Met v k
+          go : {K : List Axiom} → States v k K → ((x : Axiom) → x ∈ K → x ∈ vocabularyOf v .axioms) → Met v k
           go (states-none e) m = absurd (z e)
           go (states-more i f o s) m =
               record { within = (i .0, omega (arith, i .1, accepted-last v r)); fits = f; stated = m (axiomAt v k) (here refl) }
@@ -111,7 +113,7 @@ module _ (v : List ℕ) (r : vocabularyRefusal v ≡ 0) where
         pub indexing-falls : falling (lastOf 4 v) x < falling (lastOf 4 v) k
         indexing-falls = go (w .states)
           where
-            go : {K : Vocabulary} → States v k K → falling (lastOf 4 v) x < falling (lastOf 4 v) k
+            go : {K : List Axiom} → States v k K → falling (lastOf 4 v) x < falling (lastOf 4 v) k
             go (states-none e) = absurd (z e)
             go (states-more i f o m) = rw p (falls (lastOf 4 v) k (axiomNext v k) i o)
 
@@ -123,7 +125,7 @@ module _ (v : List ℕ) (r : vocabularyRefusal v ≡ 0) where
             further (suc y) i (inl q) = absurd (omega arith)
             further (suc y) i (inr q) = omega (arith, q .0)
 
-            go : {K : Vocabulary} → States v k K → ((y : Axiom) → y ∈ K → y ∈ vocabularyOf v) → Indexing v h′ n′ x
+            go : {K : List Axiom} → States v k K → ((y : Axiom) → y ∈ K → y ∈ vocabularyOf v .axioms) → Indexing v h′ n′ x
             go (states-none q) m = absurd (z q)
             go (states-more {K = K} i f o s) m =
                 let on = further x i (rw p o) in
@@ -146,7 +148,7 @@ module _ {v w : List ℕ} where
       Held v w₀ t
   raised-held r f h (raised-none e) = rw e h
   raised-held r {w₀ = w₀} f h (raised-more {x = x} b m e) =
-      rw e (held-lifted v w₀ f (raised-held r f h b) x m (all-at (accepted-axioms v r) m))
+      rw e (held-lifted v w₀ f r (raised-held r f h b) x m)
 
 -- ---- `raise`
 
@@ -251,7 +253,7 @@ module _ (v w₀ x : List ℕ) {n : ℕ} (r : vocabularyRefusal v ≡ 0) (f : cl
       close-fits = omega (arith, h .size, begins .size)
 
       -- a pass from w to t
-      module _ {t : List ℕ} (p : t ≡ foldl lifted w (vocabularyOf v)) where
+      module _ {t : List ℕ} (p : t ≡ foldl lifted w (vocabularyOf v .axioms)) where
         pub close-on : Held v u t
         close-on = held-on v u (omega (arith, begins .size)) r h p
 

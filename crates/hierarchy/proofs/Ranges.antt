@@ -4,21 +4,26 @@ use lib.Dec.{eqb}
 use lib.ListN.{length, take}
 use mathlib.Core.Bool.{Bool, _||_, cond, false, or-assoc, or-false, true}
 use mathlib.Core.List.{List, [], _∷_, foldl}
-use mathlib.Core.Path.{_≡_, _∙_, ap, refl, subst, sym}
+use mathlib.Core.Path.{_∙_, _≡_, ap, refl, subst, sym}
 use native.Mathlib.Omega.{arith}
 use borrow.Author.Tests.{eqb-false, eqb-true}
-use Rattle.meaning.proofs.Links.{Name}
+use Rattle.hierarchy.proofs.Rows.{Fits, filled-drop, filled-length, filled-row, filled-take, joined-drop, joined-in}
+use Rattle.hierarchy.proofs.Rows.{joined-length, joined-other, joined-take}
+use Rattle.hierarchy.specs.Rows.{ClosedRows, Kept, Ranged, emptied, empty, extend, isRanged, joined, roleRow, rowOf, rowPlace}
+use Rattle.hierarchy.specs.Rows.{widened}
+use Rattle.meaning.proofs.Bounds.{rangePairs-named}
 use Rattle.meaning.proofs.Rules.{head, tail}
-use Rattle.meaning.proofs.Wellformed.{AxiomOf, accepted-axioms, accepted-counts}
+use Rattle.meaning.proofs.Wellformed.{accepted-counts}
+use Rattle.meaning.specs.Limits.{mostClasses}
 use Rattle.meaning.specs.Lists.{All, any}
-use Rattle.meaning.specs.NormalForm.{isBelow, ranges}
-use Rattle.meaning.specs.Vocabulary.{Axiom, Vocabulary, below, classCount, disjoint, functionalFeature, functionalRole, mostClasses, range, roleCount, vocabularyOf, vocabularyRefusal}
+use Rattle.meaning.specs.Records.{Name}
+use Rattle.meaning.specs.Stated.{isBelow, rangePair, rangePairs, ranges, rangesIn}
+use Rattle.meaning.specs.Vocabulary.{classCount, roleCount, vocabularyOf, vocabularyRefusal}
+use Rattle.vocabulary.proofs.Chain.{foldl-flatMap}
 use Rattle.words.proofs.Laws.{in-zeros}
 use Rattle.words.proofs.Rows.{row-front}
 use Rattle.words.specs.Rows.{classWords}
 use Rattle.words.specs.Sets.{inSet}
-use Rattle.hierarchy.specs.Rows.{ClosedRows, Kept, RangeRows, Ranged, emptied, empty, isRanged, joined, roleRow, rowOf, rowPlace, widened}
-use Rattle.hierarchy.proofs.Rows.{Fits, filled-drop, filled-length, filled-row, filled-take, joined-drop, joined-in, joined-length, joined-other, joined-take}
 
 -- ---- what writes behind the rows keeps them: u begins as w does, with the first e words
 
@@ -64,21 +69,10 @@ module _ (v w₀ : List ℕ) (r : vocabularyRefusal v ≡ 0) (closed : ClosedRow
       rest = joined-drop w (roleRow q) c (role-fits q n) (class-fits c m) (roleRow (roleCount v) * classWords) (omega (arith, n .1)) ∙ h .rest;
     }
 
-    pub kept-widened : (x : Axiom) → AxiomOf v x → Kept v w₀ (widened w x)
-    kept-widened (below a b) n = h
-    kept-widened (disjoint a b) n = h
-    kept-widened (functionalRole q) n = h
-    kept-widened (functionalFeature f) n = h
-    kept-widened (range q c) n = kept-joined q c (n .0) (n .1)
-
-    -- the row of role q, after a record
-    widened-in : (x : Axiom) → AxiomOf v x → (q b : ℕ) → Name (roleCount v) q →
-        inSet (rowOf (widened w x) (roleRow q)) b ≡ inSet (rowOf w (roleRow q)) b || any (λ c. isBelow (vocabularyOf v) c b) (ranges (x ∷ []) q)
-    widened-in (below a c) n q b m = sym (or-false (inSet (rowOf w (roleRow q)) b))
-    widened-in (disjoint a c) n q b m = sym (or-false (inSet (rowOf w (roleRow q)) b))
-    widened-in (functionalRole p) n q b m = sym (or-false (inSet (rowOf w (roleRow q)) b))
-    widened-in (functionalFeature f) n q b m = sym (or-false (inSet (rowOf w (roleRow q)) b))
-    widened-in (range p c) n q b m = go (eqb q p) refl
+    -- the row of role q, after a pair
+    extend-in : (x : ℕ × ℕ) → Name (roleCount v) (x .0) × Name (classCount v) (x .1) → (q b : ℕ) → Name (roleCount v) q →
+        inSet (rowOf (extend w x) (roleRow q)) b ≡ inSet (rowOf w (roleRow q)) b || any (λ c. isBelow (vocabularyOf v) c b) (rangesIn (x ∷ []) q)
+    extend-in (p, c) n q b m = go (eqb q p) refl
       where
         above : inSet (rowOf w c) b ≡ isBelow (vocabularyOf v) c b
         above = kept-closed .rows c b (n .1)
@@ -99,37 +93,44 @@ module _ (v w₀ : List ℕ) (r : vocabularyRefusal v ≡ 0) (closed : ClosedRow
 
   -- ---- all of them
 
-  ranges-more : (p : ℕ → Bool) (x : Axiom) (R : Vocabulary) (q : ℕ) → any p (ranges (x ∷ []) q) || any p (ranges R q) ≡ any p (ranges (x ∷ R) q)
-  ranges-more p (below a b) R q = refl
-  ranges-more p (disjoint a b) R q = refl
-  ranges-more p (functionalRole s) R q = refl
-  ranges-more p (functionalFeature f) R q = refl
-  ranges-more p (range s c) R q = go (eqb q s)
+  -- a role and a class, by name
+  abbrev Named : ℕ × ℕ → Type 0
+  Named x = Name (roleCount v) (x .0) × Name (classCount v) (x .1)
+
+  ranges-more : (p : ℕ → Bool) (x : ℕ × ℕ) (R : List (ℕ × ℕ)) (q : ℕ) → any p (rangesIn (x ∷ []) q) || any p (rangesIn R q) ≡ any p (rangesIn (x ∷ R) q)
+  ranges-more p (s, c) R q = go (eqb q s)
     where
-      go : (t : Bool) → any p (cond t (c ∷ []) []) || any p (ranges R q) ≡ any p (cond t (c ∷ ranges R q) (ranges R q))
-      go true = ap (λ (u : Bool). u || any p (ranges R q)) (or-false (p c))
+      go : (t : Bool) → any p (cond t (c ∷ []) []) || any p (rangesIn R q) ≡ any p (cond t (c ∷ rangesIn R q) (rangesIn R q))
+      go true = ap (λ (u : Bool). u || any p (rangesIn R q)) (or-false (p c))
       go false = refl
 
-  kept-all : {w : List ℕ} → Kept v w₀ w → (R : Vocabulary) → All (AxiomOf v) R → Kept v w₀ (foldl widened w R)
+  kept-all : {w : List ℕ} → Kept v w₀ w → (R : List (ℕ × ℕ)) → All Named R → Kept v w₀ (foldl extend w R)
   kept-all h [] n = h
-  kept-all h (x ∷ R) n = kept-all (kept-widened h x (head n)) R (tail n)
+  kept-all h (x ∷ R) n = kept-all (kept-joined h (x .0) (x .1) (head n .0) (head n .1)) R (tail n)
 
-  widened-all : {w : List ℕ} → Kept v w₀ w → (R : Vocabulary) → All (AxiomOf v) R → (q b : ℕ) → Name (roleCount v) q →
-      inSet (rowOf (foldl widened w R) (roleRow q)) b ≡ inSet (rowOf w (roleRow q)) b || any (λ c. isBelow (vocabularyOf v) c b) (ranges R q)
-  widened-all {w} h [] n q b m = sym (or-false (inSet (rowOf w (roleRow q)) b))
-  widened-all {w} h (x ∷ R) n q b m =
+  extend-all : {w : List ℕ} → Kept v w₀ w → (R : List (ℕ × ℕ)) → All Named R → (q b : ℕ) → Name (roleCount v) q →
+      inSet (rowOf (foldl extend w R) (roleRow q)) b ≡ inSet (rowOf w (roleRow q)) b || any (λ c. isBelow (vocabularyOf v) c b) (rangesIn R q)
+  extend-all {w} h [] n q b m = sym (or-false (inSet (rowOf w (roleRow q)) b))
+  extend-all {w} h (x ∷ R) n q b m =
       let p : ℕ → Bool = λ c. isBelow (vocabularyOf v) c b in
       let old = inSet (rowOf w (roleRow q)) b in
-      widened-all (kept-widened h x (head n)) R (tail n) q b m
-      ∙ ap (λ (t : Bool). t || any p (ranges R q)) (widened-in h x (head n) q b m)
-      ∙ or-assoc old (any p (ranges (x ∷ []) q)) (any p (ranges R q))
+      extend-all (kept-joined h (x .0) (x .1) (head n .0) (head n .1)) R (tail n) q b m
+      ∙ ap (λ (t : Bool). t || any p (rangesIn R q)) (extend-in h x (head n) q b m)
+      ∙ or-assoc old (any p (rangesIn (x ∷ []) q)) (any p (rangesIn R q))
       ∙ ap (λ (t : Bool). old || t) (ranges-more p x R q)
 
+  -- the walk goes pair by pair
+  pairwise : (u : List ℕ) → foldl widened u (vocabularyOf v .axioms) ≡ foldl extend u (rangePairs (vocabularyOf v))
+  unfolding rangePairs
+  pairwise u = foldl-flatMap extend rangePair u (vocabularyOf v .axioms)
+
   -- `close_ranges`, where u has the rows emptied and w is the end
-  pub ranged-all : {u w : List ℕ} → u ≡ emptied (roleCount v) w₀ → w ≡ foldl widened u (vocabularyOf v) → Ranged v w₀ w
+  pub ranged-all : {u w : List ℕ} → u ≡ emptied (roleCount v) w₀ → w ≡ foldl widened u (vocabularyOf v .axioms) → Ranged v w₀ w
+  unfolding ranges
   ranged-all {u} {w} e d =
       let start = kept-starts e in
-      let kept : Kept v w₀ w = subst (Kept v w₀) (sym d) (kept-all start (vocabularyOf v) (accepted-axioms v r)) in
+      let all : w ≡ foldl extend u (rangePairs (vocabularyOf v)) = d ∙ pairwise u in
+      let kept : Kept v w₀ w = subst (Kept v w₀) (sym all) (kept-all start (rangePairs (vocabularyOf v)) (rangePairs-named v r)) in
       record {
         kept = kept;
         closed = kept-closed kept;
@@ -137,8 +138,8 @@ module _ (v w₀ : List ℕ) (r : vocabularyRefusal v ≡ 0) (closed : ClosedRow
           fits = omega (arith, kept .size);
           rows = λ q b n.
               let none : inSet (rowOf u (roleRow q)) b ≡ false = ap (λ (l : List ℕ). inSet (rowOf l (roleRow q)) b) e ∙ starts-empty q b n in
-              ap (λ (l : List ℕ). inSet (rowOf l (roleRow q)) b) d
-              ∙ widened-all start (vocabularyOf v) (accepted-axioms v r) q b n
+              ap (λ (l : List ℕ). inSet (rowOf l (roleRow q)) b) all
+              ∙ extend-all start (rangePairs (vocabularyOf v)) (rangePairs-named v r) q b n
               ∙ ap (λ (t : Bool). t || isRanged (vocabularyOf v) q b) none;
         };
       }

@@ -5,16 +5,16 @@ use lib.ListN.{drop, length, take}
 use mathlib.Core.Bool.{Bool, _||_, false, true}
 use mathlib.Core.List.{List}
 use mathlib.Core.Logic.{⊎-elim}
-use mathlib.Core.Path.{_≡_, _∙_, ap, refl, subst, sym}
+use mathlib.Core.Path.{_∙_, _≡_, ap, refl, subst, sym}
 use native.Mathlib.Omega.{arith}
 use borrow.Author.Tests.{eqb-false, eqb-true}
-use Rattle.meaning.proofs.Links.{Name}
+use Rattle.hierarchy.specs.Rows.{filled, joined, rowOf, rowPlace, withRow}
+use Rattle.meaning.specs.Records.{Name}
 use Rattle.words.proofs.Growth.{sum-put, union-grows, union-same}
 use Rattle.words.proofs.Laws.{in-union, length-union, lt-or-ge}
 use Rattle.words.proofs.Rows.{length-put, length-row, put-after, put-before, put-drop, put-row, put-self, put-take}
 use Rattle.words.specs.Rows.{classWords, rowAt}
 use Rattle.words.specs.Sets.{inSet, unionOf, wordSum}
-use Rattle.hierarchy.specs.Rows.{filled, joined, rowOf, rowPlace, withRow}
 
 -- row i is in the slice
 abbrev pub Fits : List ℕ → ℕ → Type 0

@@ -1,21 +1,26 @@
 -- One law for each return of the functions, over plain lists and numbers. Assumes nothing.
 use Prim.Native.Nat.{_*_, _+_, _<_, _≤_, ℕ}
-use lib.Dec.{eqb}
 use lib.ListN.{length}
-use mathlib.Core.Bool.{Bool, So, false, true, true≢false}
-use mathlib.Core.List.{List}
+use mathlib.Core.Bool.{Bool, false, true, true≢false}
+use mathlib.Core.List.{List, [], _∷_, foldl}
 use mathlib.Core.Logic.{_↔_}
-use mathlib.Core.Path.{_≡_, _∙_, ap, refl, subst, sym}
+use mathlib.Core.Path.{_∙_, _≡_, ap, refl, subst, sym}
 use native.Mathlib.Numerals.{add-one}
 use native.Mathlib.Omega.{arith}
-use borrow.Author.Tests.{ne-eqb}
-use Rattle.meaning.proofs.Links.{Name, choose, split, tests}
-use Rattle.meaning.proofs.Wellformed.{AxiomOf, axiom-named}
-use Rattle.meaning.specs.Vocabulary.{Axiom, axiomAt, axiomFits, axiomKind, axiomLeft, axiomRight, below, classCount, disjoint, functionalFeature, functionalRole, mostClasses, range, roleCount}
+use Rattle.hierarchy.proofs.Rows.{Fits, filled-length, joined-length, joined-more, joined-still}
+use Rattle.hierarchy.specs.Rows.{Grown, RoleRoom, emptied, empty, extend, filled, joined, lift, lifted, roleRow, rowOf}
+use Rattle.hierarchy.specs.Rows.{rowPlace, widened}
+use Rattle.meaning.proofs.Rules.{head}
+use Rattle.meaning.proofs.Stated.{rangePair-at, rangePair-named, rangePair-other, subclass-at, subclass-named, subclass-other}
+use Rattle.meaning.proofs.Wellformed.{axiom-named}
+use Rattle.meaning.specs.Accepted.{AxiomOf}
+use Rattle.meaning.specs.Limits.{mostClasses, mostRoles}
+use Rattle.meaning.specs.Lists.{All, cons, nil}
+use Rattle.meaning.specs.Records.{Name}
+use Rattle.meaning.specs.Stated.{rangePair, subclass}
+use Rattle.meaning.specs.Vocabulary.{Axiom, axiomAt, axiomFits, axiomKind, axiomLeft, axiomRight, classCount, roleCount}
 use Rattle.words.specs.Rows.{classWords, putAt}
 use Rattle.words.specs.Sets.{unionOf, wordSum}
-use Rattle.hierarchy.specs.Rows.{Grown, RoleRoom, emptied, empty, filled, joined, lifted, roleRow, rowOf, rowPlace, widened}
-use Rattle.hierarchy.proofs.Rows.{Fits, filled-length, joined-length, joined-more, joined-still}
 
 -- `begin` and `empty_ranges`
 pub filled-none : (first : ℕ) (f : ℕ → List ℕ) (w : List ℕ) → w ≡ filled first f 0 w
@@ -43,18 +48,14 @@ module _ (w : List ℕ) (i j : ℕ) (f : Fits w i) (g : Fits w j) {lower upper :
 -- `lift`: record k is of another kind, or a and b are its classes
 module _ (v w : List ℕ) (k : ℕ) {kind : ℕ} (e : kind ≡ axiomKind v k) where
   pub lift-other : (kind ≡ 1 → ⊥) → w ≡ lifted w (axiomAt v k)
-  lift-other n = rw (← e, ne-eqb kind 1 n) (
-      split P (eqb kind 2) (λ _. refl) (λ _. split P (eqb kind 3) (λ _. refl) (λ _. split P (eqb kind 4) (λ _. refl) (λ _. refl))))
-    where
-      P : Axiom → Type 0
-      P x = w ≡ lifted w x
+  lift-other n = sym (ap (foldl lift w) (subclass-other v k (λ z. n (e ∙ z))))
 
   module _ {a b : ℕ} (h : (axiomFits v k ≡ true) × (classCount v * classWords ≤ length w)) (o : kind ≡ 1) (p : a ≡ axiomLeft v k) (q : b ≡ axiomRight v k) where
-    is-below : axiomAt v k ≡ below a b
-    is-below = rw (sym e ∙ o, p, q)
+    states : subclass (axiomAt v k) ≡ (a, b) ∷ []
+    states = rw (p, q) (subclass-at v k (sym e ∙ o))
 
     named : Name (classCount v) a × Name (classCount v) b
-    named = rw is-below at (axiom-named v k (h .0))
+    named = head (subst (All _) states (subclass-named v (axiomAt v k) (axiom-named v k (h .0))))
 
     pub lift-fits : (1 ≤ a) × (1 ≤ b) × (a * classWords ≤ length w) × (b * classWords ≤ length w)
     lift-fits = let n = named in let f = h .1 in (n .0 .0, n .1 .0, omega arith, omega arith)
@@ -64,29 +65,22 @@ module _ (v w : List ℕ) (k : ℕ) {kind : ℕ} (e : kind ≡ axiomKind v k) wh
       lift-length = let f = lift-fits in ap length j ∙ joined-length w a b (f .0, f .2) (f .1, f .3)
 
       pub lift-below : u ≡ lifted w (axiomAt v k)
-      lift-below = rw is-below j
+      lift-below = j ∙ sym (ap (foldl lift w) states)
 
 -- `widen`: record k is of another kind, or a is its role and b its class
 module _ (v w : List ℕ) (k : ℕ) {kind : ℕ} (e : kind ≡ axiomKind v k)
     (h : (axiomFits v k ≡ true) × RoleRoom v w) where
   pub widen-other : (kind ≡ 5 → ⊥) → w ≡ widened w (axiomAt v k)
-  widen-other n =
-      choose So P (eqb (axiomKind v k) 1) (λ _ _. refl) (λ _.
-      choose So P (eqb (axiomKind v k) 2) (λ _ _. refl) (λ _.
-      choose So P (eqb (axiomKind v k) 3) (λ _ _. refl) (λ _.
-      choose So P (eqb (axiomKind v k) 4) (λ _ _. refl) (λ _ f. let u = simp tests at f in absurd (n (e ∙ u .0)))))) (h .0)
-    where
-      P : Axiom → Type 0
-      P x = w ≡ widened w x
+  widen-other n = sym (ap (foldl extend w) (rangePair-other v k (h .0) (λ z. n (e ∙ z))))
 
   module _ {a : ℕ} (o : kind ≡ 5) (p : a ≡ axiomLeft v k) where
-    is-range : axiomAt v k ≡ range a (axiomRight v k)
-    is-range = rw (sym e ∙ o, p)
+    range-states : rangePair (axiomAt v k) ≡ (a, axiomRight v k) ∷ []
+    range-states = rw p (rangePair-at v k (sym e ∙ o))
 
     named-range : Name (roleCount v) a × Name (classCount v) (axiomRight v k)
-    named-range = rw is-range at (axiom-named v k (h .0))
+    named-range = head (subst (All _) range-states (rangePair-named v (axiomAt v k) (axiom-named v k (h .0))))
 
-    pub widen-role : a ≤ 64
+    pub widen-role : a ≤ mostRoles
     widen-role = let n = named-range in let f = h .1 in omega arith
 
     module _ {b : ℕ} (q : b ≡ axiomRight v k) where
@@ -98,16 +92,18 @@ module _ (v w : List ℕ) (k : ℕ) {kind : ℕ} (e : kind ≡ axiomKind v k)
         widen-length = let f = widen-fits in ap length j ∙ joined-length w (roleRow a) b (f .0, f .2) (f .1, f .3)
 
         pub widen-range : u ≡ widened w (axiomAt v k)
-        widen-range = rw is-range (j ∙ ap (joined w (roleRow a)) q)
+        widen-range = j ∙ ap (joined w (roleRow a)) q ∙ sym (ap (foldl extend w) range-states)
 
 -- `close_ranges`
 pub widened-length : (v w : List ℕ) (x : Axiom) → AxiomOf v x → classCount v ≤ mostClasses → roleRow (roleCount v) * classWords ≤ length w →
     length (widened w x) ≡ length w
-widened-length v w (below a b) n m f = refl
-widened-length v w (disjoint a b) n m f = refl
-widened-length v w (functionalRole r) n m f = refl
-widened-length v w (functionalFeature r) n m f = refl
-widened-length v w (range r c) n m f = joined-length w (roleRow r) c (omega arith, omega (arith, n .0 .1)) (n .1 .0, omega (arith, n .1 .1))
+widened-length v w x n m f = go w (rangePair-named v x n) refl
+  where
+    go : (u : List ℕ) {l : List (ℕ × ℕ)} → All (λ p. Name (roleCount v) (p .0) × Name (classCount v) (p .1)) l → length u ≡ length w →
+        length (foldl extend u l) ≡ length w
+    go u nil e = e
+    go u (cons {x = p} h t) e =
+        go (extend u p) t (joined-length u (roleRow (p .0)) (p .1) (omega arith, omega (arith, h .0 .1)) (h .1 .0, omega (arith, h .1 .1)) ∙ e)
 
 module _ (v w₀ u : List ℕ) {n : ℕ} (f : roleRow (roleCount v) * classWords ≤ length w₀) (e : n ≡ roleCount v) (b : u ≡ emptied n w₀) where
   pub empties : u ≡ emptied (roleCount v) w₀
@@ -118,11 +114,13 @@ module _ (v w₀ u : List ℕ) {n : ℕ} (f : roleRow (roleCount v) * classWords
 
 -- `pass`
 pub lifted-length : (v w : List ℕ) (x : Axiom) → AxiomOf v x → classCount v * classWords ≤ length w → length (lifted w x) ≡ length w
-lifted-length v w (below a b) n f = joined-length w a b (n .0 .0, omega (arith, n .0 .1)) (n .1 .0, omega (arith, n .1 .1))
-lifted-length v w (disjoint a b) n f = refl
-lifted-length v w (functionalRole r) n f = refl
-lifted-length v w (functionalFeature r) n f = refl
-lifted-length v w (range r c) n f = refl
+lifted-length v w x n f = go w (subclass-named v x n) refl
+  where
+    go : (u : List ℕ) {l : List (ℕ × ℕ)} → All (λ p. Name (classCount v) (p .0) × Name (classCount v) (p .1)) l → length u ≡ length w →
+        length (foldl lift u l) ≡ length w
+    go u nil e = e
+    go u (cons {x = p} h t) e =
+        go (lift u p) t (joined-length u (p .0) (p .1) (h .0 .0, omega (arith, h .0 .1)) (h .1 .0, omega (arith, h .1 .1)) ∙ e)
 
 grown-le : (g : Bool) (w u : List ℕ) → Grown g w u → wordSum w ≤ wordSum u
 grown-le true w u h = omega arith

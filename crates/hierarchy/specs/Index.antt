@@ -1,24 +1,25 @@
 -- The records that put a class below another, class by class, in two lists: a head for each class, and a next for each record.
-use Prim.Native.Nat.{_*_, _<_, _≤_, ℕ}
+use Prim.Native.Nat.{_*_, _<_, _≤_, suc, ℕ}
 use mathlib.Core.Bool.{true}
 use mathlib.Core.List.{List}
 use mathlib.Core.Path.{_≡_}
 use lib.ListN.{getD, length}
-use Rattle.meaning.proofs.Links.{Name}
-use Rattle.meaning.specs.Lists.{_∈_}
-use Rattle.meaning.specs.Vocabulary.{Axiom, axiomAt, axiomFits, axiomKind, classCount, mostClasses, vocabularyOf, vocabularyRefusal}
-use Rattle.words.specs.Rows.{classWords}
 use Rattle.hierarchy.specs.Rows.{lifted}
+use Rattle.meaning.specs.Limits.{mostAxioms, mostClasses}
+use Rattle.meaning.specs.Lists.{_∈_}
+use Rattle.meaning.specs.Records.{Name}
+use Rattle.meaning.specs.Vocabulary.{Axiom, axiomAt, axiomFits, axiomKind, classCount, vocabularyOf, vocabularyRefusal}
+use Rattle.words.specs.Rows.{classWords}
 
 -- how many records a vocabulary may have, its header among them
 abbrev pub records : ℕ
-records = 1025
+records = suc mostAxioms
 
 -- a walk along the chain of v meets record k
 pub record Met (v : List ℕ) (k : ℕ) : Type 0 where
-  pub within : Name 1024 k
+  pub within : Name mostAxioms k
   pub fits : axiomFits v k ≡ true
-  pub stated : axiomAt v k ∈ vocabularyOf v
+  pub stated : axiomAt v k ∈ vocabularyOf v .axioms
 
 -- and it says that a class is below another
 pub record Rises (v : List ℕ) (k : ℕ) : Type 0 where
@@ -48,4 +49,4 @@ pub record Raisable (v w h n : List ℕ) (c : ℕ) : Type 0 where
 -- w′ comes from w by what records of v state, in whatever order
 pub data Raised (v w : List ℕ) : List ℕ → Type 0 where
   raised-none : {t : List ℕ} → t ≡ w → Raised v w t
-  raised-more : {u t : List ℕ} {x : Axiom} → Raised v w u → x ∈ vocabularyOf v → t ≡ lifted u x → Raised v w t
+  raised-more : {u t : List ℕ} {x : Axiom} → Raised v w u → x ∈ vocabularyOf v .axioms → t ≡ lifted u x → Raised v w t

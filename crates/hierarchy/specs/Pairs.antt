@@ -1,20 +1,22 @@
--- The pairs of disjoint classes, as a list of the work slice behind the rows: their number, then two words a pair.
+-- The pairs of disjoint classes, as a list of the work slice after the rows: their number, then two words a pair.
 use Prim.Native.Nat.{_*_, _+_, _<_, _≤_, ℕ}
-use mathlib.Core.List.{List, [], _∷_, map}
+use mathlib.Core.List.{List, foldl, map}
 use mathlib.Core.Path.{_≡_}
 use lib.ListN.{getD, length, set}
-use Rattle.meaning.specs.Lists.{counting, flatMap}
-use Rattle.meaning.specs.Vocabulary.{Axiom, Vocabulary, below, disjoint, functionalFeature, functionalRole, range, vocabularyOf}
 use Rattle.hierarchy.specs.Rows.{roleRow}
+use Rattle.meaning.specs.Limits.{mostAxioms, mostRoles}
+use Rattle.meaning.specs.Lists.{counting}
+use Rattle.meaning.specs.Stated.{disjointPair, disjointPairs}
+use Rattle.meaning.specs.Vocabulary.{Axiom, vocabularyOf}
 use Rattle.words.specs.Rows.{classWords}
 
--- behind the row of the last role that a vocabulary may count
+-- after the row of the last role that a vocabulary may count
 abbrev pub pairsAt : ℕ
-pairsAt = roleRow 64 * classWords
+pairsAt = roleRow mostRoles * classWords
 
 -- the most pairs: a vocabulary has no more records
 abbrev pub mostPairs : ℕ
-mostPairs = 1024
+mostPairs = mostAxioms
 
 -- pair i, counted from 0
 abbrev pub pairPlace : ℕ → ℕ
@@ -27,26 +29,18 @@ abbrev pub pairCount : List ℕ → ℕ
 pairCount w = getD w pairsAt 0
 
 -- what pair i stands for
-abbrev pub pairAt : List ℕ → ℕ → Axiom
-pairAt w i = disjoint (getD w (pairPlace i) 0) (getD w (pairPlace i + 1) 0)
+abbrev pub pairAt : List ℕ → ℕ → ℕ × ℕ
+pairAt w i = (getD w (pairPlace i) 0, getD w (pairPlace i + 1) 0)
 
-abbrev pub pairsIn : List ℕ → Vocabulary
+abbrev pub pairsIn : List ℕ → List (ℕ × ℕ)
 pairsIn w = map (pairAt w) (counting 0 (pairCount w))
-
--- an axiom that makes two classes disjoint, alone; any other not at all
-abbrev pub parting : Axiom → Vocabulary
-parting (below a b) = []
-parting (disjoint a b) = disjoint a b ∷ []
-parting (functionalRole r) = []
-parting (functionalFeature f) = []
-parting (range r c) = []
 
 -- ---- what the list holds
 
 -- the list in w is that of v, in the chain's order
 pub record PairRows (v w : List ℕ) : Type 0 where
   pub few : pairCount w ≤ mostPairs
-  pub rows : pairsIn w ≡ flatMap parting (vocabularyOf v)
+  pub rows : pairsIn w ≡ disjointPairs (vocabularyOf v)
 
 -- w′ is w but for the list
 pub record Listed (v w w′ : List ℕ) : Type 0 where
@@ -66,8 +60,4 @@ withPair w a b = set (set (set w (pairPlace (pairCount w)) a) (pairPlace (pairCo
 
 -- what a record states, where it makes two classes disjoint
 abbrev pub enlisted : List ℕ → Axiom → List ℕ
-enlisted w (below a b) = w
-enlisted w (disjoint a b) = withPair w a b
-enlisted w (functionalRole r) = w
-enlisted w (functionalFeature f) = w
-enlisted w (range r c) = w
+enlisted w x = foldl (λ u p. withPair u (p .0) (p .1)) w (disjointPair x)

@@ -1,14 +1,14 @@
 -- The rows of the work slice, a set of classes each: the classes above a class, and those above a role's ranges.
 use Prim.Native.Nat.{_*_, _+_, _-_, _<_, _≤_, suc, zero, ℕ}
 use mathlib.Core.Bool.{Bool, false, true}
-use mathlib.Core.List.{List}
+use mathlib.Core.List.{List, foldl}
 use mathlib.Core.Path.{_≡_}
 use lib.ListN.{drop, length, replicate, take}
-use Rattle.meaning.proofs.Links.{Name}
+use Rattle.meaning.specs.Limits.{mostClasses, mostRoles}
 use Rattle.meaning.specs.Lists.{any}
-use Rattle.meaning.specs.NormalForm.{isBelow, ranges}
-use Rattle.meaning.specs.Vocabulary.{Axiom, Vocabulary, below, classCount, disjoint, functionalFeature, functionalRole}
-use Rattle.meaning.specs.Vocabulary.{mostClasses, range, roleCount, vocabularyOf}
+use Rattle.meaning.specs.Records.{Name}
+use Rattle.meaning.specs.Stated.{isBelow, rangePair, ranges, subclass}
+use Rattle.meaning.specs.Vocabulary.{Axiom, Vocabulary, classCount, roleCount, vocabularyOf}
 use Rattle.words.specs.Rows.{classWords, putAt, rowAt}
 use Rattle.words.specs.Sets.{inSet, including, unionOf, wordSum}
 
@@ -30,11 +30,11 @@ pub record ClosedRows (v w : List ℕ) : Type 0 where
   pub rows : (a b : ℕ) → Name (classCount v) a → inSet (rowOf w a) b ≡ isBelow (vocabularyOf v) a b
 
 -- what a test, and a row, tell of every vocabulary whose rows these are
-abbrev pub TellsBelow : List ℕ → ℕ → ℕ → Bool → Type 0
-TellsBelow w a b r = (v : List ℕ) → ClosedRows v w → Name (classCount v) a → r ≡ isBelow (vocabularyOf v) a b
+abbrev pub DecidesBelow : List ℕ → ℕ → ℕ → Bool → Type 0
+DecidesBelow w a b r = (v : List ℕ) → ClosedRows v w → Name (classCount v) a → r ≡ isBelow (vocabularyOf v) a b
 
-abbrev pub TellsAbove : List ℕ → ℕ → List ℕ → Type 0
-TellsAbove w a s = (v : List ℕ) → ClosedRows v w → Name (classCount v) a → (b : ℕ) → inSet s b ≡ isBelow (vocabularyOf v) a b
+abbrev pub ContainsAbove : List ℕ → ℕ → List ℕ → Type 0
+ContainsAbove w a s = (v : List ℕ) → ClosedRows v w → Name (classCount v) a → (b : ℕ) → inSet s b ≡ isBelow (vocabularyOf v) a b
 
 -- w′ is w but for these rows
 pub record Closed (v w w′ : List ℕ) : Type 0 where
@@ -55,12 +55,12 @@ pub record RangeRows (v w : List ℕ) : Type 0 where
   pub fits : roleRow (roleCount v) * classWords ≤ length w
   pub rows : (r b : ℕ) → Name (roleCount v) r → inSet (rowOf w (roleRow r)) b ≡ isRanged (vocabularyOf v) r b
 
-abbrev pub TellsRanged : List ℕ → ℕ → List ℕ → Type 0
-TellsRanged w r s = (v : List ℕ) → RangeRows v w → Name (roleCount v) r → (b : ℕ) → inSet s b ≡ isRanged (vocabularyOf v) r b
+abbrev pub ContainsRanged : List ℕ → ℕ → List ℕ → Type 0
+ContainsRanged w r s = (v : List ℕ) → RangeRows v w → Name (roleCount v) r → (b : ℕ) → inSet s b ≡ isRanged (vocabularyOf v) r b
 
 -- there is room for them
 abbrev pub RoleRoom : List ℕ → List ℕ → Type 0
-RoleRoom v w = (roleCount v ≤ 64) × (classCount v ≤ mostClasses) × (roleRow (roleCount v) * classWords ≤ length w)
+RoleRoom v w = (roleCount v ≤ mostRoles) × (classCount v ≤ mostClasses) × (roleRow (roleCount v) * classWords ≤ length w)
 
 -- w′ is w but for the rows of v's roles
 pub record Kept (v w w′ : List ℕ) : Type 0 where
@@ -96,20 +96,18 @@ unfoldable pub joined : List ℕ → ℕ → ℕ → List ℕ
 joined w i j = withRow w i (unionOf (rowOf w i) (rowOf w j))
 
 -- what is above b is above a, where a record says that a is below b
+abbrev pub lift : List ℕ → ℕ × ℕ → List ℕ
+lift w p = joined w (p .0) (p .1)
+
 abbrev pub lifted : List ℕ → Axiom → List ℕ
-lifted w (below a b) = joined w a b
-lifted w (disjoint a b) = w
-lifted w (functionalRole r) = w
-lifted w (functionalFeature f) = w
-lifted w (range r c) = w
+lifted w x = foldl lift w (subclass x)
 
 -- what is above c is above a range of r, where a record says that c is one
+abbrev pub extend : List ℕ → ℕ × ℕ → List ℕ
+extend w p = joined w (roleRow (p .0)) (p .1)
+
 abbrev pub widened : List ℕ → Axiom → List ℕ
-widened w (below a b) = w
-widened w (disjoint a b) = w
-widened w (functionalRole r) = w
-widened w (functionalFeature f) = w
-widened w (range r c) = joined w (roleRow r) c
+widened w x = foldl extend w (rangePair x)
 
 -- from w to w′ the words' sum grew, or nothing changed
 abbrev pub Grown : Bool → List ℕ → List ℕ → Type 0

@@ -1,9 +1,12 @@
 // What an accepted vocabulary states, worked out once a call: nothing else looks through its records again.
 // The work slice begins with rows of ClassSet::WORDS words, counted from 1: row c is the set of the classes above class c, itself
-// among them, and row ROLES + r that of the classes above the ranges of role r. Behind the rows stand the pairs of disjoint classes.
+// among them, and row ROLES + r that of the classes above the ranges of role r. After the rows stand the pairs of disjoint classes.
 use meaning::ClassNo;
 use meaning::FeatureNo;
 use meaning::RoleNo;
+use meaning::limits::MOST_AXIOMS;
+use meaning::limits::MOST_CLASSES;
+use meaning::limits::MOST_ROLES;
 use vocabulary::axiom_kind;
 use vocabulary::axiom_left;
 use vocabulary::axiom_next;
@@ -18,17 +21,18 @@ use words::place;
 ghost use mathlib.Core.Bool.{true};
 ghost use mathlib.Core.Path.{_≡_};
 ghost use mathlib.Core.List.{List, foldl};
-ghost use Prim.Native.Nat.{ℕ, _+_, _*_, _≤_};
+ghost use Prim.Native.Nat.{_*_, _+_, _≤_, ℕ};
 ghost use lib.ListN.{length};
-ghost use Rattle.meaning.specs.NormalForm.{single, singleFeature};
-ghost use Rattle.meaning.specs.Vocabulary.{axiomAt, axiomFits, classCount, mostClasses, roleCount, vocabularyOf, vocabularyRefusal};
-ghost use Rattle.words.specs.Rows.{classWords};
-ghost use Rattle.words.specs.Sets.{inSet, wordSum};
 ghost use Rattle.hierarchy.specs.Index.{Heads, Met, Nexts, Raisable, Raised, records};
 ghost use Rattle.hierarchy.specs.Pairs.{Listed, PairRoom, enlisted, pairPlace, pairsEnd, withPair};
-ghost use Rattle.hierarchy.specs.Rows.{begun, Closed, ClosedRows, emptied, Grown, joined, lifted, Ranged};
-ghost use Rattle.hierarchy.specs.Rows.{RoleRoom, roleRow, rowOf, rowPlace, TellsAbove, TellsBelow, TellsRanged, widened};
-ghost use Rattle.hierarchy.specs.Singles.{marked, Singles, withFeature, withRole};
+ghost use Rattle.hierarchy.specs.Rows.{Closed, ClosedRows, ContainsAbove, ContainsRanged, DecidesBelow, Grown, Ranged};
+ghost use Rattle.hierarchy.specs.Rows.{RoleRoom, begun, emptied, joined, lifted, roleRow, rowOf, rowPlace, widened};
+ghost use Rattle.hierarchy.specs.Singles.{Singles, marked, withFeature, withRole};
+ghost use Rattle.meaning.specs.Limits.{mostClasses, mostRoles};
+ghost use Rattle.meaning.specs.Stated.{isFunctionalFeature, isFunctionalRole};
+ghost use Rattle.meaning.specs.Vocabulary.{axiomAt, axiomFits, classCount, roleCount, vocabularyOf, vocabularyRefusal};
+ghost use Rattle.words.specs.Rows.{classWords};
+ghost use Rattle.words.specs.Sets.{inSet, wordSum};
 
 // Where row i starts.
 fn row_at(i: u32) -> usize
@@ -89,7 +93,7 @@ fn lift(v: &[u32], work: &mut [u32], k: u32) -> bool
 // One pass over the records, in the chain's order; whether a row grew.
 fn pass(v: &[u32], work: &mut [u32]) -> bool
     requires { ⌜ (vocabularyRefusal (now v) ≡ 0) × (classCount (now v) * classWords ≤ length (now work)) ⌝ }
-    ensures { λ _. ⌜ now (work .exit) ≡ foldl lifted (now (work .entry)) (vocabularyOf (now (v .entry))) ⌝ }
+    ensures { λ _. ⌜ now (work .exit) ≡ foldl lifted (now (work .entry)) (vocabularyOf (now (v .entry)) .axioms) ⌝ }
     ensures { λ r. ⌜ Grown r (now (work .entry)) (now (work .exit)) ⌝ }
 {
     let mut grown = false;
@@ -104,9 +108,9 @@ fn pass(v: &[u32], work: &mut [u32]) -> bool
 }
 
 // A head for each class, and a next for each record that a vocabulary may have: both count from 1.
-const HEADS: usize = ClassSet::MOST as usize + 1;
+const HEADS: usize = MOST_CLASSES as usize + 1;
 
-const NEXTS: usize = 1024 + 1;
+const NEXTS: usize = MOST_AXIOMS + 1;
 
 // Record k becomes the head of its class, where it says that the class is below another.
 fn enter(v: &[u32], heads: &mut [u32; HEADS], next: &mut [u32; NEXTS], k: u32)
@@ -179,7 +183,7 @@ pub fn close(v: &[u32], work: &mut [u32])
 pub fn is_below(work: &[u32], a: ClassNo, b: ClassNo) -> bool
     requires { ⌜ (1 ≤ a .0) × (a .0 * classWords ≤ length (now work)) ⌝ }
     ensures { λ r. ⌜ r ≡ inSet (rowOf (now (work .entry)) (a .0)) (b .0) ⌝ }
-    ensures { λ r. ⌜ TellsBelow (now (work .entry)) (a .0) (b .0) r ⌝ }
+    ensures { λ r. ⌜ DecidesBelow (now (work .entry)) (a .0) (b .0) r ⌝ }
 {
     ClassSet::has_at(work, row_at(a.0), b)
 }
@@ -188,17 +192,17 @@ pub fn is_below(work: &[u32], a: ClassNo, b: ClassNo) -> bool
 pub fn above(work: &[u32], c: ClassNo) -> ClassSet
     requires { ⌜ (1 ≤ c .0) × (c .0 * classWords ≤ length (now work)) ⌝ }
     ensures { λ r. ⌜ r .words ≡ rowOf (now (work .entry)) (c .0) ⌝ }
-    ensures { λ r. ⌜ TellsAbove (now (work .entry)) (c .0) (r .words) ⌝ }
+    ensures { λ r. ⌜ ContainsAbove (now (work .entry)) (c .0) (r .words) ⌝ }
 {
     row(work, c.0)
 }
 
-// The rows of the roles stand behind room for those of the most classes.
-const ROLES: u32 = ClassSet::MOST;
+// The rows of the roles stand after room for those of the most classes.
+const ROLES: u32 = MOST_CLASSES;
 
 // No class is above a range.
 fn empty_ranges(work: &mut [u32], n: u32)
-    requires { ⌜ (n ≤ 64) × (roleRow n * classWords ≤ length (now work)) ⌝ }
+    requires { ⌜ (n ≤ mostRoles) × (roleRow n * classWords ≤ length (now work)) ⌝ }
     ensures { λ _. ⌜ now (work .exit) ≡ emptied n (now (work .entry)) ⌝ }
 {
     for i in 0..n {
@@ -235,18 +239,18 @@ pub fn close_ranges(v: &[u32], work: &mut [u32])
 
 // The classes above the ranges of r: what every value of r is in.
 pub fn range_above(work: &[u32], r: RoleNo) -> ClassSet
-    requires { ⌜ (r .0 ≤ 64) × (roleRow (r .0) * classWords ≤ length (now work)) ⌝ }
+    requires { ⌜ (r .0 ≤ mostRoles) × (roleRow (r .0) * classWords ≤ length (now work)) ⌝ }
     ensures { λ s. ⌜ s .words ≡ rowOf (now (work .entry)) (roleRow (r .0)) ⌝ }
-    ensures { λ s. ⌜ TellsRanged (now (work .entry)) (r .0) (s .words) ⌝ }
+    ensures { λ s. ⌜ ContainsRanged (now (work .entry)) (r .0) (s .words) ⌝ }
 {
     row(work, ROLES + r.0)
 }
 
-// Behind room for the rows of the most roles: the number of pairs of disjoint classes, then two words a pair.
-pub const PAIRS: usize = (ClassSet::MOST as usize + 64) * ClassSet::WORDS;
+// After room for the rows of the most roles: the number of pairs of disjoint classes, then two words a pair.
+pub const PAIRS: usize = (MOST_CLASSES + MOST_ROLES) as usize * ClassSet::WORDS;
 
 // There are at most 1,024 pairs: a vocabulary has no more records.
-pub const PAIRS_END: usize = PAIRS + 1 + 2 * 1024;
+pub const PAIRS_END: usize = PAIRS + 1 + 2 * MOST_AXIOMS;
 
 // Where pair i starts, counted from 0.
 pub fn pair_at(i: u32) -> usize
@@ -349,14 +353,14 @@ impl Functional {
 
     pub fn has_role(self, r: RoleNo) -> bool
         ensures { λ t. ⌜ t ≡ inSet (self .roles) (r .0) ⌝ }
-        ensures { λ t. ⌜ ((v : List ℕ) → Singles v self → t ≡ single (vocabularyOf v) (r .0)) ⌝ }
+        ensures { λ t. ⌜ ((v : List ℕ) → Singles v self → t ≡ isFunctionalRole (vocabularyOf v) (r .0)) ⌝ }
     {
         has(&self.roles, r.0)
     }
 
     pub fn has_feature(self, f: FeatureNo) -> bool
         ensures { λ t. ⌜ t ≡ inSet (self .features) (f .0) ⌝ }
-        ensures { λ t. ⌜ ((v : List ℕ) → Singles v self → t ≡ singleFeature (vocabularyOf v) (f .0)) ⌝ }
+        ensures { λ t. ⌜ ((v : List ℕ) → Singles v self → t ≡ isFunctionalFeature (vocabularyOf v) (f .0)) ⌝ }
     {
         has(&self.features, f.0)
     }

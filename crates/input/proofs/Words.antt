@@ -8,9 +8,9 @@ use mathlib.Core.Path.{_∙_, _≡_, ap}
 use native.Mathlib.Nat.{add-suc, add-zero, suc-add, zero-add}
 use native.Mathlib.Numerals.{add-one}
 use native.Mathlib.Omega.{arith}
+use Rattle.input.specs.Input.{exact}
 use Rattle.meaning.specs.Lists.{counting}
 use Rattle.meaning.specs.Program.{nextPart, partAt, wordAt}
-use Rattle.input.specs.Input.{exact}
 
 -- one more of what is counted
 pub counted : {A : Type 0} (f : ℕ → A) (k n : ℕ) → map f (counting k (suc n)) ≡ map f (counting k n) ++ (f (k + n) ∷ [])

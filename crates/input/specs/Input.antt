@@ -4,16 +4,10 @@ use mathlib.Core.Bool.{Bool, cond}
 use mathlib.Core.List.{List}
 use lib.Dec.{eqb, leb}
 use lib.ListN.{length}
-use Rattle.meaning.specs.Operations.{Outcome, compliance, refuses, workSize}
+use Rattle.meaning.specs.Answers.{VerdictResult}
+use Rattle.meaning.specs.Limits.{mostBytes, outputSize, workSize}
+use Rattle.meaning.specs.Operations.{Outcome, compliance, refuses}
 use Rattle.meaning.specs.Program.{nextPart, partAt, wordsOf}
-
--- "Input over 65,536 bytes"
-abbrev pub mostBytes : ℕ
-mostBytes = 65536
-
--- "an output of 16,384 words"
-abbrev pub outputSize : ℕ
-outputSize = 16384
 
 -- where the second policy begins, and where the three parts end
 abbrev pub thirdPart : List ℕ → ℕ
@@ -27,11 +21,11 @@ abbrev pub exact : ℕ → List ℕ → Bool
 exact bytes ws = eqb bytes (4 * partsEnd ws)
 
 -- the outcome of an input of so many bytes and these words
-unfoldable pub decidedWords : ℕ → List ℕ → Outcome
+unfoldable pub decidedWords : ℕ → List ℕ → Outcome VerdictResult
 decidedWords bytes ws =
     let told = compliance (partAt ws 0) (partAt ws (nextPart ws 0)) (partAt ws (thirdPart ws)) workSize outputSize in
     cond (exact bytes ws) told (refuses 40)
 
 -- the outcome that the program prints
-unfoldable pub decided : List ℕ → Outcome
+unfoldable pub decided : List ℕ → Outcome VerdictResult
 decided b = cond (leb (length b) mostBytes) (decidedWords (length b) (wordsOf b)) (refuses 40)

@@ -1,15 +1,14 @@
 // The program's input: its words and its three parts.
+use meaning::limits::MOST_BYTES;
 use records::word;
 use words::place;
 ghost use mathlib.Core.Path.{_≡_};
-ghost use Prim.Native.Nat.{_*_, _+_, _/_, _≤_, _<_};
+ghost use Prim.Native.Nat.{_*_, _+_, _/_, _<_, _≤_};
 ghost use lib.Dec.{leb};
 ghost use lib.ListN.{length, take};
-ghost use Rattle.input.specs.Input.{exact, mostBytes};
+ghost use Rattle.input.specs.Input.{exact};
+ghost use Rattle.meaning.specs.Limits.{mostBytes};
 ghost use Rattle.meaning.specs.Program.{nextPart, partAt, wordAt, wordsOf};
-
-// An input that is longer is refused unread.
-pub const INPUT: usize = 65536;
 
 fn wide(x: u8) -> u32
     ensures { λ r. ⌜ (r ≡ x) × (r < 256) ⌝ }
@@ -42,7 +41,7 @@ pub fn decode(input: &[u8], words: &mut [u32])
 pub fn is_short(bytes: usize) -> bool
     ensures { λ r. ⌜ r ≡ leb bytes mostBytes ⌝ }
 {
-    bytes <= INPUT
+    bytes <= MOST_BYTES
 }
 
 // Where the part behind the one at word i begins: past the end of the words, perhaps.

@@ -7,27 +7,29 @@ use mathlib.Core.Path.{_≡_, refl}
 use lib.Dec.{T, eqb}
 use lib.ListN.{length}
 use native.Mathlib.Omega.{arith}
-use Rattle.meaning.proofs.Links.{Name, choose, passed, tests}
+use Rattle.meaning.proofs.Links.{choose, passed, tests}
 use Rattle.meaning.proofs.ModelCheck.{refutes-iff}
 use Rattle.meaning.proofs.ModelWords.{NamedFact}
 use Rattle.meaning.proofs.Refusals.{unless-all}
 use Rattle.meaning.proofs.Rules.{all-at, isTrue, notTrue}
-use Rattle.meaning.specs.Answers.{Answer, answeredNo, answeredYes, refused}
-use Rattle.meaning.specs.Countermodel.{Fact, stands}
+use Rattle.meaning.specs.Answers.{Answer, CheckResult, no, refused, result, yes}
 use Rattle.meaning.specs.Interpretation.{Proper}
+use Rattle.meaning.specs.Limits.{mostIndividuals}
 use Rattle.meaning.specs.Lists.{All, cons, nil}
-use Rattle.meaning.specs.ModelCheck.{factAt, factFits, factKind, factNext, factsFrom, factsOf, factsRefusal, firstFact, individualCount, modelRefusal, refutes}
+use Rattle.meaning.specs.Model.{Fact, factAt, factFits, factKind, factNext, factsFrom, factsOf, factsRefusal, firstFact}
+use Rattle.meaning.specs.Model.{individualCount, modelRefusal, stands}
+use Rattle.meaning.specs.ModelCheck.{refutes}
 use Rattle.meaning.specs.Operations.{inputRefusal, modelCheck, workRefusal}
 use Rattle.meaning.specs.Policy.{Policy, policyOf}
-use Rattle.meaning.specs.Promises.{Countered, IsRefusal, Judgement, countered, inhabited, standing, unsaidJudgement}
-use Rattle.meaning.specs.Records.{orElse}
+use Rattle.meaning.specs.Promises.{CorrectCheck, Countered, IsRefusal, countered, inhabited, standing, unsaidCheck}
+use Rattle.meaning.specs.Records.{Name, orElse}
 use Rattle.meaning.specs.Vocabulary.{Vocabulary, classCount, featureCount, roleCount, vocabularyOf}
 
 module _ (v p q m : List ℕ) where
-  pub check-judged : (w : ℕ) → Judgement v p q m (modelCheck v p q m w)
+  pub check-judged : (w : ℕ) → CorrectCheck v p q m (modelCheck v p q m w)
   unfolding modelCheck
   check-judged w =
-      unless-all (Judgement v p q m) refused (orElse (inputRefusal v p q) (orElse (modelRefusal v m) (workRefusal w))) _ unsaidJudgement (λ e. go (refutes F K P Q) refl)
+      unless-all (CorrectCheck v p q m) refused (orElse (inputRefusal v p q) (orElse (modelRefusal v m) (workRefusal w))) _ unsaidCheck (λ e. go (refutes F K P Q) refl)
     where
       F : List Fact
       F = factsOf m
@@ -44,16 +46,16 @@ module _ (v p q m : List ℕ) where
       right : T (refutes F K P Q) ↔ Countered v p q m
       right = refutes-iff F (individualCount m) K P Q
 
-      go : (b : Bool) → refutes F K P Q ≡ b → Judgement v p q m (cond b answeredYes answeredNo)
+      go : (b : Bool) → refutes F K P Q ≡ b → CorrectCheck v p q m (cond b (result yes) (result no))
       go true e = countered (right .0 (isTrue e))
       go false e = standing (λ c. notTrue e (right .1 c))
 
   -- where the check answers, yes if and only if
-  pub check-right : (w : ℕ) → (IsRefusal (modelCheck v p q m w) → ⊥) → (modelCheck v p q m w ≡ answeredYes) ↔ Countered v p q m
+  pub check-right : (w : ℕ) → (IsRefusal (modelCheck v p q m w) → ⊥) → (modelCheck v p q m w ≡ result yes) ↔ Countered v p q m
   check-right w t = go (modelCheck v p q m w) (check-judged w) t
     where
-      go : (a : Answer) → Judgement v p q m a → (IsRefusal a → ⊥) → (a ≡ answeredYes) ↔ Countered v p q m
-      go a (unsaidJudgement n) t = absurd (t (n, refl))
+      go : (a : Answer CheckResult) → CorrectCheck v p q m a → (IsRefusal a → ⊥) → (a ≡ result yes) ↔ Countered v p q m
+      go a (unsaidCheck n) t = absurd (t (n, refl))
       go a (countered c) t = (λ e. c, λ d. refl)
       go a (standing f) t = (λ e. absurd (let z : _≡_ {A = ℕ} 0 1 = cc in omega arith), λ d. absurd (f d))
 
@@ -76,7 +78,7 @@ module _ (v m : List ℕ) where
       choose (λ (n : ℕ). n ≡ 0) (All FactOf) (eqb k 0) (λ _ _. nil) (λ _ h.
       let u = simp (passed 32, tests) at h in cons (fact-named k (simp tests (u .0 .0))) (facts-named f (factNext m k) (u .1)))
 
-  pub accepted-facts : modelRefusal v m ≡ 0 → Name 512 (individualCount m) × All (NamedFact (classCount v) (roleCount v) (featureCount v) (individualCount m)) (factsOf m)
+  pub accepted-facts : modelRefusal v m ≡ 0 → Name mostIndividuals (individualCount m) × All (NamedFact (classCount v) (roleCount v) (featureCount v) (individualCount m)) (factsOf m)
   unfolding modelRefusal factsOf
   accepted-facts h = let u = simp (passed 30, passed 31, tests) at h in (u .1 .0 .1 .0, facts-named (length m) (firstFact m) (u .1 .1))
 

@@ -1,116 +1,111 @@
 -- ⊑* is the reflexive and transitive closure of the records of kind 1.
 use Prim.Native.Nat.{ℕ}
 use mathlib.Core.Bool.{_&&_}
-use mathlib.Core.List.{[], _∷_}
+use mathlib.Core.List.{List, [], _∷_}
 use mathlib.Core.Logic.{_↔_, _⊎_, inl, inr}
 use mathlib.Core.Path.{_≡_, refl, subst}
 use lib.Dec.{T, eqb-refl, eqb→eq}
-use Rattle.meaning.proofs.Links.{Name}
-use Rattle.meaning.proofs.Rules.{T-and, T-or, and-T, eqb-of, head, or-left, or-right, tail}
-use Rattle.meaning.proofs.Stated.{Bounded}
+use Rattle.meaning.proofs.Rules.{T-and, T-or, and-T, eqb-of, or-left, or-right}
+use Rattle.meaning.proofs.Stated.{all-stated}
 use Rattle.meaning.specs.Interpretation.{Interpretation, Satisfies}
 use Rattle.meaning.specs.Lists.{_∈_, here, there}
-use Rattle.meaning.specs.NormalForm.{isBelow}
-use Rattle.meaning.specs.Vocabulary.{Axiom, Vocabulary, below, disjoint, functionalFeature, functionalRole, range}
+use Rattle.meaning.specs.Normal.{Bounded}
+use Rattle.meaning.specs.Records.{Name}
+use Rattle.meaning.specs.Stated.{closure, isBelow, subclasses}
+use Rattle.meaning.specs.Vocabulary.{Vocabulary}
 
-pub below-refl : (K : Vocabulary) (a : ℕ) → T (isBelow K a a)
-below-refl [] a = eqb-refl a
-below-refl (below x y ∷ K) a = or-left (isBelow K a a) _ (below-refl K a)
-below-refl (disjoint x y ∷ K) a = below-refl K a
-below-refl (functionalRole r ∷ K) a = below-refl K a
-below-refl (functionalFeature f ∷ K) a = below-refl K a
-below-refl (range r c ∷ K) a = below-refl K a
+-- ---- the closure of a list of pairs
 
--- the two ways of `reach (below x y ∷ K) a b`
-abbrev pub Ways : Vocabulary → ℕ → ℕ → ℕ → ℕ → Type 0
-Ways K x y a b = T (isBelow K a b) ⊎ (T (isBelow K a x) × T (isBelow K y b))
+pub closure-refl : (l : List (ℕ × ℕ)) (a : ℕ) → T (closure l a a)
+closure-refl [] a = eqb-refl a
+closure-refl ((x, y) ∷ l) a = or-left (closure l a a) _ (closure-refl l a)
 
-pub ways : (K : Vocabulary) (x y a b : ℕ) → T (isBelow (below x y ∷ K) a b) → Ways K x y a b
-ways K x y a b t = go (T-or (isBelow K a b) (isBelow K a x && isBelow K y b) t)
+-- the two ways from a to b, where x is below y
+abbrev Ways : List (ℕ × ℕ) → ℕ → ℕ → ℕ → ℕ → Type 0
+Ways l x y a b = T (closure l a b) ⊎ (T (closure l a x) × T (closure l y b))
+
+ways : (l : List (ℕ × ℕ)) (x y a b : ℕ) → T (closure ((x, y) ∷ l) a b) → Ways l x y a b
+ways l x y a b t = go (T-or (closure l a b) (closure l a x && closure l y b) t)
   where
-    go : T (isBelow K a b) ⊎ T (isBelow K a x && isBelow K y b) → Ways K x y a b
+    go : T (closure l a b) ⊎ T (closure l a x && closure l y b) → Ways l x y a b
     go (inl h) = inl h
-    go (inr h) = inr (T-and (isBelow K a x) (isBelow K y b) h)
+    go (inr h) = inr (T-and (closure l a x) (closure l y b) h)
 
-joined : (K : Vocabulary) (x y a b : ℕ) → Ways K x y a b → T (isBelow (below x y ∷ K) a b)
-joined K x y a b (inl h) = or-left (isBelow K a b) _ h
-joined K x y a b (inr h) = or-right (isBelow K a b) _ (and-T (isBelow K a x) (isBelow K y b) (h .0) (h .1))
+joined : (l : List (ℕ × ℕ)) (x y a b : ℕ) → Ways l x y a b → T (closure ((x, y) ∷ l) a b)
+joined l x y a b (inl h) = or-left (closure l a b) _ h
+joined l x y a b (inr h) = or-right (closure l a b) _ (and-T (closure l a x) (closure l y b) (h .0) (h .1))
 
-compose : (K : Vocabulary) (x y a b c : ℕ) → ((a b c : ℕ) → T (isBelow K a b) → T (isBelow K b c) → T (isBelow K a c)) → Ways K x y a b → Ways K x y b c → Ways K x y a c
-compose K x y a b c tr (inl p) (inl q) = inl (tr a b c p q)
-compose K x y a b c tr (inl p) (inr q) = inr (tr a b x p (q .0), q .1)
-compose K x y a b c tr (inr p) (inl q) = inr (p .0, tr y b c (p .1) q)
-compose K x y a b c tr (inr p) (inr q) = inr (p .0, q .1)
+compose : (l : List (ℕ × ℕ)) (x y a b c : ℕ) → ((a b c : ℕ) → T (closure l a b) → T (closure l b c) → T (closure l a c)) →
+    Ways l x y a b → Ways l x y b c → Ways l x y a c
+compose l x y a b c tr (inl p) (inl q) = inl (tr a b c p q)
+compose l x y a b c tr (inl p) (inr q) = inr (tr a b x p (q .0), q .1)
+compose l x y a b c tr (inr p) (inl q) = inr (p .0, tr y b c (p .1) q)
+compose l x y a b c tr (inr p) (inr q) = inr (p .0, q .1)
 
-pub below-trans : (K : Vocabulary) (a b c : ℕ) → T (isBelow K a b) → T (isBelow K b c) → T (isBelow K a c)
-below-trans [] a b c s t = eqb-of a c (subst (λ (k : ℕ). a ≡ k) (eqb→eq b c t) (eqb→eq a b s))
-below-trans (below x y ∷ K) a b c s t = joined K x y a c (compose K x y a b c (λ d e f. below-trans K d e f) (ways K x y a b s) (ways K x y b c t))
-below-trans (disjoint x y ∷ K) a b c s t = below-trans K a b c s t
-below-trans (functionalRole r ∷ K) a b c s t = below-trans K a b c s t
-below-trans (functionalFeature f ∷ K) a b c s t = below-trans K a b c s t
-below-trans (range r d ∷ K) a b c s t = below-trans K a b c s t
+pub closure-trans : (l : List (ℕ × ℕ)) (a b c : ℕ) → T (closure l a b) → T (closure l b c) → T (closure l a c)
+closure-trans [] a b c s t = eqb-of a c (subst (λ (k : ℕ). a ≡ k) (eqb→eq b c t) (eqb→eq a b s))
+closure-trans ((x, y) ∷ l) a b c s t = joined l x y a c (compose l x y a b c (λ d e f. closure-trans l d e f) (ways l x y a b s) (ways l x y b c t))
 
--- an axiom more keeps what was reached
-pub below-more : (x : Axiom) (K : Vocabulary) (a b : ℕ) → T (isBelow K a b) → T (isBelow (x ∷ K) a b)
-below-more (below x y) K a b t = or-left (isBelow K a b) _ t
-below-more (disjoint x y) K a b t = t
-below-more (functionalRole r) K a b t = t
-below-more (functionalFeature f) K a b t = t
-below-more (range r c) K a b t = t
+pub closure-pair : {l : List (ℕ × ℕ)} {a b : ℕ} → (a, b) ∈ l → T (closure l a b)
+closure-pair {a = a} {b = b} (here {l = l} e) =
+    subst (λ (p : ℕ × ℕ). T (closure (p ∷ l) a b)) e (or-right (closure l a b) _ (and-T (closure l a a) (closure l b b) (closure-refl l a) (closure-refl l b)))
+closure-pair {a = a} {b = b} (there {x = p} {l = l} m) = or-left (closure l a b) _ (closure-pair m)
 
-pub below-axiom : {K : Vocabulary} {a b : ℕ} → below a b ∈ K → T (isBelow K a b)
-below-axiom {a = a} {b = b} (here {l = K} e) =
-    subst (λ x. T (isBelow (x ∷ K) a b)) e (or-right (isBelow K a b) _ (and-T (isBelow K a a) (isBelow K b b) (below-refl K a) (below-refl K b)))
-below-axiom {a = a} {b = b} (there {x = x} {l = K} m) = below-more x K a b (below-axiom m)
+-- along the pairs of a list, from a on
+pub data Steps (l : List (ℕ × ℕ)) (a : ℕ) : ℕ → Type 0 where
+  start : {b : ℕ} → a ≡ b → Steps l a b
+  then : {b c : ℕ} → Steps l a b → (b, c) ∈ l → Steps l a c
 
-pub below-sound : (I : Interpretation) (K : Vocabulary) → Satisfies I K → (a b i : ℕ) → T (isBelow K a b) → I .inClass a i → I .inClass b i
-below-sound I [] s a b i t h = subst (λ (k : ℕ). I .inClass k i) (eqb→eq a b t) h
-below-sound I (below x y ∷ K) s a b i t h = go (λ c d. below-sound I K (tail s) c d i) (ways K x y a b t)
-  where
-    go : ((c d : ℕ) → T (isBelow K c d) → I .inClass c i → I .inClass d i) → Ways K x y a b → I .inClass b i
-    go f (inl p) = f a b p h
-    go f (inr p) = f y b (p .1) (head s i (f a x (p .0) h))
-below-sound I (disjoint x y ∷ K) s a b i t h = below-sound I K (tail s) a b i t h
-below-sound I (functionalRole r ∷ K) s a b i t h = below-sound I K (tail s) a b i t h
-below-sound I (functionalFeature f ∷ K) s a b i t h = below-sound I K (tail s) a b i t h
-below-sound I (range r d ∷ K) s a b i t h = below-sound I K (tail s) a b i t h
-
--- along records of kind 1, from a on
-pub data Steps (K : Vocabulary) (a : ℕ) : ℕ → Type 0 where
-  start : {b : ℕ} → a ≡ b → Steps K a b
-  then : {b c : ℕ} → Steps K a b → below b c ∈ K → Steps K a c
-
-more : {x : Axiom} {K : Vocabulary} {a b : ℕ} → Steps K a b → Steps (x ∷ K) a b
+more : {p : ℕ × ℕ} {l : List (ℕ × ℕ)} {a b : ℕ} → Steps l a b → Steps (p ∷ l) a b
 more (start e) = start e
 more (then s m) = then (more s) (there m)
 
-followed : {K : Vocabulary} {a b c : ℕ} → Steps K a b → Steps K b c → Steps K a c
-followed {K} {a} s (start e) = subst (λ (z : ℕ). Steps K a z) e s
+followed : {l : List (ℕ × ℕ)} {a b c : ℕ} → Steps l a b → Steps l b c → Steps l a c
+followed {l} {a} s (start e) = subst (λ (z : ℕ). Steps l a z) e s
 followed s (then t m) = then (followed s t) m
 
-steps : (K : Vocabulary) (a b : ℕ) → T (isBelow K a b) → Steps K a b
+steps : (l : List (ℕ × ℕ)) (a b : ℕ) → T (closure l a b) → Steps l a b
 steps [] a b t = start (eqb→eq a b t)
-steps (below x y ∷ K) a b t = go (λ c d. steps K c d) (ways K x y a b t)
+steps ((x, y) ∷ l) a b t = go (λ c d. steps l c d) (ways l x y a b t)
   where
-    go : ((c d : ℕ) → T (isBelow K c d) → Steps K c d) → Ways K x y a b → Steps (below x y ∷ K) a b
+    go : ((c d : ℕ) → T (closure l c d) → Steps l c d) → Ways l x y a b → Steps ((x, y) ∷ l) a b
     go f (inl p) = more (f a b p)
     go f (inr p) = followed (then (more (f a x (p .0))) (here refl)) (more (f y b (p .1)))
-steps (disjoint x y ∷ K) a b t = more (steps K a b t)
-steps (functionalRole r ∷ K) a b t = more (steps K a b t)
-steps (functionalFeature f ∷ K) a b t = more (steps K a b t)
-steps (range r c ∷ K) a b t = more (steps K a b t)
 
-reached : (K : Vocabulary) (a b : ℕ) → Steps K a b → T (isBelow K a b)
-reached K a b (start e) = subst (λ (z : ℕ). T (isBelow K a z)) e (below-refl K a)
-reached K a b (then {b = c} s m) = below-trans K a c b (reached K a c s) (below-axiom m)
+reached : (l : List (ℕ × ℕ)) (a b : ℕ) → Steps l a b → T (closure l a b)
+reached l a b (start e) = subst (λ (z : ℕ). T (closure l a z)) e (closure-refl l a)
+reached l a b (then {b = c} s m) = closure-trans l a c b (reached l a c s) (closure-pair m)
 
-pub below-iff : (K : Vocabulary) (a b : ℕ) → T (isBelow K a b) ↔ Steps K a b
-below-iff K a b = (steps K a b, reached K a b)
+-- ---- of a vocabulary
 
--- what lies above a class of 1 to N is one too
-pub below-bounded : {N : ℕ} {K : Vocabulary} → Bounded N K → (a b : ℕ) → Name N a → T (isBelow K a b) → Name N b
-below-bounded {N} {K} w a b h t = go (steps K a b t)
+module _ (K : Vocabulary) where
+  pub below-refl : (a : ℕ) → T (isBelow K a a)
+  unfolding isBelow
+  below-refl a = closure-refl (subclasses K) a
+
+  pub below-trans : (a b c : ℕ) → T (isBelow K a b) → T (isBelow K b c) → T (isBelow K a c)
+  unfolding isBelow
+  below-trans a b c s t = closure-trans (subclasses K) a b c s t
+
+  pub below-subclass : (a b : ℕ) → (a, b) ∈ subclasses K → T (isBelow K a b)
+  unfolding isBelow
+  below-subclass a b m = closure-pair m
+
+  pub below-iff : (a b : ℕ) → T (isBelow K a b) ↔ Steps (subclasses K) a b
+  unfolding isBelow
+  below-iff a b = (steps (subclasses K) a b, reached (subclasses K) a b)
+
+pub below-sound : (I : Interpretation) (K : Vocabulary) → Satisfies I K → (a b i : ℕ) → T (isBelow K a b) → I .inClass a i → I .inClass b i
+below-sound I K s a b i t h = go (below-iff K a b .0 t)
   where
-    go : {c : ℕ} → Steps K a c → Name N c
-    go (start e) = subst (λ (z : ℕ). Name N z) e h
+    go : {c : ℕ} → Steps (subclasses K) a c → I .inClass c i
+    go (start e) = subst (λ (z : ℕ). I .inClass z i) e h
+    go (then {b = c} {c = d} p m) = all-stated K (s .stated) .subclass c d m i (go p)
+
+-- what lies above a class that the vocabulary counts is one too
+pub below-bounded : (K : Vocabulary) → Bounded K → (a b : ℕ) → Name (K .classes) a → T (isBelow K a b) → Name (K .classes) b
+below-bounded K w a b h t = go (below-iff K a b .0 t)
+  where
+    go : {c : ℕ} → Steps (subclasses K) a c → Name (K .classes) c
+    go (start e) = subst (λ (z : ℕ). Name (K .classes) z) e h
     go (then {b = c} {c = d} s m) = w .above c d m

@@ -8,21 +8,25 @@ use lib.Dec.{T, T-not}
 use native.Mathlib.Omega.{arith}
 use Rattle.meaning.proofs.Canonical.{formed, model-proper, satisfied}
 use Rattle.meaning.proofs.First.{Searched, first, never, searched}
-use Rattle.meaning.proofs.Links.{Name, split}
-use Rattle.meaning.proofs.Neat.{BoundedChain, normal-neat}
-use Rattle.meaning.proofs.Picks.{PickedForm, Ready, combinations-picked, ready-picked}
+use Rattle.meaning.proofs.Forms.{HoldsForm}
+use Rattle.meaning.proofs.Links.{split}
+use Rattle.meaning.proofs.Normal.{BoundedChain, normalForm-normal}
+use Rattle.meaning.proofs.Picks.{PickedForm, Ready, clean-nonEmpty-form, combinations-picked, ready-picked}
 use Rattle.meaning.proofs.Pieces.{combinations-held}
 use Rattle.meaning.proofs.Rewriting.{holds-possible, normal-in, normal-out}
 use Rattle.meaning.proofs.Rules.{T-and, all-any, all-at, all-of, any-at, any-in, any-mono, any-out, at-any, isTrue, notTrue}
-use Rattle.meaning.proofs.Stated.{Bounded}
 use Rattle.meaning.proofs.Subsumption.{subsumed-complete, subsumed-sound}
-use Rattle.meaning.specs.Containment.{Contained, ContainedFinite, Decision, Refutes, contained, decide, decideFrom, escapes, firstFailure, orEscape, passes}
-use Rattle.meaning.specs.Countermodel.{canonicalModel, individuals, stands}
+use Rattle.meaning.specs.Containment.{Contained, ContainedFinite, Decision, Refutes, contained, decide, decideFrom, escapes}
+use Rattle.meaning.specs.Containment.{firstFailure, orEscape, passes}
+use Rattle.meaning.specs.Countermodel.{canonicalModel, individuals}
 use Rattle.meaning.specs.Interpretation.{Holds, In, Interpretation, Proper, Satisfies}
 use Rattle.meaning.specs.Lists.{All, Found, _∈_, cons, firstFailing, found, nil, nowhere}
-use Rattle.meaning.specs.NormalForm.{Form, HoldsForm, blocked, cleanNode, normalForm, possible}
+use Rattle.meaning.specs.Model.{stands}
+use Rattle.meaning.specs.Normal.{Bounded}
+use Rattle.meaning.specs.NormalForm.{Form, cleanNode, hasBottom, normalForm, possible}
 use Rattle.meaning.specs.Policy.{Chain, Policy}
 use Rattle.meaning.specs.Promises.{Complies, First, FirstFailure}
+use Rattle.meaning.specs.Records.{Name}
 use Rattle.meaning.specs.Splitting.{combinations}
 use Rattle.meaning.specs.Subsumption.{subsumed}
 use Rattle.meaning.specs.Vocabulary.{Vocabulary}
@@ -38,52 +42,52 @@ sound K P Q c I proper s d i h =
     let u = all-any (a .1 (holds-possible I K s (a .0) d (a .2))) (combinations-held I Q d (normalForm K (a .0)) (normal-in I K s (a .0) d (a .2))) in
     passes-sound I K s Q (u .0) d (u .1) (u .2)
 
-module _ (N : ℕ) (K : Vocabulary) (w : Bounded N K) where
-  normal-ready : (p : Chain) → BoundedChain N p → T (possible K p) → Ready N K (normalForm K p)
+module _ (K : Vocabulary) (w : Bounded K) where
+  normal-ready : (p : Chain) → BoundedChain (K .classes) p → T (possible K p) → Ready K (normalForm K p)
   unfolding possible
   normal-ready p f t =
-      let a = T-and (not (blocked p)) _ t in
+      let a = T-and (not (hasBottom p)) _ t in
       let b = T-and (cleanNode K (normalForm K p .node)) _ (a .1) in
-      record { neat = normal-neat (Name N) K (w .ranged) p f; clean = b .0; clean-successors = b .1 }
+      record { normal = normalForm-normal (Name (K .classes)) K (w .ranged) p f; clean = b .0; clean-successors = b .1 }
 
   -- Lemma 1 for a combination of a possible term
   pub record Witness (Q : Policy) (p : Chain) (u : Form) : Type 0 where
-    pub ready : Ready N K u
+    pub ready : Ready K u
     pub picked : PickedForm Q (normalForm K p) u
-    pub proper : Proper (stands (individuals u) (canonicalModel N K u))
-    pub satisfies : Satisfies (stands (individuals u) (canonicalModel N K u)) K
-    pub holds : Holds (stands (individuals u) (canonicalModel N K u)) p 1
+    pub proper : Proper (stands (individuals u) (canonicalModel K u))
+    pub satisfies : Satisfies (stands (individuals u) (canonicalModel K u)) K
+    pub holds : Holds (stands (individuals u) (canonicalModel K u)) p 1
 
-  pub witness : (Q : Policy) (p : Chain) → BoundedChain N p → T (possible K p) → (u : Form) → u ∈ combinations Q (normalForm K p) → Witness Q p u
+  pub witness : (Q : Policy) (p : Chain) → BoundedChain (K .classes) p → T (possible K p) → (u : Form) → u ∈ combinations Q (normalForm K p) → Witness Q p u
   witness Q p f t u m =
       let r = normal-ready p f t in
-      let k = all-at (combinations-picked K Q (normalForm K p) (r .clean) (r .clean-successors)) m in
-      let v = ready-picked N K (normalForm K p) u k r in
+      let k = all-at (combinations-picked Q (normalForm K p) (clean-nonEmpty-form K (normalForm K p) (r .clean) (r .clean-successors))) m in
+      let v = ready-picked K (normalForm K p) u k r in
       record {
         ready = v;
         picked = k;
-        proper = model-proper N K u;
-        satisfies = satisfied N K w u v;
-        holds = normal-out (stands (individuals u) (canonicalModel N K u)) K p 1 t (formed N K w u v (normalForm K p) k);
+        proper = model-proper K u;
+        satisfies = satisfied K w u v;
+        holds = normal-out (stands (individuals u) (canonicalModel K u)) K p 1 t (formed K w u v (normalForm K p) k);
       }
 
   -- a combination passes where its canonical model has individual 1 in the second policy
-  model-passes : (Q : Policy) (p : Chain) (u : Form) → Witness Q p u → In (stands (individuals u) (canonicalModel N K u)) Q 1 → T (passes K Q u)
+  model-passes : (Q : Policy) (p : Chain) (u : Form) → Witness Q p u → In (stands (individuals u) (canonicalModel K u)) Q 1 → T (passes K Q u)
   unfolding passes
   model-passes Q p u v h =
       let a = any-at h in
-      any-in (λ q. subsumed K q (u .node) (u .successors)) (at-any (a .1) (subsumed-complete N K Q (normalForm K p) u (v .ready) (v .picked) (a .0) (a .1) (a .2)))
+      any-in (λ q. subsumed K q (u .node) (u .successors)) (at-any (a .1) (subsumed-complete K Q (normalForm K p) u (v .ready) (v .picked) (a .0) (a .1) (a .2)))
 
   -- containment in the finite interpretations is enough
-  pub complete : (P Q : Policy) → All (BoundedChain N) P → ContainedFinite K P Q → All (Complies K Q) P
+  pub complete : (P Q : Policy) → All (BoundedChain (K .classes)) P → ContainedFinite K P Q → All (Complies K Q) P
   complete P Q f c =
       all-of P (λ p m t. all-of (combinations Q (normalForm K p)) (λ u k.
       let v = witness Q p (all-at f m) t u k in
-      model-passes Q p u v (c (individuals u) (canonicalModel N K u) (v .proper) (v .satisfies) 1 (omega arith, omega arith) (at-any m (v .holds)))))
+      model-passes Q p u v (c (individuals u) (canonicalModel K u) (v .proper) (v .satisfies) 1 (omega arith, omega arith) (at-any m (v .holds)))))
 
   -- a combination that fails refutes the containment
-  pub refuted : (P Q : Policy) → All (BoundedChain N) P → (p : Chain) → p ∈ P → T (possible K p) → (u : Form) → u ∈ combinations Q (normalForm K p) →
-      T (not (passes K Q u)) → Refutes K P Q (individuals u) (canonicalModel N K u)
+  pub refuted : (P Q : Policy) → All (BoundedChain (K .classes)) P → (p : Chain) → p ∈ P → T (possible K p) → (u : Form) → u ∈ combinations Q (normalForm K p) →
+      T (not (passes K Q u)) → Refutes K P Q (individuals u) (canonicalModel K u)
   refuted P Q f p m t u k b =
       let v = witness Q p (all-at f m) t u k in
       record {

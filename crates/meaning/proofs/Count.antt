@@ -9,11 +9,12 @@ use native.Mathlib.Nat.{mul-assoc, mul-pos, one-mul, suc-mul, zero-mul}
 use native.Mathlib.Omega.{arith}
 use Rattle.meaning.proofs.Points.{lo-point}
 use Rattle.meaning.proofs.Rules.{any-none}
-use Rattle.meaning.specs.Counting.{wide, wideNeighbours}
+use Rattle.meaning.specs.Intervals.{Constraint}
 use Rattle.meaning.specs.Lists.{_∈_, flatMap}
-use Rattle.meaning.specs.NormalForm.{Form, Interval, Node, Successors, none, successor}
+use Rattle.meaning.specs.NormalForm.{Form, Node, Successors, none, successor}
 use Rattle.meaning.specs.Policy.{Policy}
-use Rattle.meaning.specs.Splitting.{choices, combinationCount, combinations, constraints, intervalsOf, pieces, piecesAt, piecesFrom, points, product, splitNode, splitSuccessors}
+use Rattle.meaning.specs.Splitting.{choices, combinationCount, combinations, constraintsBelow, constraintsOf, pieces}
+use Rattle.meaning.specs.Splitting.{piecesAt, piecesFrom, points, product, splitNode, splitSuccessors, wide, wideNeighbours}
 
 -- "Their count is the size of X plus the neighbours that differ by 2 or more."
 count-from : (f x : ℕ) (l : List ℕ) → length (piecesFrom f x l) ≡ suc (length l) + wide x l
@@ -25,7 +26,7 @@ count-from f x (y ∷ l) = go (ltb (suc x) y) (count-from f y l)
     go true h = omega arith
     go false h = omega arith
 
-pub count-pieces : (Q : Policy) (s : Interval) → length (pieces Q s) ≡ length (points Q s) + wideNeighbours (points Q s)
+pub count-pieces : (Q : Policy) (s : Constraint) → length (pieces Q s) ≡ length (points Q s) + wideNeighbours (points Q s)
 count-pieces Q s = go (points Q s)
   where
     go : (X : List ℕ) → length (piecesAt (s .feature) X) ≡ length X + wideNeighbours X
@@ -42,18 +43,18 @@ pub length-each : {A B C : Type 0} (f : A → B → C) (l : List A) (m : List B)
 length-each f l m = length-flatMap (λ x. map (f x) m) (length m) (λ x. length-map m (f x)) l
 
 module _ (Q : Policy) where
-  pub product-append : (l m : List Interval) → product Q (l ++ m) ≡ product Q l * product Q m
+  pub product-append : (l m : List Constraint) → product Q (l ++ m) ≡ product Q l * product Q m
   product-append [] m = sym (one-mul _)
   product-append (s ∷ l) m = rw (product-append l m) (sym (mul-assoc _ _ _))
 
-  pub count-choices : (l : List Interval) → length (choices Q l) ≡ product Q l
+  pub count-choices : (l : List Constraint) → length (choices Q l) ≡ product Q l
   count-choices [] = refl
   count-choices (s ∷ l) = length-each _∷_ (pieces Q s) (choices Q l) ∙ rw (count-choices l)
 
-  pub count-node : (n : Node) → length (splitNode Q n) ≡ product Q (n .intervals)
-  count-node n = length-map (choices Q (n .intervals)) _ ∙ count-choices (n .intervals)
+  pub count-node : (n : Node) → length (splitNode Q n) ≡ product Q (n .constraints)
+  count-node n = length-map (choices Q (n .constraints)) _ ∙ count-choices (n .constraints)
 
-  pub count-successors : (under : Successors) → length (splitSuccessors Q under) ≡ product Q (intervalsOf under)
+  pub count-successors : (under : Successors) → length (splitSuccessors Q under) ≡ product Q (constraintsBelow under)
   count-successors none = refl
   count-successors (successor r n under next) =
       length-flatMap _ _ (λ m. length-each (successor r m) (splitSuccessors Q under) (splitSuccessors Q next)) (splitNode Q n)
@@ -66,17 +67,17 @@ module _ (Q : Policy) where
       ∙ rw (count-node (t .node), count-successors (t .successors), product-append)
 
   -- there is a first combination
-  pub pieces-some : (s : Interval) → 1 ≤ length (pieces Q s)
+  pub pieces-some : (s : Constraint) → 1 ≤ length (pieces Q s)
   pieces-some s = rw count-pieces (go (points Q s) (lo-point Q s))
     where
       go : (X : List ℕ) → s .lo ∈ X → 1 ≤ length X + wideNeighbours X
       go [] m = absurd (any-none m)
       go (x ∷ l) m = omega arith
 
-  pub product-some : (l : List Interval) → 1 ≤ product Q l
+  pub product-some : (l : List Constraint) → 1 ≤ product Q l
   product-some [] = omega arith
   product-some (s ∷ l) = mul-pos (pieces-some s) (product-some l)
 
   pub combinations-some : (t : Form) → 1 ≤ length (combinations Q t)
   unfolding combinationCount
-  combinations-some t = rw count-combinations (product-some (constraints t))
+  combinations-some t = rw count-combinations (product-some (constraintsOf t))

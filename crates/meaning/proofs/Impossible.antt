@@ -9,15 +9,15 @@ use lib.ListN.{length}
 use native.Mathlib.Omega.{arith}
 use Rattle.meaning.proofs.Containment.{witness}
 use Rattle.meaning.proofs.Count.{combinations-some}
-use Rattle.meaning.proofs.Neat.{BoundedChain}
+use Rattle.meaning.proofs.Filling.{number}
+use Rattle.meaning.proofs.Normal.{BoundedChain}
 use Rattle.meaning.proofs.Rewriting.{holds-possible}
 use Rattle.meaning.proofs.Rules.{isFalse, notTrue}
-use Rattle.meaning.proofs.Stated.{Bounded}
-use Rattle.meaning.specs.Countermodel.{stands}
-use Rattle.meaning.specs.Counting.{number}
 use Rattle.meaning.specs.Interpretation.{Holds, Interpretation, Proper, Satisfies}
 use Rattle.meaning.specs.Lists.{_∈_, here}
+use Rattle.meaning.specs.Model.{stands}
 use Rattle.meaning.specs.ModelCheck.{holds}
+use Rattle.meaning.specs.Normal.{Bounded}
 use Rattle.meaning.specs.NormalForm.{normalForm, possible}
 use Rattle.meaning.specs.Policy.{Chain}
 use Rattle.meaning.specs.Promises.{Satisfiable}
@@ -29,13 +29,13 @@ first-of : {A : Type 0} (l : List A) → 1 ≤ length l → (x : A) × (x ∈ l)
 first-of [] b = absurd (omega arith)
 first-of (x ∷ l) b = (x, here refl)
 
-module _ (N : ℕ) (K : Vocabulary) (w : Bounded N K) (p : Chain) (b : BoundedChain N p) where
+module _ (K : Vocabulary) (w : Bounded K) (p : Chain) (b : BoundedChain (K .classes) p) where
   -- the canonical model of the first combination against no policy
   pub possible-iff : T (possible K p) ↔ Satisfiable K p
   possible-iff = (
     λ t.
         let u = first-of (combinations [] (normalForm K p)) (combinations-some [] (normalForm K p)) in
-        let v = witness N K w [] p b t (u .0) (u .1) in
+        let v = witness K w [] p b t (u .0) (u .1) in
         record { number = _; facts = _; proper = v .proper; satisfies = v .satisfies; holds = v .holds },
     λ m. holds-possible (stands (m .number) (m .facts)) K (m .satisfies) p 1 (m .holds),
   )

@@ -8,17 +8,19 @@ use lib.Dec.{eqb, eqb-refl, eqb→eq, leb, leb→le, le→leb}
 use native.Mathlib.Omega.{arith}
 use Rattle.meaning.proofs.Containment.{complete, sound}
 use Rattle.meaning.proofs.ModelCheck.{edge-is, is-edge, is-member, is-value, member-is, value-is}
-use Rattle.meaning.proofs.Neat.{BoundedChain}
-use Rattle.meaning.proofs.Rules.{T-and, all-mono, and-T, any-in, any-mono, any-out}
-use Rattle.meaning.proofs.Stated.{Bounded}
+use Rattle.meaning.proofs.Normal.{BoundedChain}
+use Rattle.meaning.proofs.Rules.{T-and, and-T, any-in, any-mono, any-out}
+use Rattle.meaning.proofs.Stated.{all-stated, stated-all}
 use Rattle.meaning.specs.Containment.{Contained, ContainedFinite, ContainedTested}
-use Rattle.meaning.specs.Countermodel.{Fact, edge, stands, value}
-use Rattle.meaning.specs.Interpretation.{Holds, In, Interpretation, Obeys, Proper, Satisfies, Tested, interpreted}
+use Rattle.meaning.specs.Interpretation.{Holds, In, Interpretation, Proper, Satisfies, Tested, interpreted}
 use Rattle.meaning.specs.Lists.{All, any}
+use Rattle.meaning.specs.Model.{Fact, edge, stands, value}
 use Rattle.meaning.specs.ModelCheck.{hasWithin, isMember, reaches}
+use Rattle.meaning.specs.Normal.{Bounded}
 use Rattle.meaning.specs.Policy.{Chain, Policy, class, end, impossible, interval, some}
 use Rattle.meaning.specs.Promises.{Complies, inhabited}
-use Rattle.meaning.specs.Vocabulary.{Axiom, Vocabulary, below, disjoint, functionalFeature, functionalRole, range}
+use Rattle.meaning.specs.Stated.{subclass}
+use Rattle.meaning.specs.Vocabulary.{Vocabulary}
 
 -- one interpretation says what another says
 pub record Agree (I J : Interpretation) : Type 0 where
@@ -46,15 +48,18 @@ module _ (I J : Interpretation) (g : Agree I J) where
   pub agree-in : (P : Policy) (d : ℕ) → In I P d → In J P d
   agree-in P d h = any-mono (λ p k. agree-holds p d k) h
 
-  pub agree-obeys : (x : Axiom) → Obeys I x → Obeys J x
-  agree-obeys (below a b) o = λ i p. g .classes b i .0 (o i (g .classes a i .1 p))
-  agree-obeys (disjoint a b) o = λ i p q. o i (g .classes a i .1 p) (g .classes b i .1 q)
-  agree-obeys (functionalRole r) o = λ i j k p q. o i j k (g .roles r i j .1 p) (g .roles r i k .1 q)
-  agree-obeys (functionalFeature f) o = λ i v w p q. o i v w (g .values f i v .1 p) (g .values f i w .1 q)
-  agree-obeys (range r c) o = λ i j p. g .classes c j .0 (o i j (g .roles r i j .1 p))
-
   pub agree-satisfies : (K : Vocabulary) → Satisfies I K → Satisfies J K
-  agree-satisfies K s = all-mono agree-obeys s
+  agree-satisfies K s =
+      let o = all-stated K (s .stated) in
+      record {
+        stated = stated-all K (record {
+          subclass = λ a b m i p. g .classes b i .0 (o .subclass a b m i (g .classes a i .1 p));
+          apart = λ a b m i p q. o .apart a b m i (g .classes a i .1 p) (g .classes b i .1 q);
+          role = λ r t i j k p q. o .role r t i j k (g .roles r i j .1 p) (g .roles r i k .1 q);
+          feature = λ f t i v w p q. o .feature f t i v w (g .values f i v .1 p) (g .values f i w .1 q);
+          ranged = λ r c m i j p. g .classes c j .0 (o .ranged r c m i j (g .roles r i j .1 p));
+        });
+      }
 
   pub agree-proper : Proper I → Proper J
   agree-proper p = record {
@@ -105,10 +110,10 @@ pub record OneContainment (K : Vocabulary) (P Q : Policy) : Type 1 where
   pub passes : ContainedFinite K P Q → All (Complies K Q) P
   pub contained : All (Complies K Q) P → Contained K P Q
 
-pub one-containment : (N : ℕ) (K : Vocabulary) → Bounded N K → (P Q : Policy) → All (BoundedChain N) P → OneContainment K P Q
-one-containment N K w P Q f = record {
+pub one-containment : (K : Vocabulary) → Bounded K → (P Q : Policy) → All (BoundedChain (K .classes)) P → OneContainment K P Q
+one-containment K w P Q f = record {
   tested = λ c M. c (interpreted M);
   finite = tested-finite K P Q;
-  passes = complete N K w P Q f;
+  passes = complete K w P Q f;
   contained = sound K P Q;
 }

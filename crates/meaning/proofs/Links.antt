@@ -3,14 +3,14 @@
 use Prim.Native.Nat.{_+_, _-_, _<_, _≤_, suc, zero, ℕ}
 use mathlib.Core.Bool.{Bool, _&&_, _||_, and-eq-true-iff, cond, false, or-true, true}
 use mathlib.Core.List.{List, [], _∷_}
-use mathlib.Core.Logic.{_↔_, _⊎_, inl, inr}
+use mathlib.Core.Logic.{_↔_, inl, inr}
 use mathlib.Core.Path.{_∙_, _≡_, ap, refl}
 use lib.Dec.{eqb, leb, ltb}
 use lib.ListN.{length}
 use native.Mathlib.Omega.{arith}
 use borrow.Author.Tests.{eq-eqb, eqb-false, eqb-true, le-leb, leb-true, ne-eqb}
 use Rattle.meaning.specs.Lists.{any}
-use Rattle.meaning.specs.Records.{linked}
+use Rattle.meaning.specs.Records.{Enough, Name, Onward, falling, isOnward}
 
 -- ---- tests
 
@@ -39,35 +39,22 @@ passed n false x = (λ h. absurd (omega arith), λ h. let z : _≡_ {A = ℕ} 0 
 
 -- ---- names and links
 
--- x is a name of a series with so many
-abbrev pub Name : ℕ → ℕ → Type 0
-Name n x = (1 ≤ x) × (x ≤ n)
-
--- a link is 0, or greater than its record's own number and at most the last record
-abbrev pub Onward : ℕ → ℕ → ℕ → Type 0
-Onward last k next = (next ≡ 0) ⊎ ((k < next) × (next ≤ last))
-
-pub linked-iff : (last k next : ℕ) → (linked last k next ≡ true) ↔ Onward last k next
-linked-iff last k next = (go (eqb next 0) refl, back)
+pub isOnward-iff : (last k next : ℕ) → (isOnward last k next ≡ true) ↔ Onward last k next
+isOnward-iff last k next = (go (eqb next 0) refl, back)
   where
     go : (b : Bool) → eqb next 0 ≡ b → b || (ltb k next && leb next last) ≡ true → Onward last k next
     go true e h = inl (simp bounds at e)
     go false e h = inr (simp bounds at h)
 
-    back : Onward last k next → linked last k next ≡ true
+    back : Onward last k next → isOnward last k next ≡ true
     back (inl e) = rw e
     back (inr h) = let f : ltb k next && leb next last ≡ true = simp bounds h in rw f (or-true (eqb next 0))
 
-pub ruleset tests = (bounds, linked-iff)
+pub ruleset tests = (bounds, isOnward-iff)
 
 pub onward-le : (last k next : ℕ) → Onward last k next → next ≤ last
 onward-le last k next (inl e) = omega arith
 onward-le last k next (inr h) = h .1
-
--- how many records a chain from record k on can still have: it falls along links
-abbrev pub falling : ℕ → ℕ → ℕ
-falling last zero = 0
-falling last (suc j) = last - j
 
 pub falling-le : (last k : ℕ) → falling last k ≤ last
 falling-le last zero = omega arith
@@ -78,10 +65,6 @@ falls last zero next n h = absurd (omega arith)
 falls last (suc j) next n (inl e) = rw e (omega arith)
 falls last (suc j) zero n (inr h) = omega arith
 falls last (suc j) (suc i) n (inr h) = omega arith
-
--- fuel f is enough for a chain from record k on
-abbrev pub Enough : ℕ → ℕ → ℕ → Type 0
-Enough last f k = (k ≤ last) × (falling last k ≤ f)
 
 pub enough-end : (last k : ℕ) → Enough last 0 k → k ≡ 0
 enough-end last zero h = refl

@@ -5,11 +5,14 @@ use mathlib.Core.List.{List}
 use mathlib.Core.Logic.{_↔_}
 use mathlib.Core.Path.{_≡_, ap₂, refl, subst, sym}
 use lib.Dec.{T, T-not, eqb, eqb-refl, eqb→eq, leb, leb→le, le→leb, not-T}
-use Rattle.meaning.proofs.Rules.{T-and, all-at, all-in, all-mono, all-of, all-out, and-T, any-at, any-in, any-mono, any-out, eqb-of}
-use Rattle.meaning.specs.Countermodel.{Fact, edge, member, stands, value}
-use Rattle.meaning.specs.Interpretation.{Holds, In, Obeys, Satisfies, Within}
+use Rattle.meaning.proofs.Rules.{T-and, all-at, all-in, all-mono, all-of, all-out, and-T, any-at, any-in, any-mono, any-out}
+use Rattle.meaning.proofs.Rules.{eqb-of}
+use Rattle.meaning.specs.Interpretation.{Holds, In, Obeys, Satisfies}
+use Rattle.meaning.specs.Intervals.{Within}
 use Rattle.meaning.specs.Lists.{_∈_, all, any}
-use Rattle.meaning.specs.ModelCheck.{hasWithin, holds, isIn, isMember, isModel, obeys, onEdge, onMember, onValue, reaches, refutes}
+use Rattle.meaning.specs.Model.{Fact, edge, member, stands, value}
+use Rattle.meaning.specs.ModelCheck.{hasWithin, holds, isIn, isMember, isModel, obeys, onEdge, onMember, onValue, reaches}
+use Rattle.meaning.specs.ModelCheck.{refutes}
 use Rattle.meaning.specs.Policy.{Chain, Policy, class, end, impossible, interval, some}
 use Rattle.meaning.specs.Vocabulary.{Axiom, Vocabulary, below, disjoint, functionalFeature, functionalRole, range}
 
@@ -117,7 +120,7 @@ module _ (F : List Fact) where
   alike : (i j h k : ℕ) → T (not (eqb i h) || eqb j k) ↔ (i ≡ h → j ≡ k)
   alike i j h k = (λ t e. eqb→eq j k (imp-out (eqb i h) (eqb j k) t (eqb-of i h e)), λ f. imp-in (eqb i h) (eqb j k) (λ t. eqb-of j k (f (eqb→eq i h t))))
 
-  obeys-iff : (n : ℕ) (x : Axiom) → T (obeys F x) ↔ Obeys (stands n F) x
+  pub obeys-iff : (n : ℕ) (x : Axiom) → T (obeys F x) ↔ Obeys (stands n F) x
   obeys-iff n (below a b) = (λ t i m. is-in b i .0 (members a _ .0 t i m), λ o. members a _ .1 (λ i m. is-in b i .1 (o i m)))
   obeys-iff n (disjoint a b) =
       (λ t i m k. T-not (any (isMember b i) F) (members a _ .0 t i m) (is-in b i .1 k), λ o. members a _ .1 (λ i m. not-T (any (isMember b i) F) (λ t. o i m (is-in b i .0 t))))
@@ -132,7 +135,10 @@ module _ (F : List Fact) where
   obeys-iff n (range r c) = (λ t i j m. is-in c j .0 (links r _ .0 t i j m), λ o. links r _ .1 (λ i j m. is-in c j .1 (o i j m)))
 
   pub model-iff : (n : ℕ) (K : Vocabulary) → T (isModel F K) ↔ Satisfies (stands n F) K
-  model-iff n K = (λ t. all-mono (λ x u. obeys-iff n x .0 u) (all-out (obeys F) K t), λ s. all-in (obeys F) (all-mono (λ x o. obeys-iff n x .1 o) s))
+  model-iff n K = (
+    λ t. record { stated = all-mono (λ x u. obeys-iff n x .0 u) (all-out (obeys F) (K .axioms) t) },
+    λ s. all-in (obeys F) (all-mono (λ x o. obeys-iff n x .1 o) (s .stated)),
+  )
 
   pub in-iff : (n : ℕ) (P : Policy) (i : ℕ) → T (isIn F P i) ↔ In (stands n F) P i
   in-iff n P i = (λ t. any-mono (λ p u. holds-out n F p i u) (any-out (λ p. holds F p i) P t), λ h. any-in (λ p. holds F p i) (any-mono (λ p u. holds-in n F p i u) h))

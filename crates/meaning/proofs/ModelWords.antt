@@ -9,11 +9,13 @@ use lib.ListN.{drop, getD, length, length-drop}
 use lib.Seq.{drop-drop, getD-drop}
 use native.Mathlib.Nat.{add-zero, mul-suc}
 use native.Mathlib.Omega.{arith}
-use Rattle.meaning.proofs.Links.{Name, Onward, onward-le, tests}
-use Rattle.meaning.specs.Countermodel.{Fact, chainedWords, edge, factWords, linkTo, member, modelSize, modelWords, value}
+use Rattle.meaning.proofs.Links.{onward-le, tests}
+use Rattle.meaning.specs.Limits.{mostFacts, mostIndividuals, mostModelWords}
 use Rattle.meaning.specs.Lists.{All, cons}
-use Rattle.meaning.specs.ModelCheck.{factAt, factFits, factKind, factNext, factsFrom, factsOf, factsRefusal, headedModel, individualCount, modelRefusal}
-use Rattle.meaning.specs.Records.{lastOf, linked, sized}
+use Rattle.meaning.specs.Model.{Fact, chainedWords, edge, factAt, factFits, factKind, factNext, factWords, factsFrom, factsOf}
+use Rattle.meaning.specs.Model.{factsRefusal, headedModel, individualCount, linkTo, member, modelRefusal, modelSize}
+use Rattle.meaning.specs.Model.{modelWords, value}
+use Rattle.meaning.specs.Records.{Name, Onward, isOnward, isSized, lastOf}
 use Rattle.meaning.specs.Vocabulary.{classCount, featureCount, roleCount}
 
 -- ---- lengths
@@ -98,16 +100,16 @@ module _ (v m : List ℕ) where
   facts-sound (suc f) k (x ∷ F) e (cons h t) =
       let s = stated m (suc k) x (linkTo (suc (suc k)) F) (chainedWords (suc (suc k)) F) e in
       let room : suc k + length F ≤ lastOf 5 m = omega (arith, ap length e, length-drop (5 * suc k) m, chained-length (suc k) (x ∷ F)) in
-      let on : linked (lastOf 5 m) (suc k) (linkTo (suc (suc k)) F) ≡ true = simp tests (link-onward (lastOf 5 m) (suc k) F room) in
+      let on : isOnward (lastOf 5 m) (suc k) (linkTo (suc (suc k)) F) ≡ true = simp tests (link-onward (lastOf 5 m) (suc k) F room) in
       rw (eqb·suc-zero k, s .fits v h, s .link, on, facts-sound f (suc k) F (s .rest) t)
 
-pub model-accepted : (v : List ℕ) (n : ℕ) (F : List Fact) → 1 ≤ n → n ≤ 512 → length F ≤ 140000 →
+pub model-accepted : (v : List ℕ) (n : ℕ) (F : List Fact) → 1 ≤ n → n ≤ mostIndividuals → length F ≤ mostFacts →
     All (NamedFact (classCount v) (roleCount v) (featureCount v) n) F → modelRefusal v (modelWords n F) ≡ 0
 unfolding modelRefusal modelWords
 model-accepted v n F h₁ h₂ few h =
     let m = modelWords n F in
     let long = model-length n F in
-    let fits : sized 5 700005 (length m) ≡ true = simp tests (omega arith) in
+    let fits : isSized 5 mostModelWords (length m) ≡ true = simp tests (omega arith) in
     let first = onward-le (length F) 0 (linkTo 1 F) (link-onward (length F) 0 F (omega arith)) in
     let header : headedModel m ≡ true = simp tests (omega arith) in
     rw (fits, header, facts-sound v m (length m) 0 F refl h)

@@ -6,11 +6,13 @@ use lib.ListN.{getD, length, length-map}
 use native.Mathlib.Nat.{add-mul, mul-assoc, suc-mul, zero-add, zero-mul}
 use native.Mathlib.Omega.{arith}
 use Rattle.meaning.proofs.Count.{count-choices, count-successors, length-each, product-append}
-use Rattle.meaning.specs.Counting.{At, Takes, atHere, atThere, fill, fillIntervals, fillNode, fillSuccessors, number}
-use Rattle.meaning.specs.Lists.{flatMap}
-use Rattle.meaning.specs.NormalForm.{Form, Interval, Node, Successors, none, successor}
+use Rattle.meaning.proofs.Filling.{Takes, fill, fillConstraints, fillNode, fillSuccessors, number}
+use Rattle.meaning.specs.Intervals.{Constraint}
+use Rattle.meaning.specs.Lists.{At, atHere, atThere, flatMap}
+use Rattle.meaning.specs.NormalForm.{Form, Node, Successors, none, successor}
 use Rattle.meaning.specs.Policy.{Policy}
-use Rattle.meaning.specs.Splitting.{choices, combinations, constraints, intervalsOf, product, splitNode, splitSuccessors}
+use Rattle.meaning.specs.Splitting.{choices, combinations, constraintsBelow, constraintsOf, product, splitNode}
+use Rattle.meaning.specs.Splitting.{splitSuccessors}
 
 module _ {A : Type 0} {x : A} where
   pub at-lt : {l : List A} {i : ℕ} → At x l i → i < length l
@@ -50,7 +52,7 @@ pub at-each : {A B C : Type 0} (f : A → B → C) {x : A} {y : B} {l : List A} 
 at-each f {x} {m = m} n e a b = at-flatMap (λ z. map (f z) m) n (λ z. length-map m (f z) ∙ e) (at-map (f x) b) a
 
 module _ (Q : Policy) (d : ℕ → ℕ) where
-  pub number-append : (o : ℕ) (l m : List Interval) → number Q d o (l ++ m) ≡ number Q d o l * product Q m + number Q d (o + length l) m
+  pub number-append : (o : ℕ) (l m : List Constraint) → number Q d o (l ++ m) ≡ number Q d o l * product Q m + number Q d (o + length l) m
   number-append o [] m = rw (zero-mul, zero-add) (ap (λ k. number Q d k m) (omega arith))
   number-append o (s ∷ l) m =
       rw (product-append Q l m, number-append (suc o) l m)
@@ -59,38 +61,38 @@ module _ (Q : Policy) (d : ℕ → ℕ) where
       same : number Q d (suc o + length l) m ≡ number Q d (o + suc (length l)) m
       same = ap (λ k. number Q d k m) (omega arith)
 
-  module _ (v : ℕ → Interval) where
-    pub takes-append : (o : ℕ) (l m : List Interval) → Takes Q d v o (l ++ m) → Takes Q d v o l × Takes Q d v (o + length l) m
+  module _ (v : ℕ → Constraint) where
+    pub takes-append : (o : ℕ) (l m : List Constraint) → Takes Q d v o (l ++ m) → Takes Q d v o l × Takes Q d v (o + length l) m
     takes-append o [] m t = (tt, subst (λ (k : ℕ). Takes Q d v k m) (omega arith) t)
     takes-append o (s ∷ l) m t =
         let r = takes-append (suc o) l m (t .1) in
         ((t .0, r .0), subst (λ (k : ℕ). Takes Q d v k m) (omega arith) (r .1))
 
-    pub choices-at : (o : ℕ) (l : List Interval) → Takes Q d v o l → At (fillIntervals v o l) (choices Q l) (number Q d o l)
+    pub choices-at : (o : ℕ) (l : List Constraint) → Takes Q d v o l → At (fillConstraints v o l) (choices Q l) (number Q d o l)
     choices-at o [] t = atHere refl
     choices-at o (s ∷ l) t = at-each _∷_ (product Q l) (count-choices Q l) (t .0) (choices-at (suc o) l (t .1))
 
-    pub number-lt : (o : ℕ) (l : List Interval) → Takes Q d v o l → number Q d o l < product Q l
+    pub number-lt : (o : ℕ) (l : List Constraint) → Takes Q d v o l → number Q d o l < product Q l
     number-lt o l t = rw (← count-choices Q l) (at-lt (choices-at o l t))
 
-    node-at : (o : ℕ) (n : Node) → Takes Q d v o (n .intervals) → At (fillNode v o n) (splitNode Q n) (number Q d o (n .intervals))
-    node-at o n t = at-map (λ l. record { classes = n .classes; intervals = l }) (choices-at o (n .intervals) t)
+    node-at : (o : ℕ) (n : Node) → Takes Q d v o (n .constraints) → At (fillNode v o n) (splitNode Q n) (number Q d o (n .constraints))
+    node-at o n t = at-map (λ l. record { classes = n .classes; constraints = l }) (choices-at o (n .constraints) t)
 
-    successors-at : (o : ℕ) (under : Successors) → Takes Q d v o (intervalsOf under) → At (fillSuccessors v o under) (splitSuccessors Q under) (number Q d o (intervalsOf under))
+    successors-at : (o : ℕ) (under : Successors) → Takes Q d v o (constraintsBelow under) → At (fillSuccessors v o under) (splitSuccessors Q under) (number Q d o (constraintsBelow under))
     successors-at o none t = atHere refl
     successors-at o (successor r n under next) t =
-        let a = takes-append o (n .intervals) (intervalsOf under ++ intervalsOf next) t in
-        let b = takes-append (o + length (n .intervals)) (intervalsOf under) (intervalsOf next) (a .1) in
+        let a = takes-append o (n .constraints) (constraintsBelow under ++ constraintsBelow next) t in
+        let b = takes-append (o + length (n .constraints)) (constraintsBelow under) (constraintsBelow next) (a .1) in
         rw (number-append, number-append, product-append)
         (at-flatMap _ _ (λ m. length-each (successor r m) (splitSuccessors Q under) (splitSuccessors Q next) ∙ rw (count-successors Q under, count-successors Q next))
         (at-each (successor r (fillNode v o n)) _ (count-successors Q next) (successors-at _ under (b .0)) (successors-at _ next (b .1)))
         (node-at o n (a .0)))
 
     -- the digits' number is the place of the combination that takes their pieces
-    pub combination-at : (t : Form) → Takes Q d v 0 (constraints t) → At (fill v t) (combinations Q t) (number Q d 0 (constraints t))
+    pub combination-at : (t : Form) → Takes Q d v 0 (constraintsOf t) → At (fill v t) (combinations Q t) (number Q d 0 (constraintsOf t))
     unfolding combinations
     combination-at t h =
-        let a = takes-append 0 (t .node .intervals) (intervalsOf (t .successors)) h in
+        let a = takes-append 0 (t .node .constraints) (constraintsBelow (t .successors)) h in
         rw (number-append, zero-add)
         (at-each (λ n under. record { node = n; successors = under }) _ (count-successors Q (t .successors))
         (node-at 0 (t .node) (a .0)) (successors-at _ (t .successors) (rw zero-add at (a .1))))

@@ -6,16 +6,15 @@ use mathlib.Core.Path.{subst₂, sym}
 use lib.Dec.{T, eqb, eqb→eq}
 use Rattle.meaning.proofs.Rules.{T-and, head, tail}
 use Rattle.meaning.specs.Countermodel.{insertPair, pairBefore, pairs, samePair}
+use Rattle.meaning.specs.Intervals.{Constraint, valueOf}
 use Rattle.meaning.specs.Lists.{All, cons, nil}
-use Rattle.meaning.specs.NormalForm.{Interval}
-use Rattle.meaning.specs.Splitting.{valueOf}
 
 module _ (P : ℕ → ℕ → Type 0) where
   -- the piece's pair has P
-  abbrev Said : Interval → Type 0
+  abbrev Said : Constraint → Type 0
   Said s = P (s .feature) (valueOf s)
 
-  insert-in : (s : Interval) (l : List Interval) → Said s → All Said l → All Said (insertPair s l)
+  insert-in : (s : Constraint) (l : List Constraint) → Said s → All Said l → All Said (insertPair s l)
   insert-in s [] h k = cons h nil
   insert-in s (t ∷ l) h k = go (samePair s t) (pairBefore s t) (insert-in s l h (tail k))
     where
@@ -24,7 +23,7 @@ module _ (P : ℕ → ℕ → Type 0) where
       go false true r = cons h k
       go false false r = cons (head k) r
 
-  insert-out : (s : Interval) (l : List Interval) → All Said (insertPair s l) → All Said (s ∷ l)
+  insert-out : (s : Constraint) (l : List Constraint) → All Said (insertPair s l) → All Said (s ∷ l)
   insert-out s [] k = k
   insert-out s (t ∷ l) k = go (samePair s t) (pairBefore s t) (λ u. T-and (eqb (s .feature) (t .feature)) (eqb (valueOf s) (valueOf t)) u) (insert-out s l) k
     where
@@ -34,10 +33,10 @@ module _ (P : ℕ → ℕ → Type 0) where
       go false true f g k = k
       go false false f g k = let r = g (tail k) in cons (head r) (cons (head k) (tail r))
 
-  pub pairs-in : (l : List Interval) → All Said l → All Said (pairs l)
+  pub pairs-in : (l : List Constraint) → All Said l → All Said (pairs l)
   pairs-in [] h = nil
   pairs-in (s ∷ l) h = insert-in s (pairs l) (head h) (pairs-in l (tail h))
 
-  pub pairs-out : (l : List Interval) → All Said (pairs l) → All Said l
+  pub pairs-out : (l : List Constraint) → All Said (pairs l) → All Said l
   pairs-out [] h = nil
   pairs-out (s ∷ l) h = let r = insert-out s (pairs l) h in cons (head r) (pairs-out l (tail r))

@@ -6,26 +6,26 @@ use mathlib.Core.Logic.{_⊎_, inl, inr}
 use mathlib.Core.Path.{_≡_, refl, subst, sym}
 use lib.Dec.{T, eqb, eqb→eq, leb, leb→le, le→leb, ltb, ltb→lt, lt→ltb, nltb→le}
 use native.Mathlib.Omega.{arith}
-use Rattle.meaning.proofs.Rules.{T-and, all-append, all-at, all-filter, all-mono, all-of, and-T, any-cases, any-left, any-none, any-right, eqb-of, head, in-filter, order, tail}
-use Rattle.meaning.specs.Interpretation.{Within}
+use Rattle.meaning.proofs.Rules.{T-and, all-append, all-at, all-filter, all-mono, all-of, and-T, any-cases, any-left}
+use Rattle.meaning.proofs.Rules.{any-none, any-right, eqb-of, head, in-filter, order, tail}
+use Rattle.meaning.specs.Intervals.{Constraint, Within, valueOf}
 use Rattle.meaning.specs.Lists.{All, Any, _∈_, cons, filter, flatMap, here, nil, there}
-use Rattle.meaning.specs.NormalForm.{Interval}
 use Rattle.meaning.specs.Policy.{Policy}
-use Rattle.meaning.specs.Splitting.{ends, gap, insert, insertAll, only, pieces, piecesAt, piecesFrom, points, valueOf}
+use Rattle.meaning.specs.Splitting.{ends, gap, insert, insertAll, only, pieces, piecesAt, piecesFrom, points}
 
 -- no end at e parts the piece: formula (9) makes the query interval safe
-abbrev pub Unparted : Interval → ℕ → Type 0
+abbrev pub Unparted : Constraint → ℕ → Type 0
 Unparted p e = (e ≤ p .hi → e ≤ p .lo) × (p .lo ≤ e → p .hi ≤ e)
 
 -- p lies inside s, and is not empty
-pub record Inside (s p : Interval) : Type 0 where
+pub record Inside (s p : Constraint) : Type 0 where
   pub same : p .feature ≡ s .feature
   pub low : s .lo ≤ p .lo
   pub filled : p .lo ≤ p .hi
   pub high : p .hi ≤ s .hi
 
 -- p is a piece of s against Q
-pub record Part (Q : Policy) (s p : Interval) : Type 0 where
+pub record Part (Q : Policy) (s p : Constraint) : Type 0 where
   pub inside : Inside s p
   pub safe : (e : ℕ) → e ∈ flatMap (ends (s .feature)) Q → Unparted p e
 
@@ -159,7 +159,7 @@ unparted-from f e x (y ∷ l) b = cons {x = only f x} (λ a. a, λ a. a) (all-ap
     between (inr a) = (λ c. omega arith, λ c. omega arith)
 
 -- a value from x to a later point lies in a piece
-abbrev Covers : ℕ → ℕ → Interval → Type 0
+abbrev Covers : ℕ → ℕ → Constraint → Type 0
 Covers f w p = (p .feature ≡ f) × Within (p .lo) (p .hi) w
 
 cover-from : (f w x : ℕ) (l : List ℕ) → x ≤ w → (m : ℕ) → (m ≡ x) ⊎ (m ∈ l) → w ≤ m → Any (Covers f w) (piecesFrom f x l)
@@ -181,7 +181,7 @@ cover-from f w x (y ∷ l) a m b c = go (cover-from f w y l) (order w y) (order 
     go ih (inr d) (inl g) (inr h) = there (any-right (gap f x y) (ih d m h c))
 
 -- a piece lies between its points
-inside-from : (s : Interval) (x : ℕ) (l : List ℕ) → Rising x l → All (Within (s .lo) (s .hi)) (x ∷ l) → All (Inside s) (piecesFrom (s .feature) x l)
+inside-from : (s : Constraint) (x : ℕ) (l : List ℕ) → Rising x l → All (Within (s .lo) (s .hi)) (x ∷ l) → All (Inside s) (piecesFrom (s .feature) x l)
 inside-from s x [] r h = cons {x = only (s .feature) x} (record { same = refl; low = head h .0; filled = omega arith; high = head h .1 }) nil
 inside-from s x (y ∷ l) r h =
     cons {x = only (s .feature) x} (record { same = refl; low = head h .0; filled = omega arith; high = head h .1 })
@@ -190,7 +190,7 @@ inside-from s x (y ∷ l) r h =
     between : suc x < y → Within (s .lo) (s .hi) x → Within (s .lo) (s .hi) y → Inside s (record { feature = s .feature; lo = suc x; hi = pred y })
     between a b c = record { same = refl; low = omega arith; filled = omega arith; high = omega arith }
 
-module _ (Q : Policy) (s : Interval) where
+module _ (Q : Policy) (s : Constraint) where
   relevant : List ℕ
   relevant = filter (λ e. leb (s .lo) e && leb e (s .hi)) (flatMap (ends (s .feature)) Q)
 
@@ -258,6 +258,6 @@ module _ (Q : Policy) (s : Interval) where
       go (x ∷ l) r c d = cover-from (s .feature) w x l (first x l r (any-cases c)) (s .hi) (any-cases d) (b .1)
 
 -- the value of a piece lies in it
-pub value-inside : (p : Interval) → p .lo ≤ p .hi → Within (p .lo) (p .hi) (valueOf p)
+pub value-inside : (p : Constraint) → p .lo ≤ p .hi → Within (p .lo) (p .hi) (valueOf p)
 unfolding valueOf
 value-inside p a = (omega arith, omega arith)

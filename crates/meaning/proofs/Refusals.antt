@@ -6,10 +6,12 @@ use mathlib.Core.Path.{_≡_, refl}
 use lib.Dec.{eqb}
 use lib.ListN.{length}
 use native.Mathlib.Omega.{arith}
+use Rattle.meaning.specs.Limits.{mostPolicyWords, mostVocabularyWords}
 use Rattle.meaning.specs.Lists.{any}
-use Rattle.meaning.specs.Operations.{inputRefusal, unless}
-use Rattle.meaning.specs.Policy.{Walk, childOf, fault, faultOf, firstTerm, headedPolicy, nextOf, onward, policyRefusal, reached, second, soundRecord, walk}
-use Rattle.meaning.specs.Records.{orElse, sized}
+use Rattle.meaning.specs.Operations.{AcceptedInput, inputRefusal, unless}
+use Rattle.meaning.specs.Policy.{Walk, childOf, fault, faultOf, firstTerm, headedPolicy, nextOf, onward, policyRefusal}
+use Rattle.meaning.specs.Policy.{reached, secondRefusal, soundRecord, walk}
+use Rattle.meaning.specs.Records.{isSized, orElse}
 use Rattle.meaning.specs.Vocabulary.{axiomNext, axiomsRefusal, firstAxiom, headedVocabulary, soundAxiom, vocabularyRefusal}
 
 pub or-zero : (a b : ℕ) → orElse a b ≡ 0 → (a ≡ 0) × (b ≡ 0)
@@ -24,13 +26,13 @@ pub or-assoc : (a b c : ℕ) → orElse a (orElse b c) ≡ orElse (orElse a b) c
 or-assoc zero b c = refl
 or-assoc (suc a) b c = refl
 
-pub second-zero : (n : ℕ) → second n ≡ 0 → n ≡ 0
-second-zero zero e = refl
-second-zero (suc n) e = absurd (omega arith)
+pub secondRefusal-zero : (n : ℕ) → secondRefusal n ≡ 0 → n ≡ 0
+secondRefusal-zero zero e = refl
+secondRefusal-zero (suc n) e = absurd (omega arith)
 
-pub second-some : (n : ℕ) → (n ≡ 0 → ⊥) → n + 10 ≡ second n
-second-some zero h = absurd (h refl)
-second-some (suc n) h = omega arith
+pub secondRefusal-some : (n : ℕ) → (n ≡ 0 → ⊥) → n + 10 ≡ secondRefusal n
+secondRefusal-some zero h = absurd (h refl)
+secondRefusal-some (suc n) h = omega arith
 
 pub cond-all {ℓ} : {A : Type 0} (P : A → Type ℓ) (b : Bool) {x y : A} → P x → P y → P (cond b x y)
 cond-all P true h k = h
@@ -57,7 +59,7 @@ walk-few (suc f) v p d k seen =
 pub policy-few : (v p : List ℕ) → policyRefusal v p ≤ 8
 unfolding policyRefusal
 policy-few v p =
-    cond-all (λ n. n ≤ 8) (sized 6 3078 (length p))
+    cond-all (λ n. n ≤ 8) (isSized 6 mostPolicyWords (length p))
     (cond-all (λ n. n ≤ 8) (headedPolicy p) (walk-few (length p) v p 0 (firstTerm p) []) (omega arith)) (omega arith)
 
 -- and a vocabulary's at most 3
@@ -69,24 +71,19 @@ axioms-few (suc f) v k =
 pub vocabulary-few : (v : List ℕ) → vocabularyRefusal v ≤ 3
 unfolding vocabularyRefusal
 vocabulary-few v =
-    cond-all (λ n. n ≤ 3) (sized 4 4100 (length v)) (cond-all (λ n. n ≤ 3) (headedVocabulary v) (axioms-few (length v) v (firstAxiom v)) (omega arith)) (omega arith)
+    cond-all (λ n. n ≤ 3) (isSized 4 mostVocabularyWords (length v)) (cond-all (λ n. n ≤ 3) (headedVocabulary v) (axioms-few (length v) v (firstAxiom v)) (omega arith)) (omega arith)
 
 pub or-few : (n a b : ℕ) → a ≤ n → b ≤ n → orElse a b ≤ n
 or-few n zero b h k = k
 or-few n (suc a) b h k = h
 
 -- the vocabulary and both policies are accepted
-pub record AcceptedInput (v p q : List ℕ) : Type 0 where
-  pub vocabulary : vocabularyRefusal v ≡ 0
-  pub firstPolicy : policyRefusal v p ≡ 0
-  pub secondPolicy : policyRefusal v q ≡ 0
-
 pub accepted-input : (v p q : List ℕ) → inputRefusal v p q ≡ 0 → AcceptedInput v p q
 unfolding inputRefusal
 accepted-input v p q e =
-    let a = or-zero (vocabularyRefusal v) (orElse (policyRefusal v p) (second (policyRefusal v q))) e in
-    let b = or-zero (policyRefusal v p) (second (policyRefusal v q)) (a .1) in
-    record { vocabulary = a .0; firstPolicy = b .0; secondPolicy = second-zero (policyRefusal v q) (b .1) }
+    let a = or-zero (vocabularyRefusal v) (orElse (policyRefusal v p) (secondRefusal (policyRefusal v q))) e in
+    let b = or-zero (policyRefusal v p) (secondRefusal (policyRefusal v q)) (a .1) in
+    record { vocabulary = a .0; firstPolicy = b .0; secondPolicy = secondRefusal-zero (policyRefusal v q) (b .1) }
 
 -- what holds of every refusal, and of what comes when there is none, holds of the outcome
 pub unless-all {ℓ} : {A : Type 0} (P : A → Type ℓ) (refuse : ℕ → A) (n : ℕ) (later : A) → ((k : ℕ) → P (refuse k)) → (n ≡ 0 → P later) → P (unless refuse n later)

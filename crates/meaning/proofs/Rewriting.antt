@@ -6,26 +6,31 @@ use mathlib.Core.Path.{_≡_, subst, sym}
 use lib.Dec.{T, eqb, eqb→eq, leb, le→leb, not-T}
 use native.Mathlib.Omega.{arith}
 use Rattle.meaning.proofs.Closure.{below-sound}
-use Rattle.meaning.proofs.Rules.{T-and, all-any, all-at, all-in, all-mono, all-of, and-T, and-not, any-out, head, not-or, tail}
-use Rattle.meaning.proofs.Stated.{feature-obeys, ranges-out, single-obeys}
+use Rattle.meaning.proofs.Forms.{Has, HoldsForm, HoldsNode, HoldsSuccessors}
+use Rattle.meaning.proofs.Rules.{T-and, all-in, all-mono, all-of, and-T, and-not, any-at, any-out, head, not-or, tail}
+use Rattle.meaning.proofs.Stated.{all-stated}
 use Rattle.meaning.specs.Interpretation.{Holds, Interpretation, Obeys, Satisfies}
+use Rattle.meaning.specs.Intervals.{Constraint, meet}
 use Rattle.meaning.specs.Lists.{All, all, cons, nil}
-use Rattle.meaning.specs.NormalForm.{Form, Has, HoldsForm, HoldsNode, HoldsSuccessors, Interval, Node, Successors, add, bare, blocked, clash, cleanNode, cleanSuccessors, compatible, filled, graft, isBelow, meet, none, normalForm, placeInterval, placeSuccessor, possible, ranges, separates, single, singleFeature, successor, withClass, withInterval, withSuccessor}
+use Rattle.meaning.specs.NormalForm.{Form, Node, Successors, add, areNonEmpty, bare, clash, cleanNode, cleanSuccessors}
+use Rattle.meaning.specs.NormalForm.{compatible, graft, hasBottom, none, normalForm, placeConstraint, placeSuccessor}
+use Rattle.meaning.specs.NormalForm.{possible, successor, withClass, withConstraint, withSuccessor}
 use Rattle.meaning.specs.Policy.{Chain, class, end, impossible, interval, some}
-use Rattle.meaning.specs.Vocabulary.{Axiom, Vocabulary, below, disjoint, functionalFeature, functionalRole, range}
+use Rattle.meaning.specs.Stated.{disjointPairs, isBelow, isFunctionalFeature, isFunctionalRole, ranges}
+use Rattle.meaning.specs.Vocabulary.{Vocabulary, functionalFeature, functionalRole}
 
 in-ranges : (I : Interpretation) (K : Vocabulary) → Satisfies I K → (r d e : ℕ) → I .byRole r d e → All (λ c. I .inClass c e) (ranges K r)
-in-ranges I K s r d e h = all-of (ranges K r) (λ c m. all-at s (ranges-out K r c m) d e h)
+in-ranges I K s r d e h = all-of (ranges K r) (λ c m. all-stated K (s .stated) .ranged r c m d e h)
 
 -- rule 5
-interval-in : (I : Interpretation) (one : Bool) (s : Interval) (d : ℕ) → (T one → Obeys I (functionalFeature (s .feature))) →
-    Has I d s → (l : List Interval) → All (Has I d) l → All (Has I d) (placeInterval one s l)
+interval-in : (I : Interpretation) (one : Bool) (s : Constraint) (d : ℕ) → (T one → Obeys I (functionalFeature (s .feature))) →
+    Has I d s → (l : List Constraint) → All (Has I d) l → All (Has I d) (placeConstraint one s l)
 interval-in I one s d law h [] k = cons h nil
 interval-in I one s d law h (x ∷ l) k =
     go (one && eqb (x .feature) (s .feature)) (λ t. T-and one (eqb (x .feature) (s .feature)) t) (interval-in I one s d law h l (tail k))
   where
-    go : (b : Bool) → (T b → T one × T (eqb (x .feature) (s .feature))) → All (Has I d) (placeInterval one s l) →
-        All (Has I d) (cond b (meet x s ∷ l) (x ∷ placeInterval one s l))
+    go : (b : Bool) → (T b → T one × T (eqb (x .feature) (s .feature))) → All (Has I d) (placeConstraint one s l) →
+        All (Has I d) (cond b (meet x s ∷ l) (x ∷ placeConstraint one s l))
     go true f r =
         let g = f tt in
         let e : x .feature ≡ s .feature = eqb→eq _ _ (g .1) in
@@ -34,13 +39,13 @@ interval-in I one s d law h (x ∷ l) k =
         cons {x = meet x s} (v .0, v .1, omega arith) (tail k)
     go false f r = cons (head k) r
 
-interval-out : (I : Interpretation) (one : Bool) (s : Interval) (d : ℕ) (l : List Interval) → All (Has I d) (placeInterval one s l) → Has I d s × All (Has I d) l
+interval-out : (I : Interpretation) (one : Bool) (s : Constraint) (d : ℕ) (l : List Constraint) → All (Has I d) (placeConstraint one s l) → Has I d s × All (Has I d) l
 interval-out I one s d [] k = (head k, nil)
 interval-out I one s d (x ∷ l) k =
     go (one && eqb (x .feature) (s .feature)) (λ t. eqb→eq _ _ (T-and one (eqb (x .feature) (s .feature)) t .1)) (interval-out I one s d l) k
   where
-    go : (b : Bool) → (T b → x .feature ≡ s .feature) → (All (Has I d) (placeInterval one s l) → Has I d s × All (Has I d) l) →
-        All (Has I d) (cond b (meet x s ∷ l) (x ∷ placeInterval one s l)) → Has I d s × All (Has I d) (x ∷ l)
+    go : (b : Bool) → (T b → x .feature ≡ s .feature) → (All (Has I d) (placeConstraint one s l) → Has I d s × All (Has I d) l) →
+        All (Has I d) (cond b (meet x s ∷ l) (x ∷ placeConstraint one s l)) → Has I d s × All (Has I d) (x ∷ l)
     go true f r k =
         let v = head k in
         ((v .0, subst (λ (k : ℕ). I .hasValue k d (v .0)) (f tt) (v .1), omega arith), cons {x = x} (v .0, v .1, omega arith) (tail k))
@@ -82,55 +87,53 @@ module _ (I : Interpretation) (one : Bool) (r : ℕ) (fresh : Form) (grow : Form
 pub add-in : (I : Interpretation) (K : Vocabulary) → Satisfies I K → (p : Chain) (t : Form) (d : ℕ) → Holds I p d → HoldsForm I t d → HoldsForm I (add K p t) d
 add-in I K s end t d h k = k
 add-in I K s (class c next) t d h k =
-    add-in I K s next (withClass c t) d (h .1) (record { node = record { classes = cons (h .0) (k .node .classes); intervals = k .node .intervals }; successors = k .successors })
+    add-in I K s next (withClass c t) d (h .1) (record { node = record { classes = cons (h .0) (k .node .classes); constraints = k .node .constraints }; successors = k .successors })
 add-in I K s (impossible next) t d h k = absurd h
 add-in I K s (some r child next) t d h k =
     let v = h .0 in
     add-in I K s next (withSuccessor K r (add K child) t) d (h .1) (record {
       node = k .node;
-      successors = successor-in I (single K r) r _ (add K child) (Holds I child) (single-obeys I K s r) (add-in I K s child) d (v .0) (v .1)
-          (record { node = record { classes = in-ranges I K s r d (v .0) (v .1); intervals = nil }; successors = tt }) (v .2) (t .successors) (k .successors);
+      successors = successor-in I (isFunctionalRole K r) r _ (add K child) (Holds I child) (all-stated K (s .stated) .role r) (add-in I K s child) d (v .0) (v .1)
+          (record { node = record { classes = in-ranges I K s r d (v .0) (v .1); constraints = nil }; successors = tt }) (v .2) (t .successors) (k .successors);
     })
 add-in I K s (interval f lo hi next) t d h k =
-    let new : Interval = record { feature = f; lo = lo; hi = hi } in
-    add-in I K s next (withInterval K new t) d (h .1) (record {
-      node = record { classes = k .node .classes; intervals = interval-in I (singleFeature K f) new d (feature-obeys I K s f) (h .0) (t .node .intervals) (k .node .intervals) };
+    let new : Constraint = record { feature = f; lo = lo; hi = hi } in
+    add-in I K s next (withConstraint K new t) d (h .1) (record {
+      node = record { classes = k .node .classes; constraints = interval-in I (isFunctionalFeature K f) new d (all-stated K (s .stated) .feature f) (h .0) (t .node .constraints) (k .node .constraints) };
       successors = k .successors;
     })
 
-pub add-out : (I : Interpretation) (K : Vocabulary) (p : Chain) (t : Form) (d : ℕ) → T (not (blocked p)) → HoldsForm I (add K p t) d → Holds I p d × HoldsForm I t d
+pub add-out : (I : Interpretation) (K : Vocabulary) (p : Chain) (t : Form) (d : ℕ) → T (not (hasBottom p)) → HoldsForm I (add K p t) d → Holds I p d × HoldsForm I t d
 add-out I K end t d u k = (tt, k)
 add-out I K (class c next) t d u k =
     let r = add-out I K next (withClass c t) d u k in
-    ((head (r .1 .node .classes), r .0), record { node = record { classes = tail (r .1 .node .classes); intervals = r .1 .node .intervals }; successors = r .1 .successors })
+    ((head (r .1 .node .classes), r .0), record { node = record { classes = tail (r .1 .node .classes); constraints = r .1 .node .constraints }; successors = r .1 .successors })
 add-out I K (impossible next) t d u k = absurd u
 add-out I K (some r child next) t d u k =
-    let w = not-or (blocked child) (blocked next) u in
+    let w = not-or (hasBottom child) (hasBottom next) u in
     let g = add-out I K next (withSuccessor K r (add K child) t) d (w .1) k in
-    let v = successor-out I (single K r) r _ (add K child) (Holds I child) (λ x e. add-out I K child x e (w .0)) d (t .successors) (g .1 .successors) in
+    let v = successor-out I (isFunctionalRole K r) r _ (add K child) (Holds I child) (λ x e. add-out I K child x e (w .0)) d (t .successors) (g .1 .successors) in
     ((v .0, g .0), record { node = g .1 .node; successors = v .1 })
 add-out I K (interval f lo hi next) t d u k =
-    let new : Interval = record { feature = f; lo = lo; hi = hi } in
-    let r = add-out I K next (withInterval K new t) d u k in
-    let g = interval-out I (singleFeature K f) new d (t .node .intervals) (r .1 .node .intervals) in
+    let new : Constraint = record { feature = f; lo = lo; hi = hi } in
+    let r = add-out I K next (withConstraint K new t) d u k in
+    let g = interval-out I (isFunctionalFeature K f) new d (t .node .constraints) (r .1 .node .constraints) in
     let v = g .0 in
-    ((v, r .0), record { node = record { classes = r .1 .node .classes; intervals = g .1 }; successors = r .1 .successors })
+    ((v, r .0), record { node = record { classes = r .1 .node .classes; constraints = g .1 }; successors = r .1 .successors })
 
 -- rules 3 and 7: what holds of an individual is clean
 clash-free : (I : Interpretation) (K : Vocabulary) → Satisfies I K → (a b d : ℕ) → I .inClass a d → I .inClass b d → T (not (clash K a b))
-clash-free I K s a b d h k = not-T (clash K a b) (λ t. let r = all-any s (any-out (separates K a b) K t) in go (r .0) (r .1) (r .2))
-  where
-    go : (x : Axiom) → Obeys I x → T (separates K a b x) → ⊥
-    go (below x y) o u = u
-    go (disjoint x y) o u = let w = T-and (isBelow K a x) (isBelow K b y) u in o d (below-sound I K s a x d (w .0) h) (below-sound I K s b y d (w .1) k)
-    go (functionalRole q) o u = u
-    go (functionalFeature g) o u = u
-    go (range q c) o u = u
+clash-free I K s a b d h k =
+    not-T (clash K a b) (λ t.
+    let r = any-at (any-out (λ p. isBelow K a (p .0) && isBelow K b (p .1)) (disjointPairs K) t) in
+    let p = r .0 in
+    let w = T-and (isBelow K a (p .0)) (isBelow K b (p .1)) (r .2) in
+    all-stated K (s .stated) .apart (p .0) (p .1) (r .1) d (below-sound I K s a (p .0) d (w .0) h) (below-sound I K s b (p .1) d (w .1) k))
 
 fits-clean : (I : Interpretation) (K : Vocabulary) → Satisfies I K → (n : Node) (d : ℕ) → HoldsNode I n d → T (cleanNode K n)
 fits-clean I K s n d h =
-    and-T (filled (n .intervals)) (compatible K (n .classes))
-    (all-in (λ x. leb (x .lo) (x .hi)) (all-mono (λ x v. le→leb (x .lo) (x .hi) (omega arith)) (h .intervals)))
+    and-T (areNonEmpty (n .constraints)) (compatible K (n .classes))
+    (all-in (λ x. leb (x .lo) (x .hi)) (all-mono (λ x v. le→leb (x .lo) (x .hi) (omega arith)) (h .constraints)))
     (all-in (λ a. all (λ b. not (clash K a b)) (n .classes))
     (all-mono (λ a ha. all-in (λ b. not (clash K a b)) (all-mono (λ b hb. clash-free I K s a b d ha hb) (h .classes))) (h .classes)))
 
@@ -140,15 +143,15 @@ grown-clean I K s (successor r n under next) d h =
     let v = h .0 in
     and-T (cleanNode K n) _ (fits-clean I K s n (v .0) (v .2)) (and-T (cleanSuccessors K under) _ (grown-clean I K s under (v .0) (v .3)) (grown-clean I K s next d (h .1)))
 
-holds-open : (I : Interpretation) (p : Chain) (d : ℕ) → Holds I p d → T (not (blocked p))
+holds-open : (I : Interpretation) (p : Chain) (d : ℕ) → Holds I p d → T (not (hasBottom p))
 holds-open I end d h = tt
 holds-open I (class c next) d h = holds-open I next d (h .1)
 holds-open I (impossible next) d h = h
-holds-open I (some r child next) d h = and-not (blocked child) (blocked next) (holds-open I child (h .0 .0) (h .0 .2)) (holds-open I next d (h .1))
+holds-open I (some r child next) d h = and-not (hasBottom child) (hasBottom next) (holds-open I child (h .0 .0) (h .0 .2)) (holds-open I next d (h .1))
 holds-open I (interval f lo hi next) d h = holds-open I next d (h .1)
 
 bare-holds : (I : Interpretation) (d : ℕ) → HoldsForm I (bare []) d
-bare-holds I d = record { node = record { classes = nil; intervals = nil }; successors = tt }
+bare-holds I d = record { node = record { classes = nil; constraints = nil }; successors = tt }
 
 -- a term holds where, and only where, its normal form does; and then it is possible
 pub normal-in : (I : Interpretation) (K : Vocabulary) → Satisfies I K → (p : Chain) (d : ℕ) → Holds I p d → HoldsForm I (normalForm K p) d
@@ -157,10 +160,10 @@ normal-in I K s p d h = add-in I K s p (bare []) d h (bare-holds I d)
 
 pub normal-out : (I : Interpretation) (K : Vocabulary) (p : Chain) (d : ℕ) → T (possible K p) → HoldsForm I (normalForm K p) d → Holds I p d
 unfolding possible normalForm
-normal-out I K p d t h = add-out I K p (bare []) d (T-and (not (blocked p)) _ t .0) h .0
+normal-out I K p d t h = add-out I K p (bare []) d (T-and (not (hasBottom p)) _ t .0) h .0
 
 pub holds-possible : (I : Interpretation) (K : Vocabulary) → Satisfies I K → (p : Chain) (d : ℕ) → Holds I p d → T (possible K p)
 unfolding possible normalForm
 holds-possible I K s p d h =
     let f = normal-in I K s p d h in
-    and-T (not (blocked p)) _ (holds-open I p d h) (and-T (cleanNode K (normalForm K p .node)) _ (fits-clean I K s (normalForm K p .node) d (f .node)) (grown-clean I K s (normalForm K p .successors) d (f .successors)))
+    and-T (not (hasBottom p)) _ (holds-open I p d h) (and-T (cleanNode K (normalForm K p .node)) _ (fits-clean I K s (normalForm K p .node) d (f .node)) (grown-clean I K s (normalForm K p .successors) d (f .successors)))

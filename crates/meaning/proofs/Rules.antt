@@ -164,6 +164,17 @@ module _ {A : Type 0} where
     any-right [] h = h
     any-right (x ∷ l) h = there (any-right l h)
 
+    pub any-append : (l m : List A) → Any P (l ++ m) → Any P l ⊎ Any P m
+    any-append [] m h = inr h
+    any-append (x ∷ l) m h = go (λ k. any-append l m k) (any-cases h)
+      where
+        go : (Any P (l ++ m) → Any P l ⊎ Any P m) → P x ⊎ Any P (l ++ m) → Any P (x ∷ l) ⊎ Any P m
+        go f (inl k) = inl (here k)
+        go f (inr k) = ⊎-elim (λ y. inl (there y)) (λ y. inr y) (f k)
+
+    pub any-single : {x : A} → Any P (x ∷ []) → P x
+    any-single h = ⊎-elim (λ k. k) (λ k. absurd (any-none k)) (any-cases h)
+
   pub in-filter : (p : A → Bool) {l : List A} {x : A} → x ∈ l → T (p x) → x ∈ filter p l
   in-filter p {x = x} (here {x = y} {l = l} h) t = go (p y) refl
     where
@@ -192,6 +203,10 @@ module _ {A B : Type 0} {P : B → Type 0} where
   pub any-flatMap : (f : A → List B) {l : List A} → Any (λ x. Any P (f x)) l → Any P (flatMap f l)
   any-flatMap f (here {l = l} h) = any-left (flatMap f l) h
   any-flatMap f (there {x = x} h) = any-right (f x) (any-flatMap f h)
+
+  pub flatMap-any : (f : A → List B) (l : List A) → Any P (flatMap f l) → Any (λ x. Any P (f x)) l
+  flatMap-any f [] h = absurd (any-none h)
+  flatMap-any f (x ∷ l) h = ⊎-elim here (λ k. there (flatMap-any f l k)) (any-append (f x) (flatMap f l) h)
 
   pub all-map : (f : A → B) {l : List A} → All (λ x. P (f x)) l → All P (map f l)
   all-map f nil = nil

@@ -9,18 +9,22 @@ use lib.ListN.{length, length-append, length-map}
 use native.Mathlib.Nat.{mul-add, mul-suc}
 use native.Mathlib.Omega.{arith}
 use Rattle.meaning.proofs.Canonical.{model-proper}
-use Rattle.meaning.proofs.Links.{Name}
 use Rattle.meaning.proofs.ModelWords.{NamedFact}
 use Rattle.meaning.proofs.Pairs.{pairs-in}
 use Rattle.meaning.proofs.Picks.{Parts, Picked, PickedForm, no-parts, none-picked, parts, picked}
 use Rattle.meaning.proofs.Refusals.{cond-all}
 use Rattle.meaning.proofs.Rules.{all-append, all-at, all-map, all-of, head, tail}
-use Rattle.meaning.proofs.Terms.{NamedChain, count}
-use Rattle.meaning.specs.Countermodel.{Fact, canonicalModel, classesAbove, edge, edges, individuals, insertPair, member, pairBefore, pairs, recordsBelow, recordsOf, samePair, size, value}
+use Rattle.meaning.specs.Accepted.{NamedChain, count}
+use Rattle.meaning.specs.Countermodel.{canonicalModel, classesAbove, edges, individuals, insertPair, pairBefore, pairs}
+use Rattle.meaning.specs.Countermodel.{recordsBelow, recordsOf, samePair, size}
+use Rattle.meaning.specs.Intervals.{Constraint, valueOf}
 use Rattle.meaning.specs.Lists.{All, _∈_, any, cons, counting, filter, nil}
-use Rattle.meaning.specs.NormalForm.{Form, Interval, Node, Successors, add, bare, isBelow, none, normalForm, placeInterval, placeSuccessor, ranges, single, singleFeature, successor, withClass, withInterval, withSuccessor}
+use Rattle.meaning.specs.Model.{Fact, edge, member, value}
+use Rattle.meaning.specs.NormalForm.{Form, Node, Successors, add, bare, none, normalForm, placeConstraint, placeSuccessor}
+use Rattle.meaning.specs.NormalForm.{successor, withClass, withConstraint, withSuccessor}
 use Rattle.meaning.specs.Policy.{Chain, Policy, class, end, impossible, interval, some}
-use Rattle.meaning.specs.Splitting.{valueOf}
+use Rattle.meaning.specs.Records.{Name}
+use Rattle.meaning.specs.Stated.{isBelow, isFunctionalFeature, isFunctionalRole, ranges}
 use Rattle.meaning.specs.Vocabulary.{Vocabulary}
 
 -- ---- a normal form is no greater than its term
@@ -28,21 +32,21 @@ use Rattle.meaning.specs.Vocabulary.{Vocabulary}
 -- how many successors and constraints of theirs; and of a form, its own constraints among them
 abbrev pub weight : Successors → ℕ
 weight none = 0
-weight (successor r n under next) = suc (length (n .intervals) + (weight under + weight next))
+weight (successor r n under next) = suc (length (n .constraints) + (weight under + weight next))
 
 abbrev pub formWeight : Form → ℕ
-formWeight t = length (t .node .intervals) + weight (t .successors)
+formWeight t = length (t .node .constraints) + weight (t .successors)
 
 pub size-weight : (under : Successors) → size under ≤ weight under
 size-weight none = omega arith
 size-weight (successor r n under next) = omega (arith, size-weight under, size-weight next)
 
 -- a constraint adds at most one
-place-length : (one : Bool) (s : Interval) (l : List Interval) → length (placeInterval one s l) ≤ suc (length l)
+place-length : (one : Bool) (s : Constraint) (l : List Constraint) → length (placeConstraint one s l) ≤ suc (length l)
 place-length one s [] = omega arith
 place-length one s (t ∷ l) =
     let h = place-length one s l in
-    cond-all (λ (m : List Interval). length m ≤ suc (suc (length l))) (one && eqb (t .feature) (s .feature)) (omega arith) (omega arith)
+    cond-all (λ (m : List Constraint). length m ≤ suc (suc (length l))) (one && eqb (t .feature) (s .feature)) (omega arith) (omega arith)
 
 -- a successor adds at most one, and what its inner conjuncts add
 place-weight : (one : Bool) (r : ℕ) (fresh : Form) (grow : Form → Form) (n : ℕ) → formWeight fresh ≡ 0 → ((t : Form) → formWeight (grow t) ≤ formWeight t + n) →
@@ -62,11 +66,11 @@ add-weight K (some r child next) t =
     omega (
       arith,
       add-weight K next (withSuccessor K r (add K child) t),
-      place-weight (single K r) r (bare (ranges K r)) (add K child) (count child) refl (add-weight K child) (t .successors),
+      place-weight (isFunctionalRole K r) r (bare (ranges K r)) (add K child) (count child) refl (add-weight K child) (t .successors),
     )
 add-weight K (interval f lo hi next) t =
-    let s : Interval = record { feature = f; lo = lo; hi = hi } in
-    omega (arith, add-weight K next (withInterval K s t), place-length (singleFeature K f) s (t .node .intervals))
+    let s : Constraint = record { feature = f; lo = lo; hi = hi } in
+    omega (arith, add-weight K next (withConstraint K s t), place-length (isFunctionalFeature K f) s (t .node .constraints))
 
 pub normal-weight : (K : Vocabulary) (c : Chain) → formWeight (normalForm K c) ≤ count c
 unfolding normalForm
@@ -75,18 +79,18 @@ normal-weight K c = omega (arith, add-weight K c (bare []))
 -- ---- its roles are among 1 to R, its features among 1 to F
 
 module _ (R F : ℕ) where
-  abbrev pub NamedIntervals : List Interval → Type 0
+  abbrev pub NamedIntervals : List Constraint → Type 0
   NamedIntervals l = All (λ s. Name F (s .feature)) l
 
   abbrev pub NamedSuccessors : Successors → Type 0
   NamedSuccessors none = Unit {0}
-  NamedSuccessors (successor r n under next) = Name R r × NamedIntervals (n .intervals) × NamedSuccessors under × NamedSuccessors next
+  NamedSuccessors (successor r n under next) = Name R r × NamedIntervals (n .constraints) × NamedSuccessors under × NamedSuccessors next
 
   pub record NamedForm (t : Form) : Type 0 where
-    pub node : NamedIntervals (t .node .intervals)
+    pub node : NamedIntervals (t .node .constraints)
     pub successors : NamedSuccessors (t .successors)
 
-  interval-named : (one : Bool) (s : Interval) → Name F (s .feature) → (l : List Interval) → NamedIntervals l → NamedIntervals (placeInterval one s l)
+  interval-named : (one : Bool) (s : Constraint) → Name F (s .feature) → (l : List Constraint) → NamedIntervals l → NamedIntervals (placeConstraint one s l)
   interval-named one s h [] k = cons h nil
   interval-named one s h (t ∷ l) k =
       cond-all NamedIntervals (one && eqb (t .feature) (s .feature)) (cons (head k) (tail k)) (cons (head k) (interval-named one s h l (tail k)))
@@ -105,13 +109,13 @@ module _ (R F : ℕ) where
   add-named N K (some r child next) h t k =
       add-named N K next (h .2) (withSuccessor K r (add K child) t) (record {
         node = k .node;
-        successors = successor-named (single K r) r (bare (ranges K r)) (add K child) (h .0) (record { node = nil; successors = tt })
+        successors = successor-named (isFunctionalRole K r) r (bare (ranges K r)) (add K child) (h .0) (record { node = nil; successors = tt })
             (add-named N K child (h .1)) (t .successors) (k .successors);
       })
   add-named N K (interval f lo hi next) h t k =
-      let s : Interval = record { feature = f; lo = lo; hi = hi } in
-      add-named N K next (h .1) (withInterval K s t)
-      (record { node = interval-named (singleFeature K f) s (h .0) (t .node .intervals) (k .node); successors = k .successors })
+      let s : Constraint = record { feature = f; lo = lo; hi = hi } in
+      add-named N K next (h .1) (withConstraint K s t)
+      (record { node = interval-named (isFunctionalFeature K f) s (h .0) (t .node .constraints) (k .node); successors = k .successors })
 
   pub normal-named : (N : ℕ) (K : Vocabulary) (c : Chain) → NamedChain N R F c → NamedForm (normalForm K c)
   unfolding normalForm
@@ -120,83 +124,83 @@ module _ (R F : ℕ) where
 -- ---- and so is each combination of it
 
 module _ {Q : Policy} where
-  parts-length : {l m : List Interval} → Parts Q l m → length m ≡ length l
+  parts-length : {l m : List Constraint} → Parts Q l m → length m ≡ length l
   parts-length no-parts = refl
   parts-length (parts a b) = omega (arith, parts-length b)
 
   weight-picked : {under inner : Successors} → Picked Q under inner → weight inner ≡ weight under
   weight-picked none-picked = refl
-  weight-picked (picked a b c) = omega (arith, parts-length (a .intervals), weight-picked b, weight-picked c)
+  weight-picked (picked a b c) = omega (arith, parts-length (a .constraints), weight-picked b, weight-picked c)
 
   pub form-picked : {t u : Form} → PickedForm Q t u → formWeight u ≡ formWeight t
-  form-picked p = omega (arith, parts-length (p .node .intervals), weight-picked (p .successors))
+  form-picked p = omega (arith, parts-length (p .node .constraints), weight-picked (p .successors))
 
   module _ (R F : ℕ) where
-    parts-named : {l m : List Interval} → Parts Q l m → NamedIntervals R F l → NamedIntervals R F m
+    parts-named : {l m : List Constraint} → Parts Q l m → NamedIntervals R F l → NamedIntervals R F m
     parts-named no-parts h = nil
     parts-named (parts a b) h = cons (subst (λ (f : ℕ). Name F f) (sym (a .inside .same)) (head h)) (parts-named b (tail h))
 
     successors-named : {under inner : Successors} → Picked Q under inner → NamedSuccessors R F under → NamedSuccessors R F inner
     successors-named none-picked h = tt
-    successors-named (picked a b c) h = (h .0, parts-named (a .intervals) (h .1), successors-named b (h .2), successors-named c (h .3))
+    successors-named (picked a b c) h = (h .0, parts-named (a .constraints) (h .1), successors-named b (h .2), successors-named c (h .3))
 
     pub named-picked : {t u : Form} → PickedForm Q t u → NamedForm R F t → NamedForm R F u
-    named-picked p h = record { node = parts-named (p .node .intervals) (h .node); successors = successors-named (p .successors) (h .successors) }
+    named-picked p h = record { node = parts-named (p .node .constraints) (h .node); successors = successors-named (p .successors) (h .successors) }
 
 -- ---- how many facts the canonical model has
 
-filter-few : (p : ℕ → Bool) (l : List ℕ) → length (filter p l) ≤ length l
-filter-few p [] = omega arith
-filter-few p (x ∷ l) = let h = filter-few p l in cond-all (λ (m : List ℕ). length m ≤ suc (length l)) (p x) (omega arith) (omega arith)
+length-filter-≤ : (p : ℕ → Bool) (l : List ℕ) → length (filter p l) ≤ length l
+length-filter-≤ p [] = omega arith
+length-filter-≤ p (x ∷ l) = let h = length-filter-≤ p l in cond-all (λ (m : List ℕ). length m ≤ suc (length l)) (p x) (omega arith) (omega arith)
 
-counting-length : (from n : ℕ) → length (counting from n) ≡ n
-counting-length from zero = refl
-counting-length from (suc n) = omega (arith, counting-length (suc from) n)
+length-counting : (from n : ℕ) → length (counting from n) ≡ n
+length-counting from zero = refl
+length-counting from (suc n) = omega (arith, length-counting (suc from) n)
 
-insert-few : (s : Interval) (l : List Interval) → length (insertPair s l) ≤ suc (length l)
-insert-few s [] = omega arith
-insert-few s (t ∷ l) =
-    let h = insert-few s l in
-    let P : List Interval → Type 0 = λ m. length m ≤ suc (suc (length l)) in
+length-insertPair-≤ : (s : Constraint) (l : List Constraint) → length (insertPair s l) ≤ suc (length l)
+length-insertPair-≤ s [] = omega arith
+length-insertPair-≤ s (t ∷ l) =
+    let h = length-insertPair-≤ s l in
+    let P : List Constraint → Type 0 = λ m. length m ≤ suc (suc (length l)) in
     cond-all P (samePair s t) (omega arith) (cond-all P (pairBefore s t) (omega arith) (omega arith))
 
-pairs-few : (l : List Interval) → length (pairs l) ≤ length l
-pairs-few [] = omega arith
-pairs-few (s ∷ l) = omega (arith, pairs-few l, insert-few s (pairs l))
+length-pairs-≤ : (l : List Constraint) → length (pairs l) ≤ length l
+length-pairs-≤ [] = omega arith
+length-pairs-≤ (s ∷ l) = omega (arith, length-pairs-≤ l, length-insertPair-≤ s (pairs l))
 
-module _ (N : ℕ) (K : Vocabulary) where
-  classes-few : (n : Node) → length (classesAbove N K n) ≤ N
-  classes-few n = omega (arith, filter-few (λ b. any (λ c. isBelow K c b) (n .classes)) (counting 1 N), counting-length 1 N)
+module _ (K : Vocabulary) where
+  classes-few : (n : Node) → length (classesAbove K n) ≤ K .classes
+  classes-few n = omega (arith, length-filter-≤ (λ b. any (λ c. isBelow K c b) (n .classes)) (counting 1 (K .classes)), length-counting 1 (K .classes))
 
   -- one individual's: its classes, its values, its edges
-  node-few : (n : Node) (under : Successors) (i : ℕ) → length (recordsOf N K n under i) ≤ N + length (n .intervals) + length (edges under i (suc i))
-  node-few n under i = simp (length-append, length-map) (omega (arith, classes-few n, pairs-few (n .intervals)))
+  node-few : (n : Node) (under : Successors) (i : ℕ) → length (recordsOf K n under i) ≤ K .classes + length (n .constraints) + length (edges under i (suc i))
+  node-few n under i = simp (length-append, length-map) (omega (arith, classes-few n, length-pairs-≤ (n .constraints)))
 
-  below-few : (under : Successors) (i k : ℕ) → length (edges under i k) + length (recordsBelow N K under k) ≤ N * size under + weight under
+  below-few : (under : Successors) (i k : ℕ) → length (edges under i k) + length (recordsBelow K under k) ≤ K .classes * size under + weight under
   below-few none i k = omega arith
   below-few (successor r n under next) i k =
-      let inner = recordsBelow N K under (suc k) in
-      let later = recordsBelow N K next (suc k + size under) in
+      let inner = recordsBelow K under (suc k) in
+      let later = recordsBelow K next (suc k + size under) in
       omega (
         arith,
         node-few n under k,
         below-few under k (suc k),
         below-few next i (suc k + size under),
-        length-append (recordsOf N K n under k) (inner ++ later),
+        length-append (recordsOf K n under k) (inner ++ later),
         length-append inner later,
-        mul-add N (1 + size under) (size next),
-        mul-add N 1 (size under),
+        mul-add (K .classes) (1 + size under) (size next),
+        mul-add (K .classes) 1 (size under),
       )
 
-  pub model-few : (t : Form) → length (canonicalModel N K t) ≤ N * individuals t + formWeight t
+  pub model-few : (t : Form) → length (canonicalModel K t) ≤ K .classes * individuals t + formWeight t
   unfolding canonicalModel
   model-few t =
       omega (
         arith,
         node-few (t .node) (t .successors) 1,
         below-few (t .successors) 1 2,
-        mul-suc N (size (t .successors)),
-        length-append (recordsOf N K (t .node) (t .successors) 1) (recordsBelow N K (t .successors) 2),
+        mul-suc (K .classes) (size (t .successors)),
+        length-append (recordsOf K (t .node) (t .successors) 1) (recordsBelow K (t .successors) 2),
       )
 
 -- ---- each of them is named
@@ -209,10 +213,10 @@ counting-named : (N from n : ℕ) → 1 ≤ from → from + n ≤ suc N → All 
 counting-named N from zero a b = nil
 counting-named N from (suc n) a b = cons {x = from} (a, omega arith) (counting-named N (suc from) n (omega arith) (omega arith))
 
-module _ (N R F : ℕ) (K : Vocabulary) where
+module _ (R F : ℕ) (K : Vocabulary) where
   -- by the counts alone
   abbrev Counted : Fact → Type 0
-  Counted (member a i) = Name N a
+  Counted (member a i) = Name (K .classes) a
   Counted (edge r i j) = Name R r
   Counted (value f i v) = Name F f
 
@@ -220,24 +224,24 @@ module _ (N R F : ℕ) (K : Vocabulary) where
   edges-counted none i k h = nil
   edges-counted (successor r n under next) i k h = cons {x = edge r i k} (h .0) (edges-counted next i (suc k + size under) (h .3))
 
-  node-counted : (n : Node) (under : Successors) (i : ℕ) → NamedIntervals R F (n .intervals) → NamedSuccessors R F under → All Counted (recordsOf N K n under i)
+  node-counted : (n : Node) (under : Successors) (i : ℕ) → NamedIntervals R F (n .constraints) → NamedSuccessors R F under → All Counted (recordsOf K n under i)
   node-counted n under i h k =
-      all-append (all-map (λ c. member c i) (all-kept (λ b. any (λ c. isBelow K c b) (n .classes)) (counting-named N 1 N (omega arith) (omega arith))))
-      (all-append (all-map (λ s. value (s .feature) i (valueOf s)) (pairs-in (λ f v. Name F f) (n .intervals) h)) (edges-counted under i (suc i) k))
+      all-append (all-map (λ c. member c i) (all-kept (λ b. any (λ c. isBelow K c b) (n .classes)) (counting-named (K .classes) 1 (K .classes) (omega arith) (omega arith))))
+      (all-append (all-map (λ s. value (s .feature) i (valueOf s)) (pairs-in (λ f v. Name F f) (n .constraints) h)) (edges-counted under i (suc i) k))
 
-  below-counted : (under : Successors) (k : ℕ) → NamedSuccessors R F under → All Counted (recordsBelow N K under k)
+  below-counted : (under : Successors) (k : ℕ) → NamedSuccessors R F under → All Counted (recordsBelow K under k)
   below-counted none k h = nil
   below-counted (successor r n under next) k h =
       all-append (node-counted n under k (h .1) (h .2)) (all-append (below-counted under (suc k) (h .2)) (below-counted next (suc k + size under) (h .3)))
 
-  model-counted : (t : Form) → NamedForm R F t → All Counted (canonicalModel N K t)
+  model-counted : (t : Form) → NamedForm R F t → All Counted (canonicalModel K t)
   unfolding canonicalModel
   model-counted t h = all-append (node-counted (t .node) (t .successors) 1 (h .node) (h .successors)) (below-counted (t .successors) 2 (h .successors))
 
-  pub model-named : (t : Form) → NamedForm R F t → All (NamedFact N R F (individuals t)) (canonicalModel N K t)
-  model-named t h = all-of (canonicalModel N K t) (λ x m. go x m (all-at (model-counted t h) m))
+  pub model-named : (t : Form) → NamedForm R F t → All (NamedFact (K .classes) R F (individuals t)) (canonicalModel K t)
+  model-named t h = all-of (canonicalModel K t) (λ x m. go x m (all-at (model-counted t h) m))
     where
-      go : (x : Fact) → x ∈ canonicalModel N K t → Counted x → NamedFact N R F (individuals t) x
-      go (member a i) m c = (c, model-proper N K t .classes a i m)
-      go (edge r i j) m c = (c, model-proper N K t .sources r i j m, model-proper N K t .targets r i j m)
-      go (value f i v) m c = (c, model-proper N K t .holders f i v m)
+      go : (x : Fact) → x ∈ canonicalModel K t → Counted x → NamedFact (K .classes) R F (individuals t) x
+      go (member a i) m c = (c, model-proper K t .classes a i m)
+      go (edge r i j) m c = (c, model-proper K t .sources r i j m, model-proper K t .targets r i j m)
+      go (value f i v) m c = (c, model-proper K t .holders f i v m)

@@ -1,84 +1,235 @@
--- What a vocabulary states: which roles and features have one value, and the ranges of a role.
-use Prim.Native.Nat.{ℕ}
-use mathlib.Core.Bool.{Bool, cond, false, true}
-use mathlib.Core.List.{[], _∷_}
+-- The laws of what a vocabulary states: what holds of every axiom holds of all that is stated, kind by kind, and back.
+use Prim.Native.Nat.{_≤_, ℕ}
+use mathlib.Core.Bool.{Bool, So, cond, false, true}
+use mathlib.Core.List.{List, [], _∷_}
 use mathlib.Core.Logic.{_⊎_, inl, inr}
-use mathlib.Core.Path.{_≡_, ap₂, refl, subst, sym}
+use mathlib.Core.Path.{_≡_, ap, ap₂, refl, subst, sym}
 use lib.Dec.{T, eqb, eqb-refl, eqb→eq}
-use Rattle.meaning.proofs.Links.{Name}
-use Rattle.meaning.proofs.Rules.{all-any, any-cases, any-in, any-none, any-out, at-any}
-use Rattle.meaning.specs.Interpretation.{Interpretation, Obeys, Satisfies}
-use Rattle.meaning.specs.Lists.{_∈_, here, there}
-use Rattle.meaning.specs.NormalForm.{makesFeatureSingle, makesRoleSingle, ranges, single, singleFeature}
-use Rattle.meaning.specs.Vocabulary.{Axiom, Vocabulary, below, disjoint, functionalFeature, functionalRole, range}
+use borrow.Author.Tests.{ne-eqb}
+use native.Mathlib.Omega.{arith}
+use lib.ListN.{length}
+use Rattle.meaning.proofs.Links.{choose, split, tests}
+use Rattle.meaning.proofs.Rules.{all-any, all-of, any-cases, any-flatMap, any-in, any-none, any-out, any-single, at-any}
+use Rattle.meaning.proofs.Rules.{flatMap-any}
+use Rattle.meaning.specs.Accepted.{AxiomOf}
+use Rattle.meaning.specs.Lists.{All, Any, _∈_, cons, here, nil, there}
+use Rattle.meaning.specs.Records.{Name}
+use Rattle.meaning.specs.Stated.{disjointPair, disjointPairs, functionalFeatureName, functionalFeatures, functionalRoleName}
+use Rattle.meaning.specs.Stated.{functionalRoles, isFunctionalFeature, isFunctionalRole, rangePair, rangePairs, ranges}
+use Rattle.meaning.specs.Stated.{rangesIn, subclass, subclasses}
+use Rattle.meaning.specs.Vocabulary.{Axiom, Vocabulary, axiomAt, axiomFits, axiomKind, axiomLeft, axiomRight, below}
+use Rattle.meaning.specs.Vocabulary.{classCount, disjoint, functionalFeature, functionalRole, range, roleCount}
 
-module _ (I : Interpretation) (K : Vocabulary) (s : Satisfies I K) where
-  pub single-obeys : (r : ℕ) → T (single K r) → Obeys I (functionalRole r)
-  unfolding single
-  single-obeys r t = let h = all-any s (any-out (makesRoleSingle r) K t) in go (h .0) (h .1) (h .2)
-    where
-      go : (x : Axiom) → Obeys I x → T (makesRoleSingle r x) → Obeys I (functionalRole r)
-      go (below x y) o u = absurd u
-      go (disjoint x y) o u = absurd u
-      go (functionalRole q) o u = subst (λ (k : ℕ). Obeys I (functionalRole k)) (sym (eqb→eq r q u)) o
-      go (functionalFeature f) o u = absurd u
-      go (range q c) o u = absurd u
+-- ---- the classes of a role's ranges
 
-  pub feature-obeys : (f : ℕ) → T (singleFeature K f) → Obeys I (functionalFeature f)
-  unfolding singleFeature
-  feature-obeys f t = let h = all-any s (any-out (makesFeatureSingle f) K t) in go (h .0) (h .1) (h .2)
-    where
-      go : (x : Axiom) → Obeys I x → T (makesFeatureSingle f x) → Obeys I (functionalFeature f)
-      go (below x y) o u = absurd u
-      go (disjoint x y) o u = absurd u
-      go (functionalRole q) o u = absurd u
-      go (functionalFeature g) o u = subst (λ (k : ℕ). Obeys I (functionalFeature k)) (sym (eqb→eq f g u)) o
-      go (range q c) o u = absurd u
-
-pub single-stated : {K : Vocabulary} {r : ℕ} → functionalRole r ∈ K → T (single K r)
-unfolding single
-single-stated {r = r} m = any-in (makesRoleSingle r) (at-any m (eqb-refl r))
-
-pub feature-stated : {K : Vocabulary} {f : ℕ} → functionalFeature f ∈ K → T (singleFeature K f)
-unfolding singleFeature
-feature-stated {f = f} m = any-in (makesFeatureSingle f) (at-any m (eqb-refl f))
-
-pub ranges-out : (K : Vocabulary) (r c : ℕ) → c ∈ ranges K r → range r c ∈ K
-ranges-out [] r c m = absurd (any-none m)
-ranges-out (below x y ∷ K) r c m = there (ranges-out K r c m)
-ranges-out (disjoint x y ∷ K) r c m = there (ranges-out K r c m)
-ranges-out (functionalRole q ∷ K) r c m = there (ranges-out K r c m)
-ranges-out (functionalFeature f ∷ K) r c m = there (ranges-out K r c m)
-ranges-out (range q d ∷ K) r c m = go (eqb r q) (λ t. eqb→eq r q t) (ranges-out K r c) m
+in-rangesIn : (l : List (ℕ × ℕ)) (r c : ℕ) → (r, c) ∈ l → c ∈ rangesIn l r
+in-rangesIn [] r c m = absurd (any-none m)
+in-rangesIn ((q, d) ∷ l) r c m = go (in-rangesIn l r c) (any-cases m) (eqb r q) refl
   where
-    first : r ≡ q → (c ≡ d) ⊎ (c ∈ ranges K r) → (c ∈ ranges K r → range r c ∈ K) → range r c ∈ range q d ∷ K
-    first e (inl k) f = here (ap₂ range e k)
+    first : _≡_ {A = ℕ × ℕ} (r, c) (q, d) → (b : Bool) → eqb r q ≡ b → c ∈ cond b (d ∷ rangesIn l r) (rangesIn l r)
+    first e true t = here (ap (λ (p : ℕ × ℕ). p .1) e)
+    first e false t = absurd (subst T t (subst (λ (k : ℕ). T (eqb r k)) (ap (λ (p : ℕ × ℕ). p .0) e) (eqb-refl r)))
+
+    later : c ∈ rangesIn l r → (b : Bool) → c ∈ cond b (d ∷ rangesIn l r) (rangesIn l r)
+    later k true = there k
+    later k false = k
+
+    go : ((r, c) ∈ l → c ∈ rangesIn l r) → (_≡_ {A = ℕ × ℕ} (r, c) (q, d)) ⊎ ((r, c) ∈ l) → (b : Bool) → eqb r q ≡ b →
+        c ∈ cond b (d ∷ rangesIn l r) (rangesIn l r)
+    go f (inl e) b t = first e b t
+    go f (inr k) b t = later (f k) b
+
+rangesIn-out : (l : List (ℕ × ℕ)) (r c : ℕ) → c ∈ rangesIn l r → (r, c) ∈ l
+rangesIn-out [] r c m = absurd (any-none m)
+rangesIn-out ((q, d) ∷ l) r c m = go (eqb r q) (λ t. eqb→eq r q t) (rangesIn-out l r c) m
+  where
+    first : r ≡ q → (c ≡ d) ⊎ (c ∈ rangesIn l r) → (c ∈ rangesIn l r → (r, c) ∈ l) → (r, c) ∈ (q, d) ∷ l
+    first e (inl k) f = here (ap₂ (λ (x y : ℕ). (x, y)) e k)
     first e (inr k) f = there (f k)
 
-    go : (b : Bool) → (T b → r ≡ q) → (c ∈ ranges K r → range r c ∈ K) → c ∈ cond b (d ∷ ranges K r) (ranges K r) → range r c ∈ range q d ∷ K
+    go : (b : Bool) → (T b → r ≡ q) → (c ∈ rangesIn l r → (r, c) ∈ l) → c ∈ cond b (d ∷ rangesIn l r) (rangesIn l r) → (r, c) ∈ (q, d) ∷ l
     go true e f k = first (e tt) (any-cases k) f
     go false e f k = there (f k)
 
-pub ranges-in : {K : Vocabulary} {r c : ℕ} → range r c ∈ K → c ∈ ranges K r
-ranges-in {r = r} {c = c} (here {l = K} e) = subst (λ x. c ∈ ranges (x ∷ K) r) e (go (eqb r r) (eqb-refl r))
-  where
-    go : (b : Bool) → T b → c ∈ cond b (c ∷ ranges K r) (ranges K r)
-    go true t = here refl
-    go false t = absurd t
-ranges-in {r = r} {c = c} (there {x = x} {l = K} m) = more x (ranges-in m)
-  where
-    more : (x : Axiom) → c ∈ ranges K r → c ∈ ranges (x ∷ K) r
-    more (below y z) k = k
-    more (disjoint y z) k = k
-    more (functionalRole q) k = k
-    more (functionalFeature f) k = k
-    more (range q d) k = go (eqb r q)
-      where
-        go : (b : Bool) → c ∈ cond b (d ∷ ranges K r) (ranges K r)
-        go true = there k
-        go false = k
+pub ranges-in : (K : Vocabulary) (r c : ℕ) → (r, c) ∈ rangePairs K → c ∈ ranges K r
+unfolding ranges
+ranges-in K r c m = in-rangesIn (rangePairs K) r c m
 
--- the classes that a vocabulary gives are among 1 to N
-pub record Bounded (N : ℕ) (K : Vocabulary) : Type 0 where
-  pub above : (a b : ℕ) → below a b ∈ K → Name N b
-  pub ranged : (r c : ℕ) → range r c ∈ K → Name N c
+pub ranges-out : (K : Vocabulary) (r c : ℕ) → c ∈ ranges K r → (r, c) ∈ rangePairs K
+unfolding ranges
+ranges-out K r c m = rangesIn-out (rangePairs K) r c m
+
+-- ---- what is stated, and what is obeyed
+
+-- what an axiom states is stated by the vocabulary
+module _ (K : Vocabulary) where
+  pub below-stated : (a b : ℕ) → below a b ∈ K .axioms → (a, b) ∈ subclasses K
+  unfolding subclasses
+  below-stated a b m = any-flatMap subclass (at-any m (here refl))
+
+  pub disjoint-stated : (a b : ℕ) → disjoint a b ∈ K .axioms → (a, b) ∈ disjointPairs K
+  unfolding disjointPairs
+  disjoint-stated a b m = any-flatMap disjointPair (at-any m (here refl))
+
+  pub functionalRole-stated : (r : ℕ) → functionalRole r ∈ K .axioms → T (isFunctionalRole K r)
+  unfolding isFunctionalRole functionalRoles
+  functionalRole-stated r m = any-in (eqb r) (any-flatMap functionalRoleName (at-any m (here (eqb-refl r))))
+
+  pub functionalFeature-stated : (f : ℕ) → functionalFeature f ∈ K .axioms → T (isFunctionalFeature K f)
+  unfolding isFunctionalFeature functionalFeatures
+  functionalFeature-stated f m = any-in (eqb f) (any-flatMap functionalFeatureName (at-any m (here (eqb-refl f))))
+
+  pub range-stated : (r c : ℕ) → range r c ∈ K .axioms → c ∈ ranges K r
+  unfolding rangePairs
+  range-stated r c m = ranges-in K r c (any-flatMap rangePair (at-any m (here refl)))
+
+  -- and so is whatever a selector takes from it
+  pub subclass-stated : (x : Axiom) → x ∈ K .axioms → (p : ℕ × ℕ) → p ∈ subclass x → p ∈ subclasses K
+  unfolding subclasses
+  subclass-stated x m p k = any-flatMap subclass (at-any m k)
+
+-- P of all that is stated, kind by kind
+pub record AllStated (P : Axiom → Type 0) (K : Vocabulary) : Type 0 where
+  pub subclass : (a b : ℕ) → (a, b) ∈ subclasses K → P (below a b)
+  pub apart : (a b : ℕ) → (a, b) ∈ disjointPairs K → P (disjoint a b)
+  pub role : (r : ℕ) → T (isFunctionalRole K r) → P (functionalRole r)
+  pub feature : (f : ℕ) → T (isFunctionalFeature K f) → P (functionalFeature f)
+  pub ranged : (r c : ℕ) → c ∈ ranges K r → P (range r c)
+
+module _ {P : Axiom → Type 0} (K : Vocabulary) where
+  pub all-stated : All P (K .axioms) → AllStated P K
+  unfolding subclasses disjointPairs isFunctionalRole functionalRoles isFunctionalFeature functionalFeatures rangePairs
+  all-stated s = record {
+    subclass = λ a b m. let h = all-any s (flatMap-any subclass (K .axioms) m) in below-of a b (h .0) (h .1) (h .2);
+    apart = λ a b m. let h = all-any s (flatMap-any disjointPair (K .axioms) m) in disjoint-of a b (h .0) (h .1) (h .2);
+    role = λ r t. let h = all-any s (flatMap-any functionalRoleName (K .axioms) (any-out (eqb r) (functionalRoles K) t)) in role-of r (h .0) (h .1) (h .2);
+    feature = λ f t. let h = all-any s (flatMap-any functionalFeatureName (K .axioms) (any-out (eqb f) (functionalFeatures K) t)) in feature-of f (h .0) (h .1) (h .2);
+    ranged = λ r c m. let h = all-any s (flatMap-any rangePair (K .axioms) (ranges-out K r c m)) in range-of r c (h .0) (h .1) (h .2);
+  }
+    where
+      below-of : (a b : ℕ) (x : Axiom) → P x → (a, b) ∈ subclass x → P (below a b)
+      below-of a b (below c d) o m = subst (λ (p : ℕ × ℕ). P (below (p .0) (p .1))) (sym (any-single m)) o
+      below-of a b (disjoint c d) o m = absurd (any-none m)
+      below-of a b (functionalRole r) o m = absurd (any-none m)
+      below-of a b (functionalFeature f) o m = absurd (any-none m)
+      below-of a b (range r c) o m = absurd (any-none m)
+
+      disjoint-of : (a b : ℕ) (x : Axiom) → P x → (a, b) ∈ disjointPair x → P (disjoint a b)
+      disjoint-of a b (below c d) o m = absurd (any-none m)
+      disjoint-of a b (disjoint c d) o m = subst (λ (p : ℕ × ℕ). P (disjoint (p .0) (p .1))) (sym (any-single m)) o
+      disjoint-of a b (functionalRole r) o m = absurd (any-none m)
+      disjoint-of a b (functionalFeature f) o m = absurd (any-none m)
+      disjoint-of a b (range r c) o m = absurd (any-none m)
+
+      role-of : (q : ℕ) (x : Axiom) → P x → Any (λ y. T (eqb q y)) (functionalRoleName x) → P (functionalRole q)
+      role-of q (below c d) o m = absurd (any-none m)
+      role-of q (disjoint c d) o m = absurd (any-none m)
+      role-of q (functionalRole r) o m = subst (λ (k : ℕ). P (functionalRole k)) (sym (eqb→eq q r (any-single m))) o
+      role-of q (functionalFeature f) o m = absurd (any-none m)
+      role-of q (range r c) o m = absurd (any-none m)
+
+      feature-of : (g : ℕ) (x : Axiom) → P x → Any (λ y. T (eqb g y)) (functionalFeatureName x) → P (functionalFeature g)
+      feature-of g (below c d) o m = absurd (any-none m)
+      feature-of g (disjoint c d) o m = absurd (any-none m)
+      feature-of g (functionalRole r) o m = absurd (any-none m)
+      feature-of g (functionalFeature f) o m = subst (λ (k : ℕ). P (functionalFeature k)) (sym (eqb→eq g f (any-single m))) o
+      feature-of g (range r c) o m = absurd (any-none m)
+
+      range-of : (q d : ℕ) (x : Axiom) → P x → (q, d) ∈ rangePair x → P (range q d)
+      range-of q d (below a b) o m = absurd (any-none m)
+      range-of q d (disjoint a b) o m = absurd (any-none m)
+      range-of q d (functionalRole r) o m = absurd (any-none m)
+      range-of q d (functionalFeature f) o m = absurd (any-none m)
+      range-of q d (range r c) o m = subst (λ (p : ℕ × ℕ). P (range (p .0) (p .1))) (sym (any-single m)) o
+
+  pub stated-all : AllStated P K → All P (K .axioms)
+  stated-all o = all-of (K .axioms) each
+    where
+      each : (x : Axiom) → x ∈ K .axioms → P x
+      each (below a b) m = o .subclass a b (below-stated K a b m)
+      each (disjoint a b) m = o .apart a b (disjoint-stated K a b m)
+      each (functionalRole r) m = o .role r (functionalRole-stated K r m)
+      each (functionalFeature f) m = o .feature f (functionalFeature-stated K f m)
+      each (range r c) m = o .ranged r c (range-stated K r c m)
+
+-- ---- what an axiom with names of v's states
+
+module _ (v : List ℕ) where
+  pub subclass-named : (x : Axiom) → AxiomOf v x → All (λ p. Name (classCount v) (p .0) × Name (classCount v) (p .1)) (subclass x)
+  subclass-named (below a b) n = cons n nil
+  subclass-named (disjoint a b) n = nil
+  subclass-named (functionalRole r) n = nil
+  subclass-named (functionalFeature f) n = nil
+  subclass-named (range r c) n = nil
+
+  pub rangePair-named : (x : Axiom) → AxiomOf v x → All (λ p. Name (roleCount v) (p .0) × Name (classCount v) (p .1)) (rangePair x)
+  rangePair-named (below a b) n = nil
+  rangePair-named (disjoint a b) n = nil
+  rangePair-named (functionalRole r) n = nil
+  rangePair-named (functionalFeature f) n = nil
+  rangePair-named (range r c) n = cons n nil
+
+-- an axiom states at most one pair of disjoint classes
+pub disjointPair-one : (x : Axiom) → length (disjointPair x) ≤ 1
+disjointPair-one (below a b) = omega arith
+disjointPair-one (disjoint a b) = omega arith
+disjointPair-one (functionalRole r) = omega arith
+disjointPair-one (functionalFeature f) = omega arith
+disjointPair-one (range r c) = omega arith
+
+-- ---- what record k states, by its kind
+
+module _ (v : List ℕ) (k : ℕ) where
+  pub subclass-at : axiomKind v k ≡ 1 → subclass (axiomAt v k) ≡ (axiomLeft v k, axiomRight v k) ∷ []
+  subclass-at e = rw e
+
+  pub subclass-other : (axiomKind v k ≡ 1 → ⊥) → subclass (axiomAt v k) ≡ []
+  subclass-other n = rw (ne-eqb (axiomKind v k) 1 n) (
+      split P (eqb (axiomKind v k) 2) (λ _. refl) (λ _. split P (eqb (axiomKind v k) 3) (λ _. refl) (λ _. split P (eqb (axiomKind v k) 4) (λ _. refl) (λ _. refl))))
+    where
+      P : Axiom → Type 0
+      P x = subclass x ≡ []
+
+  pub disjointPair-at : axiomKind v k ≡ 2 → disjointPair (axiomAt v k) ≡ (axiomLeft v k, axiomRight v k) ∷ []
+  disjointPair-at e = rw e
+
+  pub disjointPair-other : (axiomKind v k ≡ 2 → ⊥) → disjointPair (axiomAt v k) ≡ []
+  disjointPair-other n = rw (ne-eqb (axiomKind v k) 2 n) (
+      split P (eqb (axiomKind v k) 1) (λ _. refl) (λ _. split P (eqb (axiomKind v k) 3) (λ _. refl) (λ _. split P (eqb (axiomKind v k) 4) (λ _. refl) (λ _. refl))))
+    where
+      P : Axiom → Type 0
+      P x = disjointPair x ≡ []
+
+  pub functionalRoleName-at : axiomKind v k ≡ 3 → functionalRoleName (axiomAt v k) ≡ axiomLeft v k ∷ []
+  functionalRoleName-at e = rw e
+
+  pub functionalRoleName-other : (axiomKind v k ≡ 3 → ⊥) → functionalRoleName (axiomAt v k) ≡ []
+  functionalRoleName-other n = rw (ne-eqb (axiomKind v k) 3 n) (
+      split P (eqb (axiomKind v k) 1) (λ _. refl) (λ _. split P (eqb (axiomKind v k) 2) (λ _. refl) (λ _. split P (eqb (axiomKind v k) 4) (λ _. refl) (λ _. refl))))
+    where
+      P : Axiom → Type 0
+      P x = functionalRoleName x ≡ []
+
+  pub functionalFeatureName-at : axiomKind v k ≡ 4 → functionalFeatureName (axiomAt v k) ≡ axiomLeft v k ∷ []
+  functionalFeatureName-at e = rw e
+
+  pub functionalFeatureName-other : (axiomKind v k ≡ 4 → ⊥) → functionalFeatureName (axiomAt v k) ≡ []
+  functionalFeatureName-other n = rw (ne-eqb (axiomKind v k) 4 n) (
+      split P (eqb (axiomKind v k) 1) (λ _. refl) (λ _. split P (eqb (axiomKind v k) 2) (λ _. refl) (λ _. split P (eqb (axiomKind v k) 3) (λ _. refl) (λ _. refl))))
+    where
+      P : Axiom → Type 0
+      P x = functionalFeatureName x ≡ []
+
+  pub rangePair-at : axiomKind v k ≡ 5 → rangePair (axiomAt v k) ≡ (axiomLeft v k, axiomRight v k) ∷ []
+  rangePair-at e = rw e
+
+  -- a record that fits is of one of the five kinds
+  pub rangePair-other : axiomFits v k ≡ true → (axiomKind v k ≡ 5 → ⊥) → rangePair (axiomAt v k) ≡ []
+  rangePair-other f n =
+      choose So P (eqb (axiomKind v k) 1) (λ _ _. refl) (λ _.
+      choose So P (eqb (axiomKind v k) 2) (λ _ _. refl) (λ _.
+      choose So P (eqb (axiomKind v k) 3) (λ _ _. refl) (λ _.
+      choose So P (eqb (axiomKind v k) 4) (λ _ _. refl) (λ _ g. let u = simp tests at g in absurd (n (u .0)))))) f
+    where
+      P : Axiom → Type 0
+      P x = rangePair x ≡ []

@@ -8,17 +8,23 @@ use lib.Dec.{T, eqb, eqb-refl, eqb→eq, leb, leb→le, le→leb}
 use native.Mathlib.Omega.{arith}
 use Rattle.meaning.proofs.Canonical.{formed, satisfied}
 use Rattle.meaning.proofs.Closure.{below-sound}
-use Rattle.meaning.proofs.Picks.{Parts, Picked, PickedForm, PickedNode, Ready, filled-intervals, no-parts, none-picked, parts, picked}
+use Rattle.meaning.proofs.Forms.{HoldsForm, HoldsNode, HoldsSuccessors}
+use Rattle.meaning.proofs.Picks.{Parts, Picked, PickedForm, PickedNode, Ready, clean-nonEmpty, no-parts, none-picked, parts}
+use Rattle.meaning.proofs.Picks.{picked}
 use Rattle.meaning.proofs.Places.{Child, Place, True, places}
 use Rattle.meaning.proofs.Points.{Unparted, value-inside}
-use Rattle.meaning.proofs.Rules.{T-and, T-or, all-any, all-at, and-T, any-both, any-flatMap, any-in, any-left, any-mono, any-none, any-out, any-right, at-any, eqb-of, or-left, or-right}
-use Rattle.meaning.proofs.Stated.{Bounded}
-use Rattle.meaning.specs.Countermodel.{Fact, canonicalModel, individuals, size, stands}
-use Rattle.meaning.specs.Interpretation.{Holds, Interpretation, Satisfies, Within}
+use Rattle.meaning.proofs.Rules.{T-and, T-or, all-any, all-at, and-T, any-both, any-flatMap, any-in, any-left, any-mono}
+use Rattle.meaning.proofs.Rules.{any-none, any-out, any-right, at-any, eqb-of, or-left, or-right}
+use Rattle.meaning.specs.Countermodel.{canonicalModel, individuals, size}
+use Rattle.meaning.specs.Interpretation.{Holds, Interpretation, Satisfies}
+use Rattle.meaning.specs.Intervals.{Constraint, Within, valueOf}
 use Rattle.meaning.specs.Lists.{All, _∈_, any, cons, flatMap, here, nil, there}
-use Rattle.meaning.specs.NormalForm.{Form, HoldsForm, HoldsNode, HoldsSuccessors, Interval, Node, Successors, cleanNode, cleanSuccessors, filled, isBelow, none, successor}
+use Rattle.meaning.specs.Model.{Fact, stands}
+use Rattle.meaning.specs.Normal.{Bounded}
+use Rattle.meaning.specs.NormalForm.{Form, Node, Successors, cleanNode, cleanSuccessors, none, successor}
 use Rattle.meaning.specs.Policy.{Chain, Policy, class, end, impossible, interval, some}
-use Rattle.meaning.specs.Splitting.{ends, valueOf}
+use Rattle.meaning.specs.Splitting.{ends}
+use Rattle.meaning.specs.Stated.{isBelow}
 use Rattle.meaning.specs.Subsumption.{anySuccessor, includes, subsumed}
 use Rattle.meaning.specs.Vocabulary.{Vocabulary}
 
@@ -51,8 +57,8 @@ subsumed-sound I K s (some r child next) n under d t f g =
     let v = child-of I r (subsumed K child) under d (u .0) g in
     ((v .0, v .3, subsumed-sound I K s child (v .1) (v .2) (v .0) (v .4) (v .5) (v .6)), subsumed-sound I K s next n under d (u .1) f g)
 subsumed-sound I K s (interval h lo hi next) n under d t f g =
-    let u = T-and (any (includes h lo hi) (n .intervals)) (subsumed K next n under) t in
-    let v = all-any (f .intervals) (any-out (includes h lo hi) (n .intervals) (u .0)) in
+    let u = T-and (any (includes h lo hi) (n .constraints)) (subsumed K next n under) t in
+    let v = all-any (f .constraints) (any-out (includes h lo hi) (n .constraints) (u .0)) in
     let w = T-and (eqb h (v .0 .feature)) (leb lo (v .0 .lo) && leb (v .0 .hi) hi) (v .2) in
     let z = T-and (leb lo (v .0 .lo)) (leb (v .0 .hi) hi) (w .1) in
     let a : lo ≤ v .0 .lo = leb→le _ _ (z .0) in
@@ -60,21 +66,21 @@ subsumed-sound I K s (interval h lo hi next) n under d t f g =
     ((v .1 .0, subst (λ (x : ℕ). I .hasValue x d (v .1 .0)) (sym (eqb→eq _ _ (w .0))) (v .1 .1), (omega arith, omega arith)), subsumed-sound I K s next n under d (u .1) f g)
 
 -- interval safe: no end of Q parts a piece
-abbrev pub SafePiece : Policy → Interval → Type 0
+abbrev pub SafePiece : Policy → Constraint → Type 0
 SafePiece Q p = (p .lo ≤ p .hi) × ((e : ℕ) → e ∈ flatMap (ends (p .feature)) Q → Unparted p e)
 
 abbrev pub Safe : Policy → Successors → Type 0
 Safe Q none = Unit {0}
-Safe Q (successor r n under next) = All (SafePiece Q) (n .intervals) × Safe Q under × Safe Q next
+Safe Q (successor r n under next) = All (SafePiece Q) (n .constraints) × Safe Q under × Safe Q next
 
-parts-safe : {Q : Policy} {l m : List Interval} → Parts Q l m → All (SafePiece Q) m
+parts-safe : {Q : Policy} {l m : List Constraint} → Parts Q l m → All (SafePiece Q) m
 parts-safe no-parts = nil
 parts-safe {Q} (parts {p = p} a b) =
     cons (a .inside .filled, λ e m. a .safe e (subst (λ (f : ℕ). e ∈ flatMap (ends f) Q) (a .inside .same) m)) (parts-safe b)
 
 pub picked-safe : {Q : Policy} {under inner : Successors} → Picked Q under inner → Safe Q inner
 picked-safe none-picked = tt
-picked-safe (picked a b c) = (parts-safe (a .intervals), picked-safe b, picked-safe c)
+picked-safe (picked a b c) = (parts-safe (a .constraints), picked-safe b, picked-safe c)
 
 -- every end that the chain states is an end of Q
 abbrev pub EndsIn : Policy → Chain → Type 0
@@ -95,18 +101,18 @@ front Q f lo hi next k = (k f lo (go (eqb f f) (eqb-refl f) (here refl)), k f hi
     behind g e true m = there (there m)
     behind g e false m = m
 
-module _ (N : ℕ) (K : Vocabulary) (Q : Policy) (m : ℕ) (F : List Fact) (h : ℕ → Place N K) (true-there : All (True N K h) F) where
-  child-in : (r j : ℕ) (f : Node → Successors → Bool) (y : Place N K) (under : Successors) (s : ℕ) → Child N K r j y under s → Safe Q under →
-      (All (SafePiece Q) (y .node .intervals) → Safe Q (y .successors) → T (f (y .node) (y .successors))) → T (anySuccessor r f under)
+module _ (K : Vocabulary) (Q : Policy) (m : ℕ) (F : List Fact) (h : ℕ → Place K) (true-there : All (True K h) F) where
+  child-in : (r j : ℕ) (f : Node → Successors → Bool) (y : Place K) (under : Successors) (s : ℕ) → Child K r j y under s → Safe Q under →
+      (All (SafePiece Q) (y .node .constraints) → Safe Q (y .successors) → T (f (y .node) (y .successors))) → T (anySuccessor r f under)
   child-in r j f y none s c a t = c
   child-in r j f y (successor q n under next) s (inl c) a t =
-      let b = t (subst (λ (z : Node). All (SafePiece Q) (z .intervals)) (sym (c .2)) (a .0)) (subst (Safe Q) (sym (c .3)) (a .1)) in
+      let b = t (subst (λ (z : Node). All (SafePiece Q) (z .constraints)) (sym (c .2)) (a .0)) (subst (Safe Q) (sym (c .3)) (a .1)) in
       or-left (eqb r q && f n under) (anySuccessor r f next)
       (and-T (eqb r q) (f n under) (eqb-of r q (c .0)) (subst (λ (z : Successors). T (f n z)) (c .3) (subst (λ (z : Node). T (f z (y .successors))) (c .2) b)))
   child-in r j f y (successor q n under next) s (inr c) a t = or-right (eqb r q && f n under) (anySuccessor r f next) (child-in r j f y next (suc s + size under) c (a .2) t)
 
   -- a value inside lo..hi is the value of a piece inside lo..hi
-  piece-in : (f lo hi v : ℕ) (s : Interval) → lo ∈ flatMap (ends f) Q → hi ∈ flatMap (ends f) Q → Within lo hi v → SafePiece Q s → (f ≡ s .feature) × (v ≡ valueOf s) → T (includes f lo hi s)
+  piece-in : (f lo hi v : ℕ) (s : Constraint) → lo ∈ flatMap (ends f) Q → hi ∈ flatMap (ends f) Q → Within lo hi v → SafePiece Q s → (f ≡ s .feature) × (v ≡ valueOf s) → T (includes f lo hi s)
   piece-in f lo hi v s l u w a e =
       let x = a .1 lo (subst (λ (g : ℕ). lo ∈ flatMap (ends g) Q) (e .0) l) in
       let y = a .1 hi (subst (λ (g : ℕ). hi ∈ flatMap (ends g) Q) (e .0) u) in
@@ -115,7 +121,7 @@ module _ (N : ℕ) (K : Vocabulary) (Q : Policy) (m : ℕ) (F : List Fact) (h : 
       and-T (eqb f (s .feature)) (leb lo (s .lo) && leb (s .hi) hi) (eqb-of f (s .feature) (e .0))
       (and-T (leb lo (s .lo)) (leb (s .hi) hi) (le→leb lo (s .lo) (x .0 (omega arith))) (le→leb (s .hi) hi (y .1 (omega arith))))
 
-  subsumed-at : (q : Chain) → EndsIn Q q → (i : ℕ) → All (SafePiece Q) (h i .node .intervals) → Safe Q (h i .successors) → Holds (stands m F) q i →
+  subsumed-at : (q : Chain) → EndsIn Q q → (i : ℕ) → All (SafePiece Q) (h i .node .constraints) → Safe Q (h i .successors) → Holds (stands m F) q i →
       T (subsumed K q (h i .node) (h i .successors))
   subsumed-at end k i a b t = tt
   subsumed-at (class c next) k i a b t =
@@ -131,28 +137,28 @@ module _ (N : ℕ) (K : Vocabulary) (Q : Policy) (m : ℕ) (F : List Fact) (h : 
   subsumed-at (interval f lo hi next) k i a b t =
       let v = t .0 in
       let g = front Q f lo hi next k in
-      and-T (any (includes f lo hi) (h i .node .intervals)) (subsumed K next (h i .node) (h i .successors))
+      and-T (any (includes f lo hi) (h i .node .constraints)) (subsumed K next (h i .node) (h i .successors))
       (any-in (includes f lo hi) (any-mono (λ s e. piece-in f lo hi (v .0) s (g .0) (g .1) (v .2) (e .0) (e .1)) (any-both a (all-at true-there (v .1)))))
       (subsumed-at next (g .2) i a b (t .1))
 
 -- from the canonical model to Algorithm 1
-pub subsumed-complete : (N : ℕ) (K : Vocabulary) (Q : Policy) (t u : Form) → Ready N K u → PickedForm Q t u → (q : Chain) → q ∈ Q →
-    Holds (stands (individuals u) (canonicalModel N K u)) q 1 → T (subsumed K q (u .node) (u .successors))
-subsumed-complete N K Q t u r p q m h =
-    let w = places N K u r in
-    let safe = parts-safe (p .node .intervals) in
+pub subsumed-complete : (K : Vocabulary) (Q : Policy) (t u : Form) → Ready K u → PickedForm Q t u → (q : Chain) → q ∈ Q →
+    Holds (stands (individuals u) (canonicalModel K u)) q 1 → T (subsumed K q (u .node) (u .successors))
+subsumed-complete K Q t u r p q m h =
+    let w = places K u r in
+    let safe = parts-safe (p .node .constraints) in
     let e = w .1 in
-    subst (λ (x : Place N K). T (subsumed K q (x .node) (x .successors))) e
-    (subsumed-at N K Q (individuals u) (canonicalModel N K u) (w .0) (w .2) q (ends-in m) 1
-    (subst (λ (x : Place N K). All (SafePiece Q) (x .node .intervals)) (sym e) safe) (subst (λ (x : Place N K). Safe Q (x .successors)) (sym e) (picked-safe (p .successors))) h)
+    subst (λ (x : Place K). T (subsumed K q (x .node) (x .successors))) e
+    (subsumed-at K Q (individuals u) (canonicalModel K u) (w .0) (w .2) q (ends-in m) 1
+    (subst (λ (x : Place K). All (SafePiece Q) (x .node .constraints)) (sym e) safe) (subst (λ (x : Place K). Safe Q (x .successors)) (sym e) (picked-safe (p .successors))) h)
 
 -- a form with no empty constraint is a combination of itself against no policy
-self-parts : {l : List Interval} → All (λ s. s .lo ≤ s .hi) l → Parts [] l l
+self-parts : {l : List Constraint} → All (λ s. s .lo ≤ s .hi) l → Parts [] l l
 self-parts nil = no-parts
 self-parts (cons {x = s} h k) = parts {s = s} {p = s} (record { inside = record { same = refl; low = omega arith; filled = h; high = omega arith }; safe = λ e m. absurd (any-none m) }) (self-parts k)
 
 self-node : (K : Vocabulary) (n : Node) → T (cleanNode K n) → PickedNode [] n n
-self-node K n t = record { classes = refl; intervals = self-parts (filled-intervals K n t) }
+self-node K n t = record { classes = refl; constraints = self-parts (clean-nonEmpty K n t) }
 
 self-picked : (K : Vocabulary) (under : Successors) → T (cleanSuccessors K under) → Picked [] under under
 self-picked K none t = none-picked
@@ -162,12 +168,12 @@ self-picked K (successor r n under next) t =
     picked (self-node K n (a .0)) (self-picked K under (b .0)) (self-picked K next (b .1))
 
 -- Lemma 3: on a combination Algorithm 1 answers yes exactly where the canonical model has individual 1 in the term
-pub lemma3 : (N : ℕ) (K : Vocabulary) → Bounded N K → (Q : Policy) (t u : Form) → Ready N K u → PickedForm Q t u → (q : Chain) → q ∈ Q →
-    T (subsumed K q (u .node) (u .successors)) ↔ Holds (stands (individuals u) (canonicalModel N K u)) q 1
-lemma3 N K w Q t u r p q m = (
-  λ s. subsumed-sound (stands (individuals u) (canonicalModel N K u)) K (satisfied N K w u r) q (u .node) (u .successors) 1 s (itself .node) (itself .successors),
-  subsumed-complete N K Q t u r p q m,
+pub lemma3 : (K : Vocabulary) → Bounded K → (Q : Policy) (t u : Form) → Ready K u → PickedForm Q t u → (q : Chain) → q ∈ Q →
+    T (subsumed K q (u .node) (u .successors)) ↔ Holds (stands (individuals u) (canonicalModel K u)) q 1
+lemma3 K w Q t u r p q m = (
+  λ s. subsumed-sound (stands (individuals u) (canonicalModel K u)) K (satisfied K w u r) q (u .node) (u .successors) 1 s (itself .node) (itself .successors),
+  subsumed-complete K Q t u r p q m,
 )
   where
-    itself : HoldsForm (stands (individuals u) (canonicalModel N K u)) u 1
-    itself = formed N K w u r u (record { node = self-node K (u .node) (r .clean); successors = self-picked K (u .successors) (r .clean-successors) })
+    itself : HoldsForm (stands (individuals u) (canonicalModel K u)) u 1
+    itself = formed K w u r u (record { node = self-node K (u .node) (r .clean); successors = self-picked K (u .successors) (r .clean-successors) })

@@ -1,50 +1,55 @@
 -- Normal form is by Table 1: no rule applies to the normal form of a possible term, and a term is impossible exactly where rules make it ⊥.
-use Prim.Native.Nat.{_<_, ℕ}
+use Prim.Native.Nat.{ℕ}
 use mathlib.Core.Bool.{_&&_, false, not}
 use mathlib.Core.List.{List}
 use mathlib.Core.Logic.{_↔_, _⊎_, inl, inr, ⊎-elim, ⊎-map}
 use mathlib.Core.Path.{_∙_, _≡_, subst, sym}
 use lib.Dec.{T, T-not, leb, nleb→lt, not-T}
 use native.Mathlib.Omega.{arith}
-use Rattle.meaning.proofs.Neat.{Distinct, Fresh, Neat, NeatNode, always-neat}
-use Rattle.meaning.proofs.Picks.{filled-intervals, no-clash}
-use Rattle.meaning.proofs.Rules.{T-and, all-any, all-at, any-at, any-mono, any-out, at-any, isFalse, not-all, not-and, not-not, notTrue}
-use Rattle.meaning.proofs.Stated.{ranges-in}
+use Rattle.meaning.proofs.Normal.{normalForm-normal-unbounded}
+use Rattle.meaning.proofs.Picks.{clean-nonEmpty, no-clash}
+use Rattle.meaning.proofs.Rules.{T-and, all-any, all-at, any-at, any-mono, any-out, at-any, isFalse, not-all, not-and}
+use Rattle.meaning.proofs.Rules.{not-not, notTrue}
+use Rattle.meaning.specs.Intervals.{Constraint, Empty}
 use Rattle.meaning.specs.Lists.{Any, _∈_, all}
-use Rattle.meaning.specs.NormalForm.{Form, Interval, Node, Successors, blocked, clash, cleanNode, cleanSuccessors, compatible, filled, isBelow, none, normalForm, possible, separates, singleFeature, successor}
+use Rattle.meaning.specs.Normal.{Distinct, Fresh, NormalNode, NormalSuccessors}
+use Rattle.meaning.specs.NormalForm.{Form, Node, Successors, areNonEmpty, clash, cleanNode, cleanSuccessors, compatible}
+use Rattle.meaning.specs.NormalForm.{hasBottom, none, normalForm, possible, successor}
 use Rattle.meaning.specs.Policy.{Chain}
-use Rattle.meaning.specs.TableOne.{Applies, AppliesAt, AppliesIn, ByRole, Two, atLater, atThis, belowThis, byFirst, byLater, collapses, firstOfTwo, rule3, rule4, rule5, rule6, rule7, twoLater}
-use Rattle.meaning.specs.Vocabulary.{Axiom, Vocabulary, below, disjoint, functionalFeature, functionalRole, range}
+use Rattle.meaning.specs.Stated.{disjointPairs, isBelow, isFunctionalFeature}
+use Rattle.meaning.specs.TableOne.{Applies, AppliesAt, AppliesIn, ByRole, Two, atLater, atThis, belowThis, byFirst, byLater}
+use Rattle.meaning.specs.TableOne.{collapses, firstOfTwo, rule3, rule4, rule5, rule6, rule7, twoLater}
+use Rattle.meaning.specs.Vocabulary.{Vocabulary}
 
 -- rule 5 at a functional feature that is constrained once, rule 4 at a functional role that stands once
-once : (K : Vocabulary) {f : ℕ} {l : List Interval} → T (singleFeature K f) → Distinct K l → Two (λ s t. (f ≡ s .feature) × (f ≡ t .feature)) l → ⊥
+once : (K : Vocabulary) {f : ℕ} {l : List Constraint} → T (isFunctionalFeature K f) → Distinct K l → Two (λ s t. (f ≡ s .feature) × (f ≡ t .feature)) l → ⊥
 once K t w (firstOfTwo h) =
     let e = any-at h in
-    all-at (w .0 (subst (λ (g : ℕ). T (singleFeature K g)) (e .2 .0) t)) (e .1) (sym (e .2 .0) ∙ e .2 .1)
+    all-at (w .0 (subst (λ (g : ℕ). T (isFunctionalFeature K g)) (e .2 .0) t)) (e .1) (sym (e .2 .0) ∙ e .2 .1)
 once K t w (twoLater h) = once K t (w .1) h
 
 not-fresh : {r : ℕ} {under : Successors} → Fresh r under → ByRole r under → ⊥
 not-fresh w (byFirst e) = w .0 e
 not-fresh w (byLater h) = not-fresh (w .1) h
 
--- in a neat form no other rule than 3 and 7 applies
+-- in a normal form no other rule than 3 and 7 applies
 module _ (B : ℕ → Type 0) (K : Vocabulary) where
-  neat-at : {k : ℕ} {n : Node} → NeatNode B K n → AppliesAt K k n → T (collapses k)
-  neat-at w (rule3 h) = tt
-  neat-at w (rule5 t h) = absurd (once K t (w .distinct) h)
-  neat-at w (rule7 m a b) = tt
+  normal-at : {k : ℕ} {n : Node} → NormalNode B K n → AppliesAt K k n → T (collapses k)
+  normal-at w (rule3 h) = tt
+  normal-at w (rule5 t h) = absurd (once K t (w .distinct) h)
+  normal-at w (rule7 m a b) = tt
 
-  neat-in : {k : ℕ} {under : Successors} → Neat B K under → AppliesIn K k under → T (collapses k)
-  neat-in w (rule4 t h) = absurd (not-fresh (w .0 t) h)
-  neat-in w (rule6 m h) = absurd (h (all-at (w .1) (ranges-in m)))
-  neat-in w (atThis h) = neat-at (w .2) h
-  neat-in w (belowThis h) = neat-in (w .3) h
-  neat-in w (atLater h) = neat-in (w .4) h
+  normal-in : {k : ℕ} {under : Successors} → NormalSuccessors B K under → AppliesIn K k under → T (collapses k)
+  normal-in w (rule4 t h) = absurd (not-fresh (w .0 t) h)
+  normal-in w (rule6 m h) = absurd (h (all-at (w .1) m))
+  normal-in w (atThis h) = normal-at (w .2) h
+  normal-in w (belowThis h) = normal-in (w .3) h
+  normal-in w (atLater h) = normal-in (w .4) h
 
 module _ (K : Vocabulary) where
   -- in a clean form neither of the two does
   clean-at : {k : ℕ} {n : Node} → T (cleanNode K n) → AppliesAt K k n → T (not (collapses k))
-  clean-at {n = n} t (rule3 h) = let e = all-any (filled-intervals K n t) h in absurd (omega arith)
+  clean-at {n = n} t (rule3 h) = let e = all-any (clean-nonEmpty K n t) h in absurd (omega arith)
   clean-at t (rule5 u h) = tt
   clean-at {n = n} t (rule7 {x = x} {y = y} m a b) = absurd (no-clash K n t x y m a b)
 
@@ -57,20 +62,16 @@ module _ (K : Vocabulary) where
 
   -- in one that is not clean one of them does
   clashing : (n : Node) (a b : ℕ) → a ∈ n .classes → b ∈ n .classes → T (clash K a b) → AppliesAt K 7 n
-  clashing n a b p q t = let x = any-at (any-out (separates K a b) K t) in go (x .0) (x .1) (x .2)
-    where
-      go : (x : Axiom) → x ∈ K → T (separates K a b x) → AppliesAt K 7 n
-      go (below x y) m u = absurd u
-      go (disjoint x y) m u = let w = T-and (isBelow K a x) (isBelow K b y) u in rule7 m (at-any p (w .0)) (at-any q (w .1))
-      go (functionalRole r) m u = absurd u
-      go (functionalFeature f) m u = absurd u
-      go (range r c) m u = absurd u
+  clashing n a b p q t =
+      let x = any-at (any-out (λ d. isBelow K a (d .0) && isBelow K b (d .1)) (disjointPairs K) t) in
+      let w = T-and (isBelow K a (x .0 .0)) (isBelow K b (x .0 .1)) (x .2) in
+      rule7 {x = x .0 .0} {y = x .0 .1} (x .1) (at-any p (w .0)) (at-any q (w .1))
 
   unclean-at : (n : Node) → T (not (cleanNode K n)) → AppliesAt K 3 n ⊎ AppliesAt K 7 n
-  unclean-at n t = ⊎-map (λ u. rule3 (empty u)) clashes (not-and (filled (n .intervals)) (compatible K (n .classes)) t)
+  unclean-at n t = ⊎-map (λ u. rule3 (empty u)) clashes (not-and (areNonEmpty (n .constraints)) (compatible K (n .classes)) t)
     where
-      empty : T (not (filled (n .intervals))) → Any (λ s. s .hi < s .lo) (n .intervals)
-      empty u = any-mono (λ s v. nleb→lt (s .lo) (s .hi) v) (not-all (λ s. leb (s .lo) (s .hi)) (n .intervals) u)
+      empty : T (not (areNonEmpty (n .constraints))) → Any (λ s. Empty (s .lo) (s .hi)) (n .constraints)
+      empty u = any-mono (λ s v. nleb→lt (s .lo) (s .hi) v) (not-all (λ s. leb (s .lo) (s .hi)) (n .constraints) u)
 
       clashes : T (not (compatible K (n .classes))) → AppliesAt K 7 n
       clashes u =
@@ -93,19 +94,19 @@ module _ (K : Vocabulary) where
   module _ (p : Chain) where
     -- rules 4, 5 and 6 apply nowhere in a normal form
     pub only-collapses : {k : ℕ} → Applies K k (normalForm K p) → T (collapses k)
-    only-collapses h = ⊎-elim (neat-at _ K (always-neat K p .node)) (neat-in _ K (always-neat K p .successors)) h
+    only-collapses h = ⊎-elim (normal-at _ K (normalForm-normal-unbounded K p .node)) (normal-in _ K (normalForm-normal-unbounded K p .successors)) h
 
     -- "Normal form is by Table 1's seven rules": none applies to that of a possible term
     pub no-rule : T (possible K p) → {k : ℕ} → Applies K k (normalForm K p) → ⊥
     unfolding possible
     no-rule t {k} h =
-        let a = T-and (cleanNode K (normalForm K p .node)) _ (T-and (not (blocked p)) _ t .1) in
+        let a = T-and (cleanNode K (normalForm K p .node)) _ (T-and (not (hasBottom p)) _ t .1) in
         T-not (collapses k) (⊎-elim (clean-at (a .0)) (clean-in (a .1)) h) (only-collapses h)
 
     -- a term is impossible exactly where it has the impossible concept, or rule 3 or 7 applies in its normal form
-    pub impossible-by-rules : (possible K p ≡ false) ↔ (T (blocked p) ⊎ (Applies K 3 (normalForm K p) ⊎ Applies K 7 (normalForm K p)))
+    pub impossible-by-rules : (possible K p ≡ false) ↔ (T (hasBottom p) ⊎ (Applies K 3 (normalForm K p) ⊎ Applies K 7 (normalForm K p)))
     unfolding possible
     impossible-by-rules = (
-      λ e. ⊎-map (not-not (blocked p)) (unclean (normalForm K p)) (not-and (not (blocked p)) _ (not-T (possible K p) (notTrue e))),
-      λ h. isFalse (possible K p) (λ t. ⊎-elim (T-not (blocked p) (T-and (not (blocked p)) _ t .0)) (⊎-elim (no-rule t) (no-rule t)) h),
+      λ e. ⊎-map (not-not (hasBottom p)) (unclean (normalForm K p)) (not-and (not (hasBottom p)) _ (not-T (possible K p) (notTrue e))),
+      λ h. isFalse (possible K p) (λ t. ⊎-elim (T-not (hasBottom p) (T-and (not (hasBottom p)) _ t .0)) (⊎-elim (no-rule t) (no-rule t)) h),
     )

@@ -5,11 +5,14 @@ use mathlib.Core.Path.{_≡_, fun-ext, refl}
 use lib.ListN.{getD, length}
 use native.Mathlib.Nat.{add-zero}
 use native.Mathlib.Omega.{arith}
-use Rattle.meaning.specs.ModelCheck.{factsFrom, factsOf, factsRefusal, modelRefusal}
-use Rattle.meaning.specs.Operations.{compliance, equality, inputRefusal, modelCheck, possibility, readPolicy, readSecondPolicy, readVocabulary}
+use Rattle.meaning.specs.Model.{factsFrom, factsOf, factsRefusal, modelRefusal}
+use Rattle.meaning.specs.Operations.{compliance, equality, inputRefusal, modelCheck, possibility, readPolicy}
+use Rattle.meaning.specs.Operations.{readSecondPolicy, readVocabulary}
 use Rattle.meaning.specs.Policy.{chainFrom, policyOf, policyRefusal, termsFrom, walk}
-use Rattle.meaning.specs.Reached.{ReachedAxiom, ReachedFact, ReachedRecord, Same, SameCounts, SameModel, SamePolicy, SameRecord, SameVocabulary, axiomByHeader, axiomByNext, factByHeader, factByNext, recordByChild, recordByHeader, recordByNext}
-use Rattle.meaning.specs.Vocabulary.{axiomsFrom, axiomsRefusal, vocabularyOf, vocabularyRefusal}
+use Rattle.meaning.specs.Reached.{ReachedAxiom, ReachedFact, ReachedRecord, Same, SameCounts, SameModel, SamePolicy}
+use Rattle.meaning.specs.Reached.{SameRecord, SameVocabulary, axiomByHeader, axiomByNext, factByHeader, factByNext}
+use Rattle.meaning.specs.Reached.{recordByChild, recordByHeader, recordByNext}
+use Rattle.meaning.specs.Vocabulary.{axiomsFrom, axiomsOf, axiomsRefusal, vocabularyOf, vocabularyRefusal}
 
 -- words 0 to n of record k are equal, one equation each
 abbrev Words : ℕ → List ℕ → List ℕ → ℕ → ℕ → Type 0
@@ -49,7 +52,7 @@ module _ {v v′ : List ℕ} (S : SameVocabulary v v′) where
   vocabulary-refused = let same = agree S axiomByHeader in let chain = axioms-refused (length v) _ axiomByHeader in cc
 
   pub vocabulary-read : vocabularyOf v ≡ vocabularyOf v′
-  unfolding vocabularyOf
+  unfolding vocabularyOf axiomsOf
   vocabulary-read = let same = agree S axiomByHeader in let chain = axioms-read (length v) _ axiomByHeader in cc
 
   pub counted : SameCounts v v′

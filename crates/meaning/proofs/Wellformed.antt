@@ -7,26 +7,19 @@ use lib.Dec.{eqb, eqb·suc-zero}
 use lib.ListN.{length}
 use native.Mathlib.Omega.{arith}
 use borrow.Author.Tests.{eqb-false}
-use Rattle.meaning.proofs.Links.{Enough, Once, Name, choose, enough-end, falling-le, once-few, once-more, once-none, passed, split, tests}
-use Rattle.meaning.proofs.Terms.{ChainOf, Here, NamedChain, Reads, ReadsTerms, chain-at, chain-is, child-enough, count, depth, next-enough, reads-class, reads-end, reads-impossible, reads-interval, reads-none, reads-some, reads-term, total}
+use Rattle.meaning.proofs.Links.{Once, choose, enough-end, falling-le, once-few, once-more, once-none, passed, split, tests}
+use Rattle.meaning.proofs.Terms.{chain-at, chain-is, child-enough, next-enough}
+use Rattle.meaning.specs.Accepted.{Accepted, AxiomOf, ChainOf, Here, NamedChain, Reads, ReadsTerms, count, depth, reads-class}
+use Rattle.meaning.specs.Accepted.{reads-end, reads-impossible, reads-interval, reads-none, reads-some, reads-term, total}
+use Rattle.meaning.specs.Limits.{mostClasses, mostFeatures, mostPolicyWords, mostRoles}
 use Rattle.meaning.specs.Lists.{All, any, cons, nil}
-use Rattle.meaning.specs.Policy.{Chain, Policy, Walk, chainFrom, childOf, conjunctAt, end, fault, faultOf, firstTerm, kindOf, nextOf, onward, policyOf, policyRefusal, reached, recordFits, soundRecord, termsFrom, walk}
-use Rattle.meaning.specs.Records.{lastOf}
-use Rattle.meaning.specs.Vocabulary.{Axiom, axiomAt, axiomFits, axiomKind, axiomNext, axiomsFrom, axiomsRefusal, below, classCount, disjoint, featureCount, firstAxiom, functionalFeature, functionalRole, mostClasses, range, roleCount, vocabularyOf, vocabularyRefusal}
+use Rattle.meaning.specs.Policy.{Chain, Policy, Walk, chainFrom, childOf, conjunctAt, end, fault, faultOf, firstTerm, kindOf}
+use Rattle.meaning.specs.Policy.{nextOf, onward, policyOf, policyRefusal, reached, recordFits, soundRecord, termsFrom, walk}
+use Rattle.meaning.specs.Records.{Enough, Name, lastOf}
+use Rattle.meaning.specs.Vocabulary.{axiomAt, axiomFits, axiomKind, axiomNext, axiomsFrom, axiomsOf, axiomsRefusal}
+use Rattle.meaning.specs.Vocabulary.{classCount, featureCount, firstAxiom, roleCount, vocabularyOf, vocabularyRefusal}
 
 -- ---- the vocabulary
-
--- each name between 1 and its series' count
-abbrev pub NamedAxiom : ℕ → ℕ → ℕ → Axiom → Type 0
-NamedAxiom N R F (below a b) = Name N a × Name N b
-NamedAxiom N R F (disjoint a b) = Name N a × Name N b
-NamedAxiom N R F (functionalRole r) = Name R r
-NamedAxiom N R F (functionalFeature f) = Name F f
-NamedAxiom N R F (range r c) = Name R r × Name N c
-
--- by the counts of v
-abbrev pub AxiomOf : List ℕ → Axiom → Type 0
-AxiomOf v x = NamedAxiom (classCount v) (roleCount v) (featureCount v) x
 
 module _ (v : List ℕ) where
   pub axiom-named : (k : ℕ) → axiomFits v k ≡ true → AxiomOf v (axiomAt v k)
@@ -42,11 +35,11 @@ module _ (v : List ℕ) where
       choose (λ (n : ℕ). n ≡ 0) (All (AxiomOf v)) (eqb k 0) (λ _ _. nil) (λ _ h.
       let u = simp (passed 2, tests) at h in cons (axiom-named k (u .0 .0)) (axioms-named f (axiomNext v k) (u .1)))
 
-  pub accepted-axioms : vocabularyRefusal v ≡ 0 → All (NamedAxiom (classCount v) (roleCount v) (featureCount v)) (vocabularyOf v)
-  unfolding vocabularyRefusal vocabularyOf
+  pub accepted-axioms : vocabularyRefusal v ≡ 0 → All (AxiomOf v) (vocabularyOf v .axioms)
+  unfolding vocabularyRefusal vocabularyOf axiomsOf
   accepted-axioms h = let u = simp (passed 0, passed 1, tests) at h in axioms-named (length v) (firstAxiom v) (u .1 .1)
 
-  pub accepted-counts : vocabularyRefusal v ≡ 0 → Name mostClasses (classCount v) × (roleCount v ≤ 64) × (featureCount v ≤ 64)
+  pub accepted-counts : vocabularyRefusal v ≡ 0 → Name mostClasses (classCount v) × (roleCount v ≤ mostRoles) × (featureCount v ≤ mostFeatures)
   unfolding vocabularyRefusal
   accepted-counts h = let u = simp (passed 0, passed 1, tests) at h in omega arith
 
@@ -167,14 +160,6 @@ module _ (v p : List ℕ) where
       then (walked f 0 (childOf p k) (k ∷ seen) (child-enough (w .here) h) (omega arith))
       (λ s b. also (λ t c. rw (z, chain-at (b .reads)) (term w b c)) (terms-walked f (nextOf p k) s (next-enough (w .here) h))))
 
--- what an accepted policy's words say: they are terms, with names of v's, of at most 16 levels, and no record is in two places
-pub record Accepted (v p : List ℕ) : Type 0 where
-  pub reads : ReadsTerms p (firstTerm p) (policyOf p)
-  pub named : All (ChainOf v) (policyOf p)
-  pub shallow : All (λ c. depth c ≤ 16) (policyOf p)
-  pub few : total (policyOf p) ≤ lastOf 6 p
-  pub small : lastOf 6 p ≤ 512
-
 pub accepted : (v p : List ℕ) → policyRefusal v p ≡ 0 → Accepted v p
 unfolding policyRefusal policyOf
 accepted v p h =
@@ -182,7 +167,7 @@ accepted v p h =
     let enough = falling-le (lastOf 6 p) (firstTerm p) in
     go (u .0 .1 .1) (terms-walked v p (length p) (firstTerm p) [] (u .1 .0 .0, omega arith)) (u .1 .1)
   where
-    go : length p ≤ 3078 → {w : Walk} → Walked (λ s. Termed v p (firstTerm p) [] s (policyOf p)) w → faultOf w ≡ 0 → Accepted v p
+    go : length p ≤ mostPolicyWords → {w : Walk} → Walked (λ s. Termed v p (firstTerm p) [] s (policyOf p)) w → faultOf w ≡ 0 → Accepted v p
     go l faulted e = absurd (omega arith)
     go l (arrived a) e = record {
       reads = a .reads;

@@ -16,19 +16,24 @@ use Rattle.meaning.proofs.Containment.{witness}
 use Rattle.meaning.proofs.Equality.{equality-compared}
 use Rattle.meaning.proofs.ModelWords.{model-accepted}
 use Rattle.meaning.proofs.Picks.{PickedForm}
-use Rattle.meaning.proofs.Refusals.{AcceptedInput, accepted-input, cond-all, or-zero, unless-all}
+use Rattle.meaning.proofs.Refusals.{accepted-input, cond-all, or-zero, unless-all}
 use Rattle.meaning.proofs.Rules.{all-at, any-right}
 use Rattle.meaning.proofs.Sizes.{form-picked, model-few, model-named, named-picked, normal-named, normal-weight, size-weight}
-use Rattle.meaning.proofs.Terms.{count, each-few}
+use Rattle.meaning.proofs.Terms.{each-few}
 use Rattle.meaning.proofs.Wellformed.{accepted, accepted-counts}
-use Rattle.meaning.specs.Answers.{Answer, answeredYes, differs, outside}
+use Rattle.meaning.specs.Accepted.{count}
+use Rattle.meaning.specs.Answers.{Answer, CheckResult, ComparisonResult, VerdictResult, differs, outside, result, yes}
 use Rattle.meaning.specs.Countermodel.{canonicalModel, countermodel, individuals}
+use Rattle.meaning.specs.Limits.{mostFacts, mostIndividuals, mostRecords, workSize}
 use Rattle.meaning.specs.Lists.{_∈_, here}
-use Rattle.meaning.specs.ModelCheck.{factsOf, modelRefusal, refutes}
+use Rattle.meaning.specs.Model.{factsOf, modelRefusal}
+use Rattle.meaning.specs.ModelCheck.{refutes}
 use Rattle.meaning.specs.NormalForm.{Form, normalForm}
-use Rattle.meaning.specs.Operations.{Outcome, compliance, equality, inputRefusal, modelCheck, refuses, unless, workRefusal, workSize}
+use Rattle.meaning.specs.Operations.{AcceptedInput, Outcome, compliance, equality, inputRefusal, modelCheck, refuses, unless}
+use Rattle.meaning.specs.Operations.{workRefusal}
 use Rattle.meaning.specs.Policy.{Chain, Policy, policyOf, policyRefusal}
-use Rattle.meaning.specs.Promises.{Compared, Escape, IsRefusal, Told, agreed, escaped, same, side1, side2, unsaidComparison, unsaidVerdict}
+use Rattle.meaning.specs.Promises.{CorrectComparison, CorrectVerdict, Escape, IsRefusal, agreed, escaped, same, side1, side2}
+use Rattle.meaning.specs.Promises.{unsaidComparison, unsaidVerdict}
 use Rattle.meaning.specs.Records.{orElse}
 use Rattle.meaning.specs.Vocabulary.{Vocabulary, classCount, featureCount, roleCount, vocabularyOf, vocabularyRefusal}
 
@@ -37,26 +42,25 @@ use Rattle.meaning.specs.Vocabulary.{Vocabulary, classCount, featureCoun
 module _ (v p : List ℕ) (e : vocabularyRefusal v ≡ 0) (h : policyRefusal v p ≡ 0) where
   -- a combination of a term has at most 512 individuals and 256 * 512 + 511 facts
   combination-accepted : {Q : Policy} (c : Chain) → c ∈ policyOf p → (u : Form) → PickedForm Q (normalForm (vocabularyOf v) c) u →
-      modelRefusal v (countermodel (classCount v) (vocabularyOf v) u) ≡ 0
-  unfolding countermodel
+      modelRefusal v (countermodel (vocabularyOf v) u) ≡ 0
+  unfolding countermodel vocabularyOf
   combination-accepted c m u k =
-      let N = classCount v in
       let K = vocabularyOf v in
       let a = accepted v p h in
-      let l : count c < 512 = all-at (each-few (policyOf p) 512 (omega arith)) m in
+      let l : count c < mostRecords = all-at (each-few (policyOf p) mostRecords (omega arith)) m in
       let b = accepted-counts v e in
-      let small : individuals u ≤ 512 = omega (arith, size-weight (u .successors), form-picked k, normal-weight K c) in
-      let few : length (canonicalModel N K u) ≤ 140000 = omega (arith, model-few N K u, mul-le-mul (b .0 .1) small, form-picked k, normal-weight K c) in
-      model-accepted v (individuals u) (canonicalModel N K u) (omega arith) small few
-      (model-named N (roleCount v) (featureCount v) K u (named-picked (roleCount v) (featureCount v) k (normal-named (roleCount v) (featureCount v) N K c (all-at (a .named) m))))
+      let small : individuals u ≤ mostIndividuals = omega (arith, size-weight (u .successors), form-picked k, normal-weight K c) in
+      let few : length (canonicalModel K u) ≤ mostFacts = omega (arith, model-few K u, mul-le-mul (b .0 .1) small, form-picked k, normal-weight K c) in
+      model-accepted v (individuals u) (canonicalModel K u) (omega arith) small few
+      (model-named (roleCount v) (featureCount v) K u (named-picked (roleCount v) (featureCount v) k (normal-named (roleCount v) (featureCount v) (classCount v) K c (all-at (a .named) m))))
 
-  escape-accepted : {Q : Policy} {s q : ℕ} {words : List ℕ} → Escape (classCount v) (vocabularyOf v) (policyOf p) Q s q words → modelRefusal v words ≡ 0
+  escape-accepted : {Q : Policy} {s q : ℕ} {words : List ℕ} → Escape (vocabularyOf v) (policyOf p) Q s q words → modelRefusal v words ≡ 0
   escape-accepted {Q} x =
       let f = x .first in
       let u = x .combination in
       let m = subst (λ (l : Policy). f .term ∈ l) (sym (f .split)) (any-right (f .before) (here refl)) in
       let k = subst (λ (l : List Form). u ∈ l) (sym (f .combination .split)) (any-right (f .combination .before) (here refl)) in
-      let w = witness (classCount v) (vocabularyOf v) (bounded v e) Q (f .term) (all-at (bounded-terms v p h) m) (f .isPossible) u k in
+      let w = witness (vocabularyOf v) (bounded v e) Q (f .term) (all-at (bounded-terms v p h) m) (f .isPossible) u k in
       subst (λ (l : List ℕ). modelRefusal v l ≡ 0) (sym (x .written)) (combination-accepted (f .term) m u (w .picked))
 
 -- ---- what the check answers
@@ -67,16 +71,16 @@ unfolding modelCheck inputRefusal
 check-answers v p q m w a k l =
     let full : ltb w workSize ≡ false = le-ltb w workSize l in
     rw (a .vocabulary, a .firstPolicy, a .secondPolicy, k, full)
-    (cond-all (λ (r : Answer). IsRefusal r → ⊥) (refutes (factsOf m) (vocabularyOf v) (policyOf p) (policyOf q))
+    (cond-all (λ (r : Answer CheckResult). IsRefusal r → ⊥) (refutes (factsOf m) (vocabularyOf v) (policyOf p) (policyOf q))
     (λ z. let y : _≡_ {A = ℕ} 0 1 = cc (z .1) in omega arith) (λ z. let y : _≡_ {A = ℕ} 0 1 = cc (z .1) in omega arith))
 
 -- the model check accepts the words, and answers yes of these policies
 pub record Upheld (v p q words : List ℕ) : Type 0 where
   pub accepts : modelRefusal v words ≡ 0
-  pub checks : (w : ℕ) → workSize ≤ w → modelCheck v p q words w ≡ answeredYes
+  pub checks : (w : ℕ) → workSize ≤ w → modelCheck v p q words w ≡ result yes
 
 pub upheld : {v p q : List ℕ} → AcceptedInput v p q → {s c : ℕ} {words : List ℕ} →
-    Escape (classCount v) (vocabularyOf v) (policyOf p) (policyOf q) s c words → Upheld v p q words
+    Escape (vocabularyOf v) (policyOf p) (policyOf q) s c words → Upheld v p q words
 upheld {v} {p} {q} a {words = words} x =
     let r = x .refutes in
     let k = escape-accepted v p (a .vocabulary) (a .firstPolicy) x in
@@ -85,15 +89,12 @@ upheld {v} {p} {q} a {words = words} x =
 -- ---- the operations
 
 -- what is answered, and not refused, has accepted inputs
-answered-input : (v p q : List ℕ) (w : ℕ) (later : Outcome) → (IsRefusal (unless refuses (orElse (inputRefusal v p q) (workRefusal w)) later .answer) → ⊥) → AcceptedInput v p q
-answered-input v p q w later =
-    unless-all (λ (r : Outcome). (IsRefusal (r .answer) → ⊥) → AcceptedInput v p q) refuses (orElse (inputRefusal v p q) (workRefusal w)) later
+answered-input : {A : Type 0} (v p q : List ℕ) (w : ℕ) (later : Outcome A) → (IsRefusal (unless refuses (orElse (inputRefusal v p q) (workRefusal w)) later .answer) → ⊥) → AcceptedInput v p q
+answered-input {A} v p q w later =
+    unless-all (λ (r : Outcome A). (IsRefusal (r .answer) → ⊥) → AcceptedInput v p q) refuses (orElse (inputRefusal v p q) (workRefusal w)) later
     (λ k t. absurd (t (k, refl))) (λ e t. accepted-input v p q (or-zero (inputRefusal v p q) (workRefusal w) e .0))
 
 module _ (v p q : List ℕ) (w o : ℕ) where
-  abbrev N : ℕ
-  N = classCount v
-
   abbrev K : Vocabulary
   K = vocabularyOf v
 
@@ -105,30 +106,30 @@ module _ (v p q : List ℕ) (w o : ℕ) where
   unfolding equality
   equality-input t = answered-input v p q w _ t
 
-  written-upheld : {s c n : ℕ} → compliance v p q w o .answer ≡ outside s c n → Upheld v p q (compliance v p q w o .words)
+  written-upheld : {s c n : ℕ} → compliance v p q w o .answer ≡ result (outside s c n) → Upheld v p q (compliance v p q w o .words)
   written-upheld {s} {c} {n} e =
       go (compliance v p q w o) (compliance-told v p q w o) e (compliance-input (λ r. let z : _≡_ {A = ℕ} 0 1 = cc (r .1) in omega arith))
     where
-      go : (r : Outcome) → Told N K (policyOf p) (policyOf q) o r → r .answer ≡ outside s c n → AcceptedInput v p q → Upheld v p q (r .words)
+      go : (r : Outcome VerdictResult) → CorrectVerdict K (policyOf p) (policyOf q) o r → r .answer ≡ result (outside s c n) → AcceptedInput v p q → Upheld v p q (r .words)
       go r (unsaidVerdict k) e a = absurd (let z : _≡_ {A = ℕ} 0 1 = cc in omega arith)
       go r (agreed h) e a = absurd (let z : _≡_ {A = ℕ} 0 1 = cc in omega arith)
       go r (escaped i j words h l) e a = upheld a h
 
   -- a countermodel that Compliance writes is accepted by the model check
-  pub written-accepted : {s c n : ℕ} → compliance v p q w o .answer ≡ outside s c n → modelRefusal v (compliance v p q w o .words) ≡ 0
+  pub written-accepted : {s c n : ℕ} → compliance v p q w o .answer ≡ result (outside s c n) → modelRefusal v (compliance v p q w o .words) ≡ 0
   written-accepted e = written-upheld e .accepts
 
   -- which answers yes
-  pub written-checked : {s c n : ℕ} → compliance v p q w o .answer ≡ outside s c n →
-      (w₁ : ℕ) → workSize ≤ w₁ → modelCheck v p q (compliance v p q w o .words) w₁ ≡ answeredYes
+  pub written-checked : {s c n : ℕ} → compliance v p q w o .answer ≡ result (outside s c n) →
+      (w₁ : ℕ) → workSize ≤ w₁ → modelCheck v p q (compliance v p q w o .words) w₁ ≡ result yes
   written-checked e = written-upheld e .checks
 
-  difference-upheld : {side s c n : ℕ} → equality v p q w o .answer ≡ differs side s c n →
+  difference-upheld : {side s c n : ℕ} → equality v p q w o .answer ≡ result (differs side s c n) →
       ((side ≡ 1) × Upheld v p q (equality v p q w o .words)) ⊎ ((side ≡ 2) × Upheld v q p (equality v p q w o .words))
   difference-upheld {side} {s} {c} {n} e =
       go (equality v p q w o) (equality-compared v p q w o) e (equality-input (λ r. let z : _≡_ {A = ℕ} 0 1 = cc (r .1) in omega arith))
     where
-      go : (r : Outcome) → Compared N K (policyOf p) (policyOf q) o r → r .answer ≡ differs side s c n → AcceptedInput v p q →
+      go : (r : Outcome ComparisonResult) → CorrectComparison K (policyOf p) (policyOf q) o r → r .answer ≡ result (differs side s c n) → AcceptedInput v p q →
           ((side ≡ 1) × Upheld v p q (r .words)) ⊎ ((side ≡ 2) × Upheld v q p (r .words))
       go r (unsaidComparison k) e a = absurd (let z : _≡_ {A = ℕ} 0 1 = cc in omega arith)
       go r (same h) e a = absurd (let z : _≡_ {A = ℕ} 0 1 = cc in omega arith)
@@ -136,14 +137,14 @@ module _ (v p q : List ℕ) (w o : ℕ) where
       go r (side2 i j words d h l) e a = inr ((cc), upheld (record { vocabulary = a .vocabulary; firstPolicy = a .secondPolicy; secondPolicy = a .firstPolicy }) h)
 
   -- a countermodel that Equality writes is accepted by the model check
-  pub difference-accepted : {side s c n : ℕ} → equality v p q w o .answer ≡ differs side s c n → modelRefusal v (equality v p q w o .words) ≡ 0
+  pub difference-accepted : {side s c n : ℕ} → equality v p q w o .answer ≡ result (differs side s c n) → modelRefusal v (equality v p q w o .words) ≡ 0
   difference-accepted e = ⊎-elim (λ h. h .1 .accepts) (λ h. h .1 .accepts) (difference-upheld e)
 
   -- which answers yes, of side 1 with the policies in this order, of side 2 in the other
-  pub first-checked : {s c n : ℕ} → equality v p q w o .answer ≡ differs 1 s c n →
-      (w₁ : ℕ) → workSize ≤ w₁ → modelCheck v p q (equality v p q w o .words) w₁ ≡ answeredYes
+  pub first-checked : {s c n : ℕ} → equality v p q w o .answer ≡ result (differs 1 s c n) →
+      (w₁ : ℕ) → workSize ≤ w₁ → modelCheck v p q (equality v p q w o .words) w₁ ≡ result yes
   first-checked e = ⊎-elim (λ h. h .1 .checks) (λ h. absurd (let z = h .0 in omega arith)) (difference-upheld e)
 
-  pub second-checked : {s c n : ℕ} → equality v p q w o .answer ≡ differs 2 s c n →
-      (w₁ : ℕ) → workSize ≤ w₁ → modelCheck v q p (equality v p q w o .words) w₁ ≡ answeredYes
+  pub second-checked : {s c n : ℕ} → equality v p q w o .answer ≡ result (differs 2 s c n) →
+      (w₁ : ℕ) → workSize ≤ w₁ → modelCheck v q p (equality v p q w o .words) w₁ ≡ result yes
   second-checked e = ⊎-elim (λ h. absurd (let z = h .0 in omega arith)) (λ h. h .1 .checks) (difference-upheld e)

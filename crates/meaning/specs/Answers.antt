@@ -1,4 +1,4 @@
--- The answers in document 01's words, and the one that each case of an enum stands for.
+-- The answers in document 01's words: a refusal, or a result of the operation's own; and the one that each case of an enum stands for.
 use Prim.Native.Nat.{ℕ}
 use Rattle.meaning.specs.declared.Reading.{Reading}
 use Rattle.meaning.specs.declared.Possibility.{Possibility}
@@ -11,39 +11,55 @@ use Rattle.meaning.specs.declared.Verdict.the-variants as verdict
 use Rattle.meaning.specs.declared.Comparison.the-variants as comparison
 use Rattle.meaning.specs.declared.Checked.the-variants as checked
 
-pub data Answer : Type 0 where
-  refused : ℕ → Answer
-  accepted : Answer
-  firstPossible : ℕ → Answer
-  nonePossible : Answer
-  compliant : Answer
-  outside : ℕ → ℕ → ℕ → Answer
-  equal : Answer
-  differs : ℕ → ℕ → ℕ → ℕ → Answer
-  answeredYes : Answer
-  answeredNo : Answer
-
 -- "A refusal is its number."
-abbrev pub readingAnswer : Reading → Answer
-readingAnswer reading.Accepted = accepted
+pub data Answer (A : Type 0) : Type 0 where
+  refused : ℕ → Answer A
+  result : A → Answer A
+
+-- "Both readers otherwise answer "accepted"."
+pub data ReadingResult : Type 0 where
+  accepted : ReadingResult
+
+abbrev pub readingAnswer : Reading → Answer ReadingResult
+readingAnswer reading.Accepted = result accepted
 readingAnswer (reading.Refused n) = refused n
 
-abbrev pub possibilityAnswer : Possibility → Answer
-possibilityAnswer (possibility.Possible s) = firstPossible s
-possibilityAnswer possibility.Impossible = nonePossible
+-- Possible: "the first simple policy whose normal form is not impossible, or "impossible""
+pub data PossibilityResult : Type 0 where
+  firstPossible : ℕ → PossibilityResult
+  nonePossible : PossibilityResult
+
+abbrev pub possibilityAnswer : Possibility → Answer PossibilityResult
+possibilityAnswer (possibility.Possible s) = result (firstPossible s)
+possibilityAnswer possibility.Impossible = result nonePossible
 possibilityAnswer (possibility.Refused n) = refused n
 
-abbrev pub verdictAnswer : Verdict → Answer
-verdictAnswer verdict.Compliant = compliant
-verdictAnswer (verdict.Outside s q n) = outside s q n
+-- Compliance: ""compliant", or simple policy s and combination q", and how many words were written
+pub data VerdictResult : Type 0 where
+  compliant : VerdictResult
+  outside : ℕ → ℕ → ℕ → VerdictResult
+
+abbrev pub verdictAnswer : Verdict → Answer VerdictResult
+verdictAnswer verdict.Compliant = result compliant
+verdictAnswer (verdict.Outside s q n) = result (outside s q n)
 verdictAnswer (verdict.Refused n) = refused n
 
-abbrev pub comparisonAnswer : Comparison → Answer
-comparisonAnswer comparison.Equal = equal
-comparisonAnswer (comparison.Differs side s q n) = differs side s q n
+-- Equality: "equal", or a side with its s and q, and how many words were written
+pub data ComparisonResult : Type 0 where
+  equal : ComparisonResult
+  differs : ℕ → ℕ → ℕ → ℕ → ComparisonResult
+
+abbrev pub comparisonAnswer : Comparison → Answer ComparisonResult
+comparisonAnswer comparison.Equal = result equal
+comparisonAnswer (comparison.Differs side s q n) = result (differs side s q n)
 comparisonAnswer (comparison.Refused n) = refused n
 
-abbrev pub checkedAnswer : Checked → Answer
-checkedAnswer checked.Yes = answeredYes
-checkedAnswer checked.No = answeredNo
+-- Model check: "Yes or no."
+pub data CheckResult : Type 0 where
+  yes : CheckResult
+  no : CheckResult
+
+abbrev pub checkedAnswer : Checked → Answer CheckResult
+checkedAnswer checked.Yes = result yes
+checkedAnswer checked.No = result no
 checkedAnswer (checked.Refused n) = refused n

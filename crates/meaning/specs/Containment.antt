@@ -2,11 +2,12 @@
 use Prim.Native.Nat.{_≤_, suc, ℕ}
 use mathlib.Core.Bool.{Bool, _&&_, cond}
 use mathlib.Core.List.{List, [], _∷_}
-use mathlib.Core.Logic.{_↔_}
+use mathlib.Core.Logic.{_↔_, _⊎_}
 use lib.Dec.{T, ltb}
-use Rattle.meaning.specs.Countermodel.{Fact, stands}
 use Rattle.meaning.specs.Interpretation.{In, Interpretation, Proper, Satisfies, Tested, interpreted}
+use Rattle.meaning.specs.Limits.{mostCombinations}
 use Rattle.meaning.specs.Lists.{Found, any, firstFailing, found, nowhere}
+use Rattle.meaning.specs.Model.{Fact, stands}
 use Rattle.meaning.specs.NormalForm.{Form, normalForm, possible}
 use Rattle.meaning.specs.Policy.{Chain, Policy}
 use Rattle.meaning.specs.Splitting.{combinationCount, combinations}
@@ -36,6 +37,20 @@ abbrev pub IndistinctTested : Vocabulary → Policy → Policy → Type 0
 IndistinctTested K P Q =
     (M : Tested) → Proper (interpreted M) → Satisfies (interpreted M) K →
     (d : ℕ) → T (M .individual d) → In (interpreted M) P d ↔ In (interpreted M) Q d
+
+-- an interpretation that satisfies the vocabulary, with an individual in the first policy and outside the second
+pub record Apart (K : Vocabulary) (P Q : Policy) : Type 1 where
+  pub interpretation : Interpretation
+  pub proper : Proper interpretation
+  pub satisfies : Satisfies interpretation K
+  pub witness : ℕ
+  pub there : interpretation .individual witness
+  pub within : In interpretation P witness
+  pub without : In interpretation Q witness → ⊥
+
+-- demand 3: an interpretation "tells the two apart": it has an individual in one policy and outside the other
+abbrev pub ToldApart : Vocabulary → Policy → Policy → Type 1
+ToldApart K P Q = Apart K P Q ⊎ Apart K Q P
 
 -- the facts stand for a finite interpretation that satisfies K, with individual 1 in the first policy and outside the second
 pub record Refutes (K : Vocabulary) (P Q : Policy) (n : ℕ) (F : List Fact) : Type 0 where
@@ -71,8 +86,5 @@ unfoldable pub decide : Vocabulary → Policy → Policy → Decision
 decide K P Q = decideFrom K Q 1 P
 
 -- "22: some possible simple policy of the first has over 65,536 combinations, wherever it stands."
-abbrev pub mostCombinations : ℕ
-mostCombinations = 65536
-
 unfoldable pub tooMany : Vocabulary → Policy → Policy → Bool
 tooMany K P Q = any (λ p. possible K p && ltb mostCombinations (combinationCount Q (normalForm K p))) P

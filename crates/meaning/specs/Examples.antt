@@ -1,15 +1,17 @@
 -- Document 01, "The consent desk's examples": the starred ones as one table, from words to answers and printed bytes.
 use Prim.Native.Nat.{_%_, _/_, suc, zero, ℕ}
+use Prim.Native.String.{String}
 use mathlib.Core.List.{List, [], _++_, _∷_, map}
 use mathlib.Core.Path.{_≡_}
-use Rattle.meaning.specs.Answers.{Answer, accepted, answeredNo, answeredYes, compliant, differs, equal, firstPossible}
-use Rattle.meaning.specs.Answers.{nonePossible, outside, refused}
+use lib.ListN.{length}
+use Rattle.meaning.specs.Answers.{Answer, CheckResult, ComparisonResult, PossibilityResult, ReadingResult, VerdictResult, accepted, compliant}
+use Rattle.meaning.specs.Answers.{differs, equal, firstPossible, no, nonePossible, outside, refused, result, yes}
+use Rattle.meaning.specs.Limits.{outputSize, workSize}
 use Rattle.meaning.specs.Lists.{flatMap}
 use Rattle.meaning.specs.NormalForm.{normalForm}
 use Rattle.meaning.specs.Operations.{compliance, equality, modelCheck, possibility, readPolicy, readSecondPolicy, readVocabulary}
-use Rattle.meaning.specs.Operations.{workSize}
 use Rattle.meaning.specs.Policy.{policyOf}
-use Rattle.meaning.specs.Program.{program}
+use Rattle.meaning.specs.Program.{bytes, program}
 use Rattle.meaning.specs.Splitting.{combinationCount}
 use Rattle.meaning.specs.Vocabulary.{vocabularyOf}
 
@@ -107,54 +109,57 @@ policies =
 
 -- a question about tables of words, with its answer; the slices are full
 pub data Example : Type 0 where
-  vocabularyIs : List ℕ → Answer → Example
-  policyIs : List ℕ → List ℕ → Answer → Example
-  secondIs : List ℕ → List ℕ → Answer → Example
-  possibleIs : List ℕ → List ℕ → Answer → Example
-  complianceIs : List ℕ → List ℕ → List ℕ → Answer → List ℕ → Example
-  equalityIs : List ℕ → List ℕ → List ℕ → Answer → List ℕ → Example
-  checkIs : List ℕ → List ℕ → List ℕ → List ℕ → Answer → Example
+  vocabularyIs : List ℕ → Answer ReadingResult → Example
+  policyIs : List ℕ → List ℕ → Answer ReadingResult → Example
+  secondIs : List ℕ → List ℕ → Answer ReadingResult → Example
+  possibleIs : List ℕ → List ℕ → PossibilityResult → Example
+  complianceIs : List ℕ → List ℕ → List ℕ → VerdictResult → List ℕ → Example
+  equalityIs : List ℕ → List ℕ → List ℕ → ComparisonResult → List ℕ → Example
+  checkIs : List ℕ → List ℕ → List ℕ → List ℕ → CheckResult → Example
   combinationsAre : List ℕ → List ℕ → List ℕ → List ℕ → Example
-  prints : List ℕ → List ℕ → Example
+  prints : List ℕ → List ℕ → List ℕ → List String → Example
 
-abbrev pub Right : Example → Type 0
-Right (vocabularyIs v a) = readVocabulary v ≡ a
-Right (policyIs v p a) = readPolicy v p ≡ a
-Right (secondIs v q a) = readSecondPolicy v q ≡ a
-Right (possibleIs v p a) = possibility v p workSize ≡ a
-Right (complianceIs v p q a ws) = compliance v p q workSize 16384 ≡ record { answer = a; words = ws }
-Right (equalityIs v p q a ws) = equality v p q workSize 16384 ≡ record { answer = a; words = ws }
-Right (checkIs v p q m a) = modelCheck v p q m workSize ≡ a
-Right (combinationsAre v p q n) = map (λ t. combinationCount (policyOf q) (normalForm (vocabularyOf v) t)) (policyOf p) ≡ n
-Right (prints b text) = program b ≡ text
+-- a text for each line, with a line feed after each
+abbrev lines : List String → List ℕ
+lines ts = flatMap (λ t. bytes t ++ (10 ∷ [])) ts
+
+-- "little-endian words .. each a word count and its words"
+abbrev wordBytes : ℕ → List ℕ
+wordBytes w = four (w % 256) (w / 256 % 256) (w / 65536 % 256) (w / 16777216) []
+
+abbrev input : List ℕ → List ℕ → List ℕ → List ℕ
+input v p q = flatMap wordBytes (length v ∷ (v ++ (length p ∷ (p ++ (length q ∷ q)))))
+
+abbrev pub Correct : Example → Type 0
+Correct (vocabularyIs v a) = readVocabulary v ≡ a
+Correct (policyIs v p a) = readPolicy v p ≡ a
+Correct (secondIs v q a) = readSecondPolicy v q ≡ a
+Correct (possibleIs v p a) = possibility v p workSize ≡ result a
+Correct (complianceIs v p q a ws) = compliance v p q workSize outputSize ≡ record { answer = result a; words = ws }
+Correct (equalityIs v p q a ws) = equality v p q workSize outputSize ≡ record { answer = result a; words = ws }
+Correct (checkIs v p q m a) = modelCheck v p q m workSize ≡ result a
+Correct (combinationsAre v p q n) = map (λ t. combinationCount (policyOf q) (normalForm (vocabularyOf v) t)) (policyOf p) ≡ n
+Correct (prints v p q text) = program (input v p q) ≡ lines text
 
 abbrev complies : List ℕ → List ℕ → Example
 complies p q = complianceIs desk p q compliant []
 
-abbrev bytes : List ℕ → List ℕ
-bytes ws = flatMap (λ w. four (w % 256) (w / 256 % 256) (w / 65536 % 256) (w / 16777216) []) ws
-
 abbrev pub starred : List Example
 starred =
     complies (reaching 1 2) (reaching 1 1)
-    -- "outside 1 1", "edge 1 1 2", "member 1 2"
-    ∷ (prints (bytes (36 ∷ (desk ++ (24 ∷ (reaching 1 1 ++ (24 ∷ reaching 1 2)))))) (
-    111 ∷ (117 ∷ (116 ∷ (115 ∷ (105 ∷ (100 ∷ (101 ∷ (32 ∷ (49 ∷ (32 ∷ (49 ∷ (10
-    ∷ (101 ∷ (100 ∷ (103 ∷ (101 ∷ (32 ∷ (49 ∷ (32 ∷ (49 ∷ (32 ∷ (50 ∷ (10
-    ∷ (109 ∷ (101 ∷ (109 ∷ (98 ∷ (101 ∷ (114 ∷ (32 ∷ (49 ∷ (32 ∷ (50 ∷ (10
-    ∷ []))))))))))))))))))))))))))))))))))
+    ∷ (prints desk (reaching 1 1) (reaching 1 2) ("outside 1 1" ∷ ("edge 1 1 2" ∷ ("member 1 2" ∷ [])))
     ∷ (possibleIs desk reachingBoth nonePossible
     ∷ (possibleIs desk inClass4 nonePossible
     ∷ (complies reachingAny (reaching 3 1)
     ∷ (equalityIs desk (span 0 9) (spanOr 0 4 5 9) equal []
     ∷ (combinationsAre desk (span 0 9) (spanOr 0 4 5 9) (6 ∷ [])
-    ∷ (complianceIs desk (span 0 9) (spanOr 0 4 6 9) (outside 1 4 10) (five 1 1 0 0 0 (five 3 1 1 5 0 []))
+    ∷ (prints desk (span 0 9) (spanOr 0 4 6 9) ("outside 1 4" ∷ ("value 1 1 5" ∷ []))
     ∷ (combinationsAre desk (span 1 9) (span 5 12) (5 ∷ [])
-    ∷ (complianceIs desk (span 1 9) (span 5 12) (outside 1 1 10) (five 1 1 0 0 0 (five 3 1 1 1 0 []))
+    ∷ (prints desk (span 1 9) (span 5 12) ("outside 1 1" ∷ ("value 1 1 1" ∷ []))
     ∷ (possibleIs desk (spanWith 0 4 6 9) nonePossible
     ∷ (possibleIs loose (spanWith 0 4 6 9) (firstPossible 1)
     ∷ (map (λ p. complies nobody p) policies
-    ++ map (λ p. complies p everybody) policies))))))))))))
+    ++ map (λ p. complies p everybody) (nobody ∷ policies)))))))))))))
 
 -- further examples, which tell the listed misreadings and others apart
 
@@ -210,8 +215,8 @@ reachedAgain = six 1 0 0 0 0 0 (six 5 0 0 0 2 2 (six 1 1 0 0 0 0 []))
 
 abbrev pub further : List Example
 further =
-    vocabularyIs desk accepted
-    ∷ (policyIs desk (nested 16) accepted
+    vocabularyIs desk (result accepted)
+    ∷ (policyIs desk (nested 16) (result accepted)
     ∷ (policyIs desk (nested 17) (refused 8)
     ∷ (policyIs desk reachedAgain (refused 7)
     ∷ (secondIs desk reachedAgain (refused 17)
@@ -220,13 +225,15 @@ further =
     ∷ (complies (reachingSpan 1 0 9) (reachingSpanOr 1 0 4 5 9)
     ∷ (possibleIs desk (reachingSpans 1 0 4 6 9) nonePossible
     ∷ (possibleIs desk (reachingSpans 3 0 4 6 9) (firstPossible 1)
+    -- the words written: a header and a record
+    ∷ (complianceIs desk (span 0 9) (spanOr 0 4 6 9) (outside 1 4 10) (five 1 1 0 0 0 (five 3 1 1 5 0 []))
     -- a gap's upper end is its value
     ∷ (complianceIs desk (span 0 9) (spanOr 0 4 7 9) (outside 1 4 10) (five 1 1 0 0 0 (five 3 1 1 6 0 []))
     -- two values of a feature that is not functional, the last varying fastest
     ∷ (complianceIs loose (spanWith 0 1 5 6) (span 5 5) (outside 1 2 15) (five 1 1 0 0 0 (five 3 1 1 0 2 (five 3 1 1 6 0 [])))
     ∷ (equalityIs desk (span 0 9) (span 0 4) (differs 1 1 4 10) (five 1 1 0 0 0 (five 3 1 1 8 0 []))
     ∷ (equalityIs desk (span 0 4) (span 0 9) (differs 2 1 4 10) (five 1 1 0 0 0 (five 3 1 1 8 0 []))
-    ∷ (checkIs desk (span 0 9) (span 0 4) (five 1 1 0 0 0 (five 3 1 1 8 0 [])) answeredYes
-    ∷ (checkIs desk (span 0 4) (span 0 9) (five 1 1 0 0 0 (five 3 1 1 8 0 [])) answeredNo
-    ∷ (checkIs desk (span 0 9) (span 0 4) (five 1 1 0 0 0 (five 3 1 1 8 2 (five 3 1 1 7 0 []))) answeredNo
-    ∷ []))))))))))))))))
+    ∷ (checkIs desk (span 0 9) (span 0 4) (five 1 1 0 0 0 (five 3 1 1 8 0 [])) yes
+    ∷ (checkIs desk (span 0 4) (span 0 9) (five 1 1 0 0 0 (five 3 1 1 8 0 [])) no
+    ∷ (checkIs desk (span 0 9) (span 0 4) (five 1 1 0 0 0 (five 3 1 1 8 2 (five 3 1 1 7 0 []))) no
+    ∷ [])))))))))))))))))

@@ -1,8 +1,9 @@
 -- Document 01, "Meaning and normal form": interpretations, when one satisfies a vocabulary, and who is in a policy.
-use Prim.Native.Nat.{_≤_, ℕ}
+use Prim.Native.Nat.{ℕ}
 use mathlib.Core.Bool.{Bool}
 use mathlib.Core.Path.{_≡_}
 use lib.Dec.{T}
+use Rattle.meaning.specs.Intervals.{Within}
 use Rattle.meaning.specs.Lists.{All, Any}
 use Rattle.meaning.specs.Policy.{Chain, Policy, class, end, impossible, interval, some}
 use Rattle.meaning.specs.Vocabulary.{Axiom, Vocabulary, below, disjoint, functionalFeature, functionalRole, range}
@@ -33,12 +34,8 @@ Obeys I (functionalFeature f) = (i v w : ℕ) → I .hasValue f i v → I .hasVa
 Obeys I (range r c) = (i j : ℕ) → I .byRole r i j → I .inClass c j
 
 -- "everything the vocabulary's chain states of its names is true in it"
-abbrev pub Satisfies : Interpretation → Vocabulary → Type 0
-Satisfies I K = All (Obeys I) K
-
--- "a value from lo to hi, both ends included"
-abbrev pub Within : ℕ → ℕ → ℕ → Type 0
-Within lo hi v = (lo ≤ v) × (v ≤ hi)
+pub record Satisfies (I : Interpretation) (K : Vocabulary) : Type 0 where
+  pub stated : All (Obeys I) (K .axioms)
 
 -- "every conjunct holds of it, by its kind: it is in class a; role a pairs it with an individual of which all of child's
 -- chain holds; feature a pairs it with a value from lo to hi. The impossible concept holds of none."

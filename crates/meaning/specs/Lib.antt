@@ -1,14 +1,19 @@
 -- The definitions, in the order of document 01.
 pub mod Lists
+pub mod Limits
 pub mod Records
 pub mod Vocabulary
+pub mod Stated
 pub mod Policy
+pub mod Accepted
+pub mod Intervals
 pub mod Interpretation
 pub mod NormalForm
 pub mod TableOne
+pub mod Normal
 pub mod Splitting
-pub mod Counting
 pub mod Subsumption
+pub mod Model
 pub mod Countermodel
 pub mod Containment
 pub mod ModelCheck

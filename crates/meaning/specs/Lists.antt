@@ -18,6 +18,11 @@ infix 40 _∈_
 abbrev pub _∈_ : {A : Type 0} → A → List A → Type 0
 x ∈ l = Any (λ y. x ≡ y) l
 
+-- x stands in the list at the place i, counted from 0
+pub data At {A : Type 0} (x : A) : List A → ℕ → Type 0 where
+  atHere : {y : A} {l : List A} → x ≡ y → At x (y ∷ l) 0
+  atThere : {y : A} {l : List A} {i : ℕ} → At x l i → At x (y ∷ l) (suc i)
+
 abbrev pub any : {A : Type 0} → (A → Bool) → List A → Bool
 any p [] = false
 any p (x ∷ l) = p x || any p l

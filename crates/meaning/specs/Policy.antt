@@ -4,8 +4,9 @@ use mathlib.Core.Bool.{Bool, _&&_, cond}
 use mathlib.Core.List.{List, [], _∷_}
 use lib.Dec.{eqb, leb}
 use lib.ListN.{getD, length}
+use Rattle.meaning.specs.Limits.{mostDepth, mostPolicyWords}
 use Rattle.meaning.specs.Lists.{any}
-use Rattle.meaning.specs.Records.{lastOf, linked, named, sized}
+use Rattle.meaning.specs.Records.{isName, isOnward, isSized, lastOf}
 use Rattle.meaning.specs.Vocabulary.{classCount, featureCount, roleCount}
 
 -- A chain of conjuncts: a record, its child chain, its next. "Kinds: .. 1, class a; 2, the impossible concept;
@@ -54,15 +55,15 @@ headedPolicy p =
 abbrev pub recordFits : List ℕ → List ℕ → ℕ → ℕ → Bool
 recordFits v p depth k =
     cond (eqb depth 0) (eqb (kindOf p k) 5 && (eqb (nameOf p k) 0 && (eqb (loOf p k) 0 && eqb (hiOf p k) 0)))
-    (cond (eqb (kindOf p k) 1) (named (classCount v) (nameOf p k) && (eqb (loOf p k) 0 && (eqb (hiOf p k) 0 && eqb (childOf p k) 0)))
+    (cond (eqb (kindOf p k) 1) (isName (classCount v) (nameOf p k) && (eqb (loOf p k) 0 && (eqb (hiOf p k) 0 && eqb (childOf p k) 0)))
     (cond (eqb (kindOf p k) 2) (eqb (nameOf p k) 0 && (eqb (loOf p k) 0 && (eqb (hiOf p k) 0 && eqb (childOf p k) 0)))
-    (cond (eqb (kindOf p k) 3) (named (roleCount v) (nameOf p k) && (eqb (loOf p k) 0 && eqb (hiOf p k) 0))
-    (eqb (kindOf p k) 4 && (named (featureCount v) (nameOf p k) && eqb (childOf p k) 0)))))
+    (cond (eqb (kindOf p k) 3) (isName (roleCount v) (nameOf p k) && (eqb (loOf p k) 0 && eqb (hiOf p k) 0))
+    (eqb (kindOf p k) 4 && (isName (featureCount v) (nameOf p k) && eqb (childOf p k) 0)))))
 
 -- "Child and next follow the vocabulary's link rule"
 abbrev pub soundRecord : List ℕ → List ℕ → ℕ → ℕ → Bool
 soundRecord v p depth k =
-    recordFits v p depth k && (linked (lastOf 6 p) k (childOf p k) && linked (lastOf 6 p) k (nextOf p k))
+    recordFits v p depth k && (isOnward (lastOf 6 p) k (childOf p k) && isOnward (lastOf 6 p) k (nextOf p k))
 
 -- the records reached so far, or the first fault
 pub data Walk : Type 0 where
@@ -81,7 +82,7 @@ walk zero v p depth k seen = reached seen
 walk (suc f) v p depth k seen =
     let inner = walk f v p (suc depth) (childOf p k) (k ∷ seen) in
     let on = onward inner (walk f v p depth (nextOf p k)) in
-    let deep = cond (eqb depth 17) (fault 8) on in
+    let deep = cond (eqb depth (suc mostDepth)) (fault 8) on in
     let sound = cond (soundRecord v p depth k) deep (fault 6) in
     let fresh = cond (any (eqb k) seen) (fault 7) sound in
     cond (eqb k 0) (reached seen) fresh
@@ -96,12 +97,12 @@ unfoldable pub policyRefusal : List ℕ → List ℕ → ℕ
 policyRefusal v p =
     let walked = faultOf (walk (length p) v p 0 (firstTerm p) []) in
     let header = cond (headedPolicy p) walked 5 in
-    cond (sized 6 3078 (length p)) header 4
+    cond (isSized 6 mostPolicyWords (length p)) header 4
 
 -- "For a second policy these are 14 to 18."
-abbrev pub second : ℕ → ℕ
-second zero = 0
-second (suc n) = 10 + suc n
+abbrev pub secondRefusal : ℕ → ℕ
+secondRefusal zero = 0
+secondRefusal (suc n) = 10 + suc n
 
 -- the conjunct at record k, in front of the others
 abbrev pub conjunctAt : List ℕ → ℕ → Chain → Chain → Chain

@@ -1,15 +1,16 @@
 -- Document 01, "The program", as a function from the bytes of standard input to the bytes printed.
+use Prim.Native.Char.{code}
 use Prim.Native.Nat.{_%_, _*_, _+_, _/_, suc, zero, ℕ}
+use Prim.Native.String.{String, [] as []ˢ, _∷_ as _∷ˢ_}
 use mathlib.Core.Bool.{_&&_, cond}
 use mathlib.Core.List.{List, [], _++_, _∷_, map}
 use lib.Dec.{eqb, leb, ltb}
 use lib.ListN.{drop, getD, length, take}
-use Rattle.meaning.specs.Answers.{Answer, accepted, answeredNo, answeredYes, compliant, differs, equal, firstPossible}
-use Rattle.meaning.specs.Answers.{nonePossible, outside, refused}
-use Rattle.meaning.specs.Countermodel.{Fact, edge, member, value}
+use Rattle.meaning.specs.Answers.{Answer, VerdictResult, compliant, outside, refused, result}
+use Rattle.meaning.specs.Limits.{mostBytes, outputSize, workSize}
 use Rattle.meaning.specs.Lists.{counting, flatMap}
-use Rattle.meaning.specs.ModelCheck.{factsOf}
-use Rattle.meaning.specs.Operations.{Outcome, compliance, workSize}
+use Rattle.meaning.specs.Model.{Fact, edge, factsOf, member, value}
+use Rattle.meaning.specs.Operations.{Outcome, compliance}
 
 -- "little-endian words": word i of the input
 abbrev pub wordAt : List ℕ → ℕ → ℕ
@@ -25,7 +26,12 @@ partAt ws i = take (getD ws i 0) (drop (suc i) ws)
 abbrev pub nextPart : List ℕ → ℕ → ℕ
 nextPart ws i = suc i + getD ws i 0
 
--- a number in base ten, for every fuel that is enough
+-- a text's bytes
+abbrev pub bytes : String → List ℕ
+bytes []ˢ = []
+bytes (c ∷ˢ s) = code c ∷ bytes s
+
+-- a number in base ten, in at most so many digits
 abbrev pub decimalFrom : ℕ → ℕ → List ℕ
 decimalFrom zero n = []
 decimalFrom (suc f) n = let more = decimalFrom f (n / 10) ++ ((48 + n % 10) ∷ []) in cond (ltb n 10) ((48 + n) ∷ []) more
@@ -33,51 +39,25 @@ decimalFrom (suc f) n = let more = decimalFrom f (n / 10) ++ ((48 + n % 10) ∷ 
 unfoldable pub decimal : ℕ → List ℕ
 decimal n = decimalFrom (suc n) n
 
--- the words of a line, a space between two and a line feed behind the last
+-- the words of a line, a space between two and a line feed after the last
 abbrev pub line : List ℕ → List ℕ → List ℕ
 line name [] = name ++ (10 ∷ [])
 line name (n ∷ l) = line (name ++ (32 ∷ decimal n)) l
 
--- "compliant", "refused", "outside", "member", "edge", "value"
-abbrev pub compliant-text : List ℕ
-compliant-text = 99 ∷ (111 ∷ (109 ∷ (112 ∷ (108 ∷ (105 ∷ (97 ∷ (110 ∷ (116 ∷ []))))))))
-
-abbrev pub refused-text : List ℕ
-refused-text = 114 ∷ (101 ∷ (102 ∷ (117 ∷ (115 ∷ (101 ∷ (100 ∷ []))))))
-
-abbrev pub outside-text : List ℕ
-outside-text = 111 ∷ (117 ∷ (116 ∷ (115 ∷ (105 ∷ (100 ∷ (101 ∷ []))))))
-
-abbrev pub member-text : List ℕ
-member-text = 109 ∷ (101 ∷ (109 ∷ (98 ∷ (101 ∷ (114 ∷ [])))))
-
-abbrev pub edge-text : List ℕ
-edge-text = 101 ∷ (100 ∷ (103 ∷ (101 ∷ [])))
-
-abbrev pub value-text : List ℕ
-value-text = 118 ∷ (97 ∷ (108 ∷ (117 ∷ (101 ∷ []))))
-
--- "compliant", "refused n" or "outside s q"; Compliance has no other answer
-abbrev pub answerLine : Answer → List ℕ
-answerLine (refused n) = line refused-text (n ∷ [])
-answerLine accepted = []
-answerLine (firstPossible s) = []
-answerLine nonePossible = []
-answerLine compliant = line compliant-text []
-answerLine (outside s q n) = line outside-text (s ∷ (q ∷ []))
-answerLine equal = []
-answerLine (differs side s q n) = []
-answerLine answeredYes = []
-answerLine answeredNo = []
+-- "compliant", "refused n" or "outside s q"
+abbrev pub answerLine : Answer VerdictResult → List ℕ
+answerLine (refused n) = line (bytes "refused") (n ∷ [])
+answerLine (result compliant) = line (bytes "compliant") []
+answerLine (result (outside s q n)) = line (bytes "outside") (s ∷ (q ∷ []))
 
 -- "member class individual", "edge role from to", "value feature individual value"
 abbrev pub factLine : Fact → List ℕ
-factLine (member a i) = line member-text (a ∷ (i ∷ []))
-factLine (edge r i j) = line edge-text (r ∷ (i ∷ (j ∷ [])))
-factLine (value f i v) = line value-text (f ∷ (i ∷ (v ∷ [])))
+factLine (member a i) = line (bytes "member") (a ∷ (i ∷ []))
+factLine (edge r i j) = line (bytes "edge") (r ∷ (i ∷ (j ∷ [])))
+factLine (value f i v) = line (bytes "value") (f ∷ (i ∷ (v ∷ [])))
 
 -- "with one line a record"
-unfoldable pub printed : Outcome → List ℕ
+unfoldable pub printed : Outcome VerdictResult → List ℕ
 printed r = answerLine (r .answer) ++ flatMap factLine (factsOf (r .words))
 
 -- "It decides compliance with an output of 16,384 words." "Input over 65,536 bytes, cut short or followed by more is
@@ -87,6 +67,6 @@ program b =
     let ws = wordsOf b in
     let p = nextPart ws 0 in
     let q = nextPart ws p in
-    let whole = leb (length b) 65536 && eqb (length b) (4 * nextPart ws q) in
-    let decided = printed (compliance (partAt ws 0) (partAt ws p) (partAt ws q) workSize 16384) in
+    let whole = leb (length b) mostBytes && eqb (length b) (4 * nextPart ws q) in
+    let decided = printed (compliance (partAt ws 0) (partAt ws p) (partAt ws q) workSize outputSize) in
     cond whole decided (answerLine (refused 40))

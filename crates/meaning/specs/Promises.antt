@@ -5,13 +5,13 @@ use mathlib.Core.List.{List, _++_, _∷_}
 use mathlib.Core.Path.{_≡_}
 use lib.Dec.{T}
 use lib.ListN.{length}
-use Rattle.meaning.specs.Answers.{Answer, answeredNo, answeredYes, compliant, differs, equal, firstPossible, nonePossible}
-use Rattle.meaning.specs.Answers.{outside, refused}
+use Rattle.meaning.specs.Answers.{Answer, CheckResult, ComparisonResult, PossibilityResult, VerdictResult, compliant, differs, equal}
+use Rattle.meaning.specs.Answers.{firstPossible, no, nonePossible, outside, refused, result, yes}
 use Rattle.meaning.specs.Containment.{Contained, Indistinct, Refutes, passes}
-use Rattle.meaning.specs.Countermodel.{Fact, canonicalModel, countermodel, individuals, stands}
+use Rattle.meaning.specs.Countermodel.{canonicalModel, countermodel, individuals}
 use Rattle.meaning.specs.Interpretation.{Holds, In, Interpretation, Proper, Satisfies}
 use Rattle.meaning.specs.Lists.{All}
-use Rattle.meaning.specs.ModelCheck.{factsOf, individualCount}
+use Rattle.meaning.specs.Model.{Fact, factsOf, individualCount, stands}
 use Rattle.meaning.specs.NormalForm.{Form, normalForm, possible}
 use Rattle.meaning.specs.Operations.{Outcome, refuses, says}
 use Rattle.meaning.specs.Policy.{Chain, Policy, policyOf}
@@ -19,7 +19,7 @@ use Rattle.meaning.specs.Splitting.{combinations}
 use Rattle.meaning.specs.Vocabulary.{Vocabulary, vocabularyOf}
 
 -- the answer is a refusal
-abbrev pub IsRefusal : Answer → Type 0
+abbrev pub IsRefusal : {A : Type 0} → Answer A → Type 0
 IsRefusal a = (n : ℕ) × (a ≡ refused n)
 
 -- Possible: no interpretation that satisfies the vocabulary has an individual in the policy
@@ -34,12 +34,12 @@ pub record Satisfiable (K : Vocabulary) (p : Chain) : Type 0 where
   pub satisfies : Satisfies (stands number facts) K
   pub holds : Holds (stands number facts) p 1
 
--- an answer of Possible is right: the first simple policy that some interpretation has an individual in, or that there is none
-pub data Possibly (K : Vocabulary) (P : Policy) : Answer → Type 1 where
-  unsaidPossible : (n : ℕ) → Possibly K P (refused n)
-  vacant : Vacant K P → Possibly K P nonePossible
+-- an answer of Possible is correct: the first simple policy that some interpretation has an individual in, or that there is none
+pub data CorrectPossibility (K : Vocabulary) (P : Policy) : Answer PossibilityResult → Type 1 where
+  unsaidPossibility : (n : ℕ) → CorrectPossibility K P (refused n)
+  vacant : Vacant K P → CorrectPossibility K P (result nonePossible)
   inhabited : (before : Policy) (term : Chain) (after : Policy) → P ≡ before ++ (term ∷ after) → Vacant K before → Satisfiable K term →
-      Possibly K P (firstPossible (suc (length before)))
+      CorrectPossibility K P (result (firstPossible (suc (length before))))
 
 -- a term complies: each of its combinations passes, where it is possible
 abbrev pub Complies : Vocabulary → Policy → Chain → Type 0
@@ -66,31 +66,31 @@ pub record FirstFailure (K : Vocabulary) (P Q : Policy) (s q : ℕ) (u : Form) :
   pub combination : First (passes K Q) (combinations Q (normalForm K term)) q u
 
 -- a countermodel's words: a finite interpretation that refutes the containment, of the first combination to fail
-pub record Escape (N : ℕ) (K : Vocabulary) (P Q : Policy) (s q : ℕ) (words : List ℕ) : Type 0 where
+pub record Escape (K : Vocabulary) (P Q : Policy) (s q : ℕ) (words : List ℕ) : Type 0 where
   pub combination : Form
   pub first : FirstFailure K P Q s q combination
-  pub written : words ≡ countermodel N K combination
+  pub written : words ≡ countermodel K combination
   pub individuals-are : individualCount words ≡ individuals combination
-  pub facts-are : factsOf words ≡ canonicalModel N K combination
+  pub facts-are : factsOf words ≡ canonicalModel K combination
   pub refutes : Refutes K P Q (individualCount words) (factsOf words)
 
--- an answer of Compliance is right: "compliant" where the first policy is contained in the second; else s and q, the first to
+-- an answer of Compliance is correct: "compliant" where the first policy is contained in the second; else s and q, the first to
 -- fail, with the words written
-pub data Told (N : ℕ) (K : Vocabulary) (P Q : Policy) (o : ℕ) : Outcome → Type 1 where
-  unsaidVerdict : (n : ℕ) → Told N K P Q o (refuses n)
-  agreed : Contained K P Q → Told N K P Q o (says compliant)
-  escaped : (s q : ℕ) (words : List ℕ) → Escape N K P Q s q words → length words ≤ o →
-      Told N K P Q o (record { answer = outside (suc s) (suc q) (length words); words = words })
+pub data CorrectVerdict (K : Vocabulary) (P Q : Policy) (o : ℕ) : Outcome VerdictResult → Type 1 where
+  unsaidVerdict : (n : ℕ) → CorrectVerdict K P Q o (refuses n)
+  agreed : Contained K P Q → CorrectVerdict K P Q o (says compliant)
+  escaped : (s q : ℕ) (words : List ℕ) → Escape K P Q s q words → length words ≤ o →
+      CorrectVerdict K P Q o (record { answer = result (outside (suc s) (suc q) (length words)); words = words })
 
--- an answer of Equality is right: "equal" where no interpretation tells the policies apart; else a side, with the first to fail
+-- an answer of Equality is correct: "equal" where no interpretation tells the policies apart; else a side, with the first to fail
 -- there and the words written
-pub data Compared (N : ℕ) (K : Vocabulary) (P Q : Policy) (o : ℕ) : Outcome → Type 1 where
-  unsaidComparison : (n : ℕ) → Compared N K P Q o (refuses n)
-  same : Indistinct K P Q → Compared N K P Q o (says equal)
-  side1 : (s q : ℕ) (words : List ℕ) → Escape N K P Q s q words → length words ≤ o →
-      Compared N K P Q o (record { answer = differs 1 (suc s) (suc q) (length words); words = words })
-  side2 : (s q : ℕ) (words : List ℕ) → Contained K P Q → Escape N K Q P s q words → length words ≤ o →
-      Compared N K P Q o (record { answer = differs 2 (suc s) (suc q) (length words); words = words })
+pub data CorrectComparison (K : Vocabulary) (P Q : Policy) (o : ℕ) : Outcome ComparisonResult → Type 1 where
+  unsaidComparison : (n : ℕ) → CorrectComparison K P Q o (refuses n)
+  same : Indistinct K P Q → CorrectComparison K P Q o (says equal)
+  side1 : (s q : ℕ) (words : List ℕ) → Escape K P Q s q words → length words ≤ o →
+      CorrectComparison K P Q o (record { answer = result (differs 1 (suc s) (suc q) (length words)); words = words })
+  side2 : (s q : ℕ) (words : List ℕ) → Contained K P Q → Escape K Q P s q words → length words ≤ o →
+      CorrectComparison K P Q o (record { answer = result (differs 2 (suc s) (suc q) (length words)); words = words })
 
 -- what a model's words say: their interpretation satisfies the vocabulary, and its first individual is in the first policy and
 -- outside the second
@@ -99,8 +99,8 @@ Countered v p q m =
     let I = stands (individualCount m) (factsOf m) in
     Satisfies I (vocabularyOf v) × In I (policyOf p) 1 × (In I (policyOf q) 1 → ⊥)
 
--- an answer of Model check is right
-pub data Judgement (v p q m : List ℕ) : Answer → Type 0 where
-  unsaidJudgement : (n : ℕ) → Judgement v p q m (refused n)
-  countered : Countered v p q m → Judgement v p q m answeredYes
-  standing : (Countered v p q m → ⊥) → Judgement v p q m answeredNo
+-- an answer of Model check is correct
+pub data CorrectCheck (v p q m : List ℕ) : Answer CheckResult → Type 0 where
+  unsaidCheck : (n : ℕ) → CorrectCheck v p q m (refused n)
+  countered : Countered v p q m → CorrectCheck v p q m (result yes)
+  standing : (Countered v p q m → ⊥) → CorrectCheck v p q m (result no)

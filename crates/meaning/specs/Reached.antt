@@ -4,7 +4,7 @@ use Prim.Native.Nat.{_*_, _+_, _<_, _≤_, ℕ}
 use mathlib.Core.List.{List}
 use mathlib.Core.Path.{_≡_}
 use lib.ListN.{getD, length}
-use Rattle.meaning.specs.ModelCheck.{factNext, firstFact}
+use Rattle.meaning.specs.Model.{factNext, firstFact}
 use Rattle.meaning.specs.Policy.{childOf, firstTerm, nextOf}
 use Rattle.meaning.specs.Vocabulary.{axiomNext, classCount, featureCount, firstAxiom, roleCount}
 

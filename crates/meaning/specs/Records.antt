@@ -1,25 +1,42 @@
 -- What the three tables of records share: names, links, lengths, and refusals in order.
-use Prim.Native.Nat.{_%_, _-_, _/_, suc, zero, ℕ}
+use Prim.Native.Nat.{_%_, _-_, _/_, _<_, _≤_, suc, zero, ℕ}
 use mathlib.Core.Bool.{Bool, _&&_, _||_}
 use mathlib.Core.List.{List}
+use mathlib.Core.Logic.{_⊎_}
+use mathlib.Core.Path.{_≡_}
 use lib.Dec.{eqb, leb, ltb}
 use lib.ListN.{length}
 
 -- "Class, role and feature numbers are three separate series, each from 1": x is a name of a series with so many
-abbrev pub named : ℕ → ℕ → Bool
-named count x = leb 1 x && leb x count
+abbrev pub Name : ℕ → ℕ → Type 0
+Name count x = (1 ≤ x) × (x ≤ count)
+
+abbrev pub isName : ℕ → ℕ → Bool
+isName count x = leb 1 x && leb x count
 
 -- "Zero ends the chain; any other next is greater than its record's own number and at most the last record."
-abbrev pub linked : ℕ → ℕ → ℕ → Bool
-linked last k next = eqb next 0 || (ltb k next && leb next last)
+abbrev pub Onward : ℕ → ℕ → ℕ → Type 0
+Onward last k next = (next ≡ 0) ⊎ ((k < next) × (next ≤ last))
+
+abbrev pub isOnward : ℕ → ℕ → ℕ → Bool
+isOnward last k next = eqb next 0 || (ltb k next && leb next last)
 
 -- "length not a multiple of .., under .. or over ..": records of so many words, a header among them
-abbrev pub sized : ℕ → ℕ → ℕ → Bool
-sized width most n = eqb (n % width) 0 && (leb width n && leb n most)
+abbrev pub isSized : ℕ → ℕ → ℕ → Bool
+isSized width most n = eqb (n % width) 0 && (leb width n && leb n most)
 
 -- the number of the last record: the header is record 0
 abbrev pub lastOf : ℕ → List ℕ → ℕ
 lastOf width l = length l / width - 1
+
+-- how many records a chain from record k on can still have: it falls along links
+abbrev pub falling : ℕ → ℕ → ℕ
+falling last zero = 0
+falling last (suc j) = last - j
+
+-- so many steps are enough for a chain from record k on
+abbrev pub Enough : ℕ → ℕ → ℕ → Type 0
+Enough last steps k = (k ≤ last) × (falling last k ≤ steps)
 
 -- "the first refusal in document 01's order"; 0 is none
 abbrev pub orElse : ℕ → ℕ → ℕ

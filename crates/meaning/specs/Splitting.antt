@@ -1,11 +1,12 @@
 -- Document 01, "Splitting": X, the pieces of a constraint, and the combinations of a normal form.
-use Prim.Native.Nat.{_*_, pred, suc, ℕ}
-use mathlib.Core.Bool.{_&&_, cond}
+use Prim.Native.Nat.{_*_, _+_, pred, suc, ℕ}
+use mathlib.Core.Bool.{cond}
 use mathlib.Core.List.{List, [], _++_, _∷_, map}
 use lib.Dec.{eqb, leb, ltb}
 use lib.ListN.{length}
+use Rattle.meaning.specs.Intervals.{Constraint, isWithin}
 use Rattle.meaning.specs.Lists.{filter, flatMap}
-use Rattle.meaning.specs.NormalForm.{Form, Interval, Node, Successors, none, successor}
+use Rattle.meaning.specs.NormalForm.{Form, Node, Successors, none, successor}
 use Rattle.meaning.specs.Policy.{Chain, Policy, class, end, impossible, interval, some}
 
 -- the ends of the constraints on f in a chain
@@ -26,40 +27,45 @@ insertAll [] l = l
 insertAll (e ∷ es) l = insertAll es (insert e l)
 
 -- "let X be lo, hi and every end, between them, of a constraint on f anywhere in the second policy as given"
-abbrev pub points : Policy → Interval → List ℕ
+abbrev pub points : Policy → Constraint → List ℕ
 points Q s =
-    insertAll (filter (λ e. leb (s .lo) e && leb e (s .hi)) (flatMap (ends (s .feature)) Q)) (insert (s .hi) (s .lo ∷ []))
+    insertAll (filter (isWithin (s .lo) (s .hi)) (flatMap (ends (s .feature)) Q)) (insert (s .hi) (s .lo ∷ []))
 
-abbrev pub only : ℕ → ℕ → Interval
+abbrev pub only : ℕ → ℕ → Constraint
 only f x = record { feature = f; lo = x; hi = x }
 
 -- strictly between x and y, where anything is
-abbrev pub gap : ℕ → ℕ → ℕ → List Interval
+abbrev pub gap : ℕ → ℕ → ℕ → List Constraint
 gap f x y = cond (ltb (suc x) y) (record { feature = f; lo = suc x; hi = pred y } ∷ []) []
 
 -- "The pieces are each member of X and each non-empty gap between neighbours in X, rising."
-abbrev pub piecesFrom : ℕ → ℕ → List ℕ → List Interval
+abbrev pub piecesFrom : ℕ → ℕ → List ℕ → List Constraint
 piecesFrom f x [] = only f x ∷ []
 piecesFrom f x (y ∷ l) = only f x ∷ (gap f x y ++ piecesFrom f y l)
 
-abbrev pub piecesAt : ℕ → List ℕ → List Interval
+abbrev pub piecesAt : ℕ → List ℕ → List Constraint
 piecesAt f [] = []
 piecesAt f (x ∷ l) = piecesFrom f x l
 
-abbrev pub pieces : Policy → Interval → List Interval
+abbrev pub pieces : Policy → Constraint → List Constraint
 pieces Q s = piecesAt (s .feature) (points Q s)
 
--- "each piece's upper end as value"
-unfoldable pub valueOf : Interval → ℕ
-valueOf s = s .hi
+-- "the neighbours that differ by 2 or more" in x ∷ l, and in a list
+abbrev pub wide : ℕ → List ℕ → ℕ
+wide x [] = 0
+wide x (y ∷ l) = cond (leb (suc (suc x)) y) 1 0 + wide y l
+
+abbrev pub wideNeighbours : List ℕ → ℕ
+wideNeighbours [] = 0
+wideNeighbours (x ∷ l) = wide x l
 
 -- "the choices of one piece per constraint, the last varying fastest"
-abbrev pub choices : Policy → List Interval → List (List Interval)
+abbrev pub choices : Policy → List Constraint → List (List Constraint)
 choices Q [] = [] ∷ []
 choices Q (s ∷ l) = flatMap (λ p. map (λ r. p ∷ r) (choices Q l)) (pieces Q s)
 
 abbrev pub splitNode : Policy → Node → List Node
-splitNode Q n = map (λ r. record { classes = n .classes; intervals = r }) (choices Q (n .intervals))
+splitNode Q n = map (λ r. record { classes = n .classes; constraints = r }) (choices Q (n .constraints))
 
 abbrev pub splitSuccessors : Policy → Successors → List Successors
 splitSuccessors Q none = none ∷ []
@@ -72,17 +78,17 @@ combinations Q t =
     flatMap (λ n. map (λ ns. record { node = n; successors = ns }) (splitSuccessors Q (t .successors))) (splitNode Q (t .node))
 
 -- "Constraints go by individual, then by place in the walk."
-abbrev pub intervalsOf : Successors → List Interval
-intervalsOf none = []
-intervalsOf (successor r n under next) = n .intervals ++ (intervalsOf under ++ intervalsOf next)
+abbrev pub constraintsBelow : Successors → List Constraint
+constraintsBelow none = []
+constraintsBelow (successor r n under next) = n .constraints ++ (constraintsBelow under ++ constraintsBelow next)
 
-abbrev pub constraints : Form → List Interval
-constraints t = t .node .intervals ++ intervalsOf (t .successors)
+abbrev pub constraintsOf : Form → List Constraint
+constraintsOf t = t .node .constraints ++ constraintsBelow (t .successors)
 
 -- how many combinations there are: the product of the constraints' numbers of pieces
-abbrev pub product : Policy → List Interval → ℕ
+abbrev pub product : Policy → List Constraint → ℕ
 product Q [] = 1
 product Q (s ∷ l) = length (pieces Q s) * product Q l
 
 unfoldable pub combinationCount : Policy → Form → ℕ
-combinationCount Q t = product Q (constraints t)
+combinationCount Q t = product Q (constraintsOf t)

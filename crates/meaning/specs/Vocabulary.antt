@@ -4,7 +4,8 @@ use mathlib.Core.Bool.{Bool, _&&_, cond}
 use mathlib.Core.List.{List, [], _∷_}
 use lib.Dec.{eqb, leb}
 use lib.ListN.{getD, length}
-use Rattle.meaning.specs.Records.{lastOf, linked, named, sized}
+use Rattle.meaning.specs.Limits.{mostClasses, mostFeatures, mostRoles, mostVocabularyWords}
+use Rattle.meaning.specs.Records.{isName, isOnward, isSized, lastOf}
 
 -- "Kinds: 1, class a is below class b; 2, classes a and b share no individual; 3, role a is functional;
 -- 4, feature a is functional; 5, every value of role a is in class b."
@@ -15,8 +16,12 @@ pub data Axiom : Type 0 where
   functionalFeature : ℕ → Axiom
   range : ℕ → ℕ → Axiom
 
-abbrev pub Vocabulary : Type 0
-Vocabulary = List Axiom
+-- what a vocabulary says: how many names each series has, and the axioms of its chain, in order
+pub record Vocabulary : Type 0 where
+  pub classes : ℕ
+  pub roles : ℕ
+  pub features : ℕ
+  pub axioms : List Axiom
 
 -- "Record k starts at word 4k: kind, a, b, next."
 abbrev pub axiomKind : List ℕ → ℕ → ℕ
@@ -44,21 +49,17 @@ featureCount v = getD v 2 0
 abbrev pub firstAxiom : List ℕ → ℕ
 firstAxiom v = getD v 3 0
 
--- the most classes a vocabulary may count
-abbrev pub mostClasses : ℕ
-mostClasses = 256
-
 -- a record's kind, names and zeros: "In kinds 3 and 4, b is 0."
 abbrev pub axiomFits : List ℕ → ℕ → Bool
 axiomFits v k =
-    cond (eqb (axiomKind v k) 1) (named (classCount v) (axiomLeft v k) && named (classCount v) (axiomRight v k))
-    (cond (eqb (axiomKind v k) 2) (named (classCount v) (axiomLeft v k) && named (classCount v) (axiomRight v k))
-    (cond (eqb (axiomKind v k) 3) (named (roleCount v) (axiomLeft v k) && eqb (axiomRight v k) 0)
-    (cond (eqb (axiomKind v k) 4) (named (featureCount v) (axiomLeft v k) && eqb (axiomRight v k) 0)
-    (eqb (axiomKind v k) 5 && (named (roleCount v) (axiomLeft v k) && named (classCount v) (axiomRight v k))))))
+    cond (eqb (axiomKind v k) 1) (isName (classCount v) (axiomLeft v k) && isName (classCount v) (axiomRight v k))
+    (cond (eqb (axiomKind v k) 2) (isName (classCount v) (axiomLeft v k) && isName (classCount v) (axiomRight v k))
+    (cond (eqb (axiomKind v k) 3) (isName (roleCount v) (axiomLeft v k) && eqb (axiomRight v k) 0)
+    (cond (eqb (axiomKind v k) 4) (isName (featureCount v) (axiomLeft v k) && eqb (axiomRight v k) 0)
+    (eqb (axiomKind v k) 5 && (isName (roleCount v) (axiomLeft v k) && isName (classCount v) (axiomRight v k))))))
 
 abbrev pub soundAxiom : List ℕ → ℕ → Bool
-soundAxiom v k = axiomFits v k && linked (lastOf 4 v) k (axiomNext v k)
+soundAxiom v k = axiomFits v k && isOnward (lastOf 4 v) k (axiomNext v k)
 
 -- "3: first record in the chain with an unknown kind, a name outside its count, a wrong zero or a bad link."
 -- The chain from record k on, at most so many records of it
@@ -72,14 +73,15 @@ axiomsRefusal (suc f) v k =
 -- "2: header count or link out of range."
 abbrev pub headedVocabulary : List ℕ → Bool
 headedVocabulary v =
-    named mostClasses (classCount v) && (leb (roleCount v) 64 && (leb (featureCount v) 64 && leb (firstAxiom v) (lastOf 4 v)))
+    isName mostClasses (classCount v)
+    && (leb (roleCount v) mostRoles && (leb (featureCount v) mostFeatures && leb (firstAxiom v) (lastOf 4 v)))
 
 -- "1: length not a multiple of 4, under 4 or over 4,100 words." The first refusal of Read vocabulary; 0 is none
 unfoldable pub vocabularyRefusal : List ℕ → ℕ
 vocabularyRefusal v =
     let chain = axiomsRefusal (length v) v (firstAxiom v) in
     let header = cond (headedVocabulary v) chain 2 in
-    cond (sized 4 4100 (length v)) header 1
+    cond (isSized 4 mostVocabularyWords (length v)) header 1
 
 -- what record k states
 abbrev pub axiomAt : List ℕ → ℕ → Axiom
@@ -90,12 +92,15 @@ axiomAt v k =
     (cond (eqb (axiomKind v k) 4) (functionalFeature (axiomLeft v k))
     (range (axiomLeft v k) (axiomRight v k)))))
 
-abbrev pub axiomsFrom : ℕ → List ℕ → ℕ → Vocabulary
+abbrev pub axiomsFrom : ℕ → List ℕ → ℕ → List Axiom
 axiomsFrom zero v k = []
 axiomsFrom (suc f) v k =
     let rest = axiomAt v k ∷ axiomsFrom f v (axiomNext v k) in
     cond (eqb k 0) [] rest
 
--- "everything the vocabulary's chain states of its names"
+-- "everything the vocabulary's chain states"
+unfoldable pub axiomsOf : List ℕ → List Axiom
+axiomsOf v = axiomsFrom (length v) v (firstAxiom v)
+
 unfoldable pub vocabularyOf : List ℕ → Vocabulary
-vocabularyOf v = axiomsFrom (length v) v (firstAxiom v)
+vocabularyOf v = record { classes = classCount v; roles = roleCount v; features = featureCount v; axioms = axiomsOf v }

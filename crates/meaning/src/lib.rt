@@ -1,5 +1,7 @@
 // The three series of names, and the answers of the operations. The definitions stand in specs/, the theorems in proofs/.
 
+pub mod limits;
+
 // A class's number, from 1.
 pub struct ClassNo(pub u32);
 

@@ -8,39 +8,21 @@ use lib.Dec.{eqb}
 use lib.ListN.{length}
 use native.Mathlib.Omega.{arith}
 use borrow.Author.Tests.{eqb-false, eqb-true}
-use Rattle.meaning.proofs.Links.{Enough, Name, Onward, choose, enough-end, falling, falling-le, falls, onward-le, passed, tests}
+use Rattle.meaning.proofs.Links.{choose, enough-end, falling-le, falls, onward-le, passed, tests}
 use Rattle.meaning.proofs.Wellformed.{accepted-counts}
-use Rattle.meaning.specs.Countermodel.{Fact}
-use Rattle.meaning.specs.ModelCheck.{factAt, factFits, factKind, factName, factNext, factOther, factOwner, factsFrom, factsOf, factsRefusal, firstFact, individualCount, modelRefusal}
-use Rattle.meaning.specs.Records.{lastOf, named}
-use Rattle.meaning.specs.Vocabulary.{classCount, featureCount, mostClasses, roleCount, vocabularyRefusal}
-
--- record k stands behind the header, its link rises, its kind is one of the three, its individuals are the header's, and its class is
--- one that a vocabulary may count
-pub record Stated (m : List ℕ) (k : ℕ) : Type 0 where
-  pub inside : Name (lastOf 5 m) k
-  pub next : Onward (lastOf 5 m) k (factNext m k)
-  pub kind : Name 3 (factKind m k)
-  pub owner : Name (individualCount m) (factOwner m k)
-  pub class : factKind m k ≡ 1 → Name mostClasses (factName m k)
-  pub target : factKind m k ≡ 2 → Name (individualCount m) (factOther m k)
-
--- the chain from record k on lists these facts
-pub data Lists (m : List ℕ) : ℕ → List Fact → Type 0 where
-  lists-none : {k : ℕ} → k ≡ 0 → Lists m k []
-  lists-more : {k : ℕ} {F : List Fact} → Stated m k → Lists m (factNext m k) F → Lists m k (factAt m k ∷ F)
-
--- the chain of the model lists its facts
-pub record Readable (m : List ℕ) : Type 0 where
-  pub individuals : Name 512 (individualCount m)
-  pub lists : Lists m (firstFact m) (factsOf m)
+use Rattle.meaning.specs.Limits.{mostClasses}
+use Rattle.meaning.specs.Model.{Fact, factAt, factFits, factKind, factName, factNext, factOther, factsFrom, factsOf, factsRefusal}
+use Rattle.meaning.specs.Model.{firstFact, individualCount, modelRefusal}
+use Rattle.meaning.specs.Records.{Enough, Name, Onward, falling, isName, lastOf}
+use Rattle.meaning.specs.Vocabulary.{classCount, featureCount, roleCount, vocabularyRefusal}
+use Rattle.model.specs.Chain.{Lists, Readable, Stated, lists-more, lists-none}
 
 module _ (v m : List ℕ) (most : classCount v ≤ mostClasses) where
   kind-named : (k : ℕ) → factFits v m k ≡ true → Name 3 (factKind m k)
   kind-named k h = go (eqb (factKind m k) 1) (eqb (factKind m k) 2) refl refl (let u = simp and-eq-true-iff at h in u .1)
     where
       go : (b c : Bool) → eqb (factKind m k) 1 ≡ b → eqb (factKind m k) 2 ≡ c →
-          cond b (named (classCount v) (factName m k) && eqb (factOther m k) 0) (cond c (named (roleCount v) (factName m k) && named (individualCount m) (factOther m k)) (eqb (factKind m k) 3 && named (featureCount v) (factName m k))) ≡ true →
+          cond b (isName (classCount v) (factName m k) && eqb (factOther m k) 0) (cond c (isName (roleCount v) (factName m k) && isName (individualCount m) (factOther m k)) (eqb (factKind m k) 3 && isName (featureCount v) (factName m k))) ≡ true →
           Name 3 (factKind m k)
       go true c e f g = let z = eqb-true (factKind m k) 1 e in omega arith
       go false true e f g = let z = eqb-true (factKind m k) 2 f in omega arith

@@ -7,17 +7,19 @@ use lib.Dec.{eqb, leb}
 use lib.ListN.{getD, length}
 use native.Mathlib.Omega.{arith}
 use borrow.Author.Tests.{ne-eqb, not-false, not-true}
-use Rattle.meaning.proofs.Links.{Enough, Onward, bounds, enough-end, falling, falling-le, falls, onward-le, tests}
-use Rattle.meaning.specs.ModelCheck.{factFits, factKind, factName, factNext, factOther, factOwner, factsRefusal, firstFact, headedModel, individualCount, modelRefusal, soundFact}
-use Rattle.meaning.specs.Records.{lastOf, linked, named, sized}
+use Rattle.meaning.proofs.Links.{bounds, enough-end, falling-le, falls, onward-le, tests}
+use Rattle.meaning.specs.Limits.{mostIndividuals, mostModelWords}
+use Rattle.meaning.specs.Model.{factFits, factKind, factName, factNext, factOther, factOwner, factsRefusal, firstFact, headedModel}
+use Rattle.meaning.specs.Model.{individualCount, modelRefusal, soundFact}
+use Rattle.meaning.specs.Records.{Enough, Onward, falling, isName, isOnward, isSized, lastOf}
 use Rattle.meaning.specs.Vocabulary.{classCount, featureCount, roleCount}
 
 -- ---- a record
 
 -- i, kind, a and x are its words, and t the test of its individual
-module _ (v m : List ℕ) (k : ℕ) {n i kind a x : ℕ} {t : Bool} (en : n ≡ individualCount m) (ei : i ≡ factOwner m k) (et : t ≡ named n i)
+module _ (v m : List ℕ) (k : ℕ) {n i kind a x : ℕ} {t : Bool} (en : n ≡ individualCount m) (ei : i ≡ factOwner m k) (et : t ≡ isName n i)
     (ek : kind ≡ factKind m k) (ea : a ≡ factName m k) (ex : x ≡ factOther m k) where
-  owned : t ≡ named (individualCount m) (factOwner m k)
+  owned : t ≡ isName (individualCount m) (factOwner m k)
   owned = rw (sym en, sym ei) et
 
   pub unknown : (kind ≡ 1 → ⊥) → (kind ≡ 2 → ⊥) → (kind ≡ 3 → ⊥) → false ≡ factFits v m k
@@ -25,18 +27,18 @@ module _ (v m : List ℕ) (k : ℕ) {n i kind a x : ℕ} {t : Bool} (en : n ≡ 
 
   -- the test of its name
   module _ {f : Bool} where
-    pub member-fits : kind ≡ 1 → f ≡ named (classCount v) a → t && (f && eqb x 0) ≡ factFits v m k
+    pub member-fits : kind ≡ 1 → f ≡ isName (classCount v) a → t && (f && eqb x 0) ≡ factFits v m k
     member-fits z e = rw (sym owned, sym ek ∙ z, sym ea, sym ex, e)
 
-    pub edge-fits : {g : Bool} → kind ≡ 2 → f ≡ named (roleCount v) a → g ≡ named n x → t && (f && g) ≡ factFits v m k
+    pub edge-fits : {g : Bool} → kind ≡ 2 → f ≡ isName (roleCount v) a → g ≡ isName n x → t && (f && g) ≡ factFits v m k
     edge-fits z e h = rw (sym owned, sym ek ∙ z, sym ea, sym ex, e, h, en)
 
-    pub value-fits : kind ≡ 3 → f ≡ named (featureCount v) a → t && f ≡ factFits v m k
+    pub value-fits : kind ≡ 3 → f ≡ isName (featureCount v) a → t && f ≡ factFits v m k
     value-fits z e = rw (sym owned, sym ek ∙ z, sym ea, e)
 
 -- with the test of its link
 pub link-sound : (v m : List ℕ) (k : ℕ) {last x : ℕ} {f g : Bool} → f ≡ factFits v m k → last ≡ lastOf 5 m → x ≡ factNext m k →
-    g ≡ linked last k x → f && g ≡ soundFact v m k
+    g ≡ isOnward last k x → f && g ≡ soundFact v m k
 link-sound v m k ef el ex eg = rw (ef, eg, ex, el)
 
 -- ---- the chain
@@ -86,7 +88,7 @@ module _ {v m : List ℕ} {k : ℕ} {t : Bool} (w : Walking v m k) (n : k ≡ 0 
 -- ---- the whole
 
 -- the header's words
-pub headed : (m : List ℕ) {x last n a b c : ℕ} {t : Bool} → x ≡ firstFact m → last ≡ lastOf 5 m → n ≡ individualCount m → t ≡ named 512 n →
+pub headed : (m : List ℕ) {x last n a b c : ℕ} {t : Bool} → x ≡ firstFact m → last ≡ lastOf 5 m → n ≡ individualCount m → t ≡ isName mostIndividuals n →
     a ≡ getD m 2 0 → b ≡ getD m 3 0 → c ≡ getD m 4 0 → leb x last && (t && (eqb a 0 && (eqb b 0 && eqb c 0))) ≡ headedModel m
 headed m ex el en et ea eb ec = rw (ex, el, et, en, ea, eb, ec)
 
@@ -97,13 +99,13 @@ module _ (m : List ℕ) {s : Bool} (e : s ≡ headedModel m) (h : not s ≡ fals
   pub first : firstFact m ≤ lastOf 5 m
   first = let u = simp bounds at right-header in u .0
 
-module _ (v m : List ℕ) {t : Bool} (e : t ≡ sized 5 700005 (length m)) where
+module _ (v m : List ℕ) {t : Bool} (e : t ≡ isSized 5 mostModelWords (length m)) where
   pub wrong-size : not t ≡ true → 31 ≡ modelRefusal v m
   unfolding modelRefusal
   wrong-size h = rw (sym e ∙ not-true t h)
 
   module _ (h : not t ≡ false) where
-    right-size : sized 5 700005 (length m) ≡ true
+    right-size : isSized 5 mostModelWords (length m) ≡ true
     right-size = sym e ∙ not-false t h
 
     pub least : 5 ≤ length m

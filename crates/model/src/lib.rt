@@ -2,8 +2,10 @@
 use meaning::ClassNo;
 use meaning::FeatureNo;
 use meaning::RoleNo;
-use records::links;
-use records::within;
+use meaning::limits::MOST_INDIVIDUALS;
+use meaning::limits::MOST_MODEL_WORDS;
+use records::is_name;
+use records::is_onward;
 use records::word;
 use vocabulary::is_class;
 use vocabulary::is_feature;
@@ -11,17 +13,9 @@ use vocabulary::is_role;
 ghost use mathlib.Core.Path.{_≡_};
 ghost use Prim.Native.Nat.{_≤_};
 ghost use lib.ListN.{length};
-ghost use Rattle.meaning.specs.ModelCheck.{factFits, factKind, factName, factNext, factOther, factOwner, factsRefusal, firstFact};
-ghost use Rattle.meaning.specs.ModelCheck.{headedModel, individualCount, modelRefusal, soundFact};
+ghost use Rattle.meaning.specs.Model.{factFits, factKind, factName, factNext, factOther, factOwner, factsRefusal, firstFact};
+ghost use Rattle.meaning.specs.Model.{headedModel, individualCount, modelRefusal, soundFact};
 ghost use Rattle.meaning.specs.Records.{lastOf};
-
-// The most records behind the header.
-const MOST_RECORDS: usize = 140000;
-
-const MOST_WORDS: usize = 5 * (MOST_RECORDS + 1);
-
-// The most individuals a model may count.
-const MOST_INDIVIDUALS: u32 = 512;
 
 pub fn fact_kind(m: &[u32], k: u32) -> u32
     ensures { λ r. ⌜ r ≡ factKind (now (m .entry)) k ⌝ }
@@ -78,13 +72,13 @@ fn is_fit(v: &[u32], m: &[u32], k: u32) -> bool
     ensures { λ r. ⌜ r ≡ factFits (now (v .entry)) (now (m .entry)) k ⌝ }
 {
     let n = individual_count(m);
-    let owned = within(n, fact_owner(m, k));
+    let owned = is_name(n, fact_owner(m, k));
     let kind = fact_kind(m, k);
     let a = fact_name(m, k);
     let x = fact_other(m, k);
     match kind {
         1 => owned & (is_class(v, ClassNo(a)) & (x == 0)),
-        2 => owned & (is_role(v, RoleNo(a)) & within(n, x)),
+        2 => owned & (is_role(v, RoleNo(a)) & is_name(n, x)),
         3 => owned & is_feature(v, FeatureNo(a)),
         _ => false,
     }
@@ -95,7 +89,7 @@ fn is_sound(v: &[u32], m: &[u32], k: u32) -> bool
     requires { ⌜ 5 ≤ length (now m) ⌝ }
     ensures { λ r. ⌜ r ≡ soundFact (now (v .entry)) (now (m .entry)) k ⌝ }
 {
-    is_fit(v, m, k) & links(last_fact(m), k, fact_next(m, k))
+    is_fit(v, m, k) & is_onward(last_fact(m), k, fact_next(m, k))
 }
 
 // The first refusal along the chain, which ends: a link that does not rise is refused before it is followed.
@@ -118,7 +112,7 @@ fn is_headed(m: &[u32]) -> bool
     ensures { λ r. ⌜ r ≡ headedModel (now (m .entry)) ⌝ }
 {
     (first_fact(m) as usize <= last_fact(m))
-        & (within(MOST_INDIVIDUALS, individual_count(m))
+        & (is_name(MOST_INDIVIDUALS, individual_count(m))
             & ((word(m, 2) == 0) & ((word(m, 3) == 0) & (word(m, 4) == 0))))
 }
 
@@ -126,7 +120,7 @@ fn is_headed(m: &[u32]) -> bool
 pub fn model_refusal(v: &[u32], m: &[u32]) -> u32
     ensures { λ r. ⌜ r ≡ modelRefusal (now (v .entry)) (now (m .entry)) ⌝ }
 {
-    if !records::is_sized(5, MOST_WORDS, m.len()) {
+    if !records::is_sized(5, MOST_MODEL_WORDS, m.len()) {
         return 31;
     }
     if !is_headed(m) {

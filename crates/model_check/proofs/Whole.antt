@@ -9,17 +9,18 @@ use lib.Dec.{eqb}
 use lib.ListN.{length}
 use Rattle.extension.specs.Places.{setsAt, setsSize}
 use Rattle.meaning.proofs.Checking.{check-judged}
-use Rattle.meaning.proofs.Refusals.{AcceptedInput, accepted-input, cond-all, or-assoc, or-first, or-zero, unless-some}
-use Rattle.meaning.specs.Answers.{Answer, answeredNo, answeredYes, checkedAnswer, refused}
-use Rattle.meaning.specs.Countermodel.{Fact}
-use Rattle.meaning.specs.ModelCheck.{factNext, factsOf, factsRefusal, firstFact, headedModel, isIn, isModel, modelRefusal, refutes, soundFact}
-use Rattle.meaning.specs.Operations.{inputRefusal, modelCheck, unless, workAfter, workRefusal, workSize}
+use Rattle.meaning.proofs.Refusals.{accepted-input, cond-all, or-assoc, or-first, or-zero, unless-some}
+use Rattle.meaning.specs.Answers.{Answer, CheckResult, checkedAnswer, no, refused, result, yes}
+use Rattle.meaning.specs.Limits.{mostModelWords, workSize}
+use Rattle.meaning.specs.Model.{Fact, factNext, factsOf, factsRefusal, firstFact, headedModel, modelRefusal, soundFact}
+use Rattle.meaning.specs.ModelCheck.{isIn, isModel, refutes}
+use Rattle.meaning.specs.Operations.{AcceptedInput, inputRefusal, modelCheck, unless, workAfter, workRefusal}
 use Rattle.meaning.specs.Policy.{Policy, policyOf}
-use Rattle.meaning.specs.Promises.{Judgement}
-use Rattle.meaning.specs.Records.{orElse, sized}
+use Rattle.meaning.specs.Promises.{CorrectCheck}
+use Rattle.meaning.specs.Records.{isSized, orElse}
 use Rattle.meaning.specs.Vocabulary.{Vocabulary, vocabularyOf}
 use Rattle.meaning.specs.declared.Checked.{Checked}
-use Rattle.model_check.specs.Judging.{Judged}
+use Rattle.model_check.specs.Judging.{ModelCheckPost}
 use Rattle.satisfaction.specs.Places.{tablesEnd}
 use Rattle.workspace.proofs.Changes.{cleared-beyond, only-beyond}
 use Rattle.workspace.proofs.Laws.{beyond-then, input-few, none-before, none-full, work-few}
@@ -76,13 +77,13 @@ facts-other (suc f) v m k =
 model-other : (v m : List ℕ) → Other (modelRefusal v m)
 unfolding modelRefusal
 model-other v m =
-    cond-all Other (sized 5 700005 (length m))
+    cond-all Other (isSized 5 mostModelWords (length m))
     (cond-all Other (headedModel m) (facts-other (length m) v m (firstFact m)) (λ e. omega arith, λ e. omega arith)) (λ e. omega arith, λ e. omega arith)
 
 -- n is the first refusal of the tables, and r that of all
 module _ (v p q m : List ℕ) (w : ℕ) {n r : ℕ} (e : n ≡ orElse (inputRefusal v p q) (modelRefusal v m)) (f : r ≡ orElse n (workRefusal w)) where
-  abbrev told : Answer
-  told = cond (refutes (factsOf m) (vocabularyOf v) (policyOf p) (policyOf q)) answeredYes answeredNo
+  abbrev told : Answer CheckResult
+  told = cond (refutes (factsOf m) (vocabularyOf v) (policyOf p) (policyOf q)) (result yes) (result no)
 
   in-order : modelCheck v p q m w ≡ unless refused r told
   unfolding modelCheck
@@ -91,7 +92,7 @@ module _ (v p q m : List ℕ) (w : ℕ) {n r : ℕ} (e : n ≡ orElse (inputRefu
   pub refuses : (r ≡ 0 → ⊥) → refused r ≡ modelCheck v p q m w
   refuses h = unless-some refused r told h ∙ sym in-order
 
-  pub early-work : (x : List ℕ) → x ≡ workAfter (refused r) x
+  pub early-work : (x : List ℕ) → x ≡ workAfter {A = CheckResult} (refused r) x
   unfolding workAfter
   early-work x =
       let few = few-other (inputRefusal v p q) (let a = input-few v p q in omega arith) in
@@ -112,17 +113,17 @@ module _ (v p q m : List ℕ) (w : ℕ) {n r : ℕ} (e : n ≡ orElse (inputRefu
     pub work-full : workSize ≤ w
     work-full = none-full n w (sym f ∙ z)
 
-    pub answers : {b : Bool} → b ≡ refutes (factsOf m) (vocabularyOf v) (policyOf p) (policyOf q) → cond b answeredYes answeredNo ≡ modelCheck v p q m w
-    answers d = ap (λ (t : Bool). cond t answeredYes answeredNo) d ∙ sym (in-order ∙ ap (λ (k : ℕ). unless refused k told) z)
+    pub answers : {b : Bool} → b ≡ refutes (factsOf m) (vocabularyOf v) (policyOf p) (policyOf q) → cond b (result yes) (result no) ≡ modelCheck v p q m w
+    answers d = ap (λ (t : Bool). cond t (result yes) (result no)) d ∙ sym (in-order ∙ ap (λ (k : ℕ). unless refused k told) z)
 
 -- ---- the work slice afterwards
 
-pub late-work : {w w₁ w₂ : List ℕ} (b : Bool) → Beyond w w₁ → Cleared 0 workSize w₁ w₂ → w₂ ≡ workAfter (cond b answeredYes answeredNo) w
+pub late-work : {w w₁ w₂ : List ℕ} (b : Bool) → Beyond w w₁ → Cleared 0 workSize w₁ w₂ → w₂ ≡ workAfter (cond b (result yes) (result no)) w
 unfolding workAfter
 late-work true d z = cleared-beyond d z
 late-work false d z = cleared-beyond d z
 
 -- ---- what is left behind
 
-pub judged : {v p q m w w′ : List ℕ} {r : Checked} → checkedAnswer r ≡ modelCheck v p q m (length w) → w′ ≡ workAfter (checkedAnswer r) w → Judged v p q m w w′ r
-judged {v} {p} {q} {m} {w} e f = record { answer = e; work = f; right = subst (λ a. Judgement v p q m a) (sym e) (check-judged v p q m (length w)) }
+pub judged : {v p q m w w′ : List ℕ} {r : Checked} → checkedAnswer r ≡ modelCheck v p q m (length w) → w′ ≡ workAfter (checkedAnswer r) w → ModelCheckPost v p q m w w′ r
+judged {v} {p} {q} {m} {w} e f = record { answer = e; work = f; right = subst (λ a. CorrectCheck v p q m a) (sym e) (check-judged v p q m (length w)) }

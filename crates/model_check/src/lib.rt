@@ -2,22 +2,23 @@
 // the first policy and outside the second. Time grows with the model's records times the records of the vocabulary and of the policies.
 use extension::is_inside;
 use meaning::Checked;
+use meaning::limits::WORK_SIZE;
 use model::model_refusal;
 use policy::input_refusal;
 use satisfaction::is_satisfied;
-use workspace::WORK;
 use workspace::clear;
 use workspace::work_refusal;
 ghost use mathlib.Core.Path.{_≡_};
 ghost use Prim.Native.Nat.{_≤_};
 ghost use lib.ListN.{length};
-ghost use Rattle.meaning.proofs.Refusals.{AcceptedInput};
-ghost use Rattle.meaning.specs.ModelCheck.{factsOf, modelRefusal, refutes};
-ghost use Rattle.meaning.specs.Operations.{inputRefusal, workSize};
+ghost use Rattle.meaning.specs.Limits.{workSize};
+ghost use Rattle.meaning.specs.Model.{factsOf, modelRefusal};
+ghost use Rattle.meaning.specs.ModelCheck.{refutes};
+ghost use Rattle.meaning.specs.Operations.{AcceptedInput, inputRefusal};
 ghost use Rattle.meaning.specs.Policy.{policyOf};
 ghost use Rattle.meaning.specs.Records.{orElse};
 ghost use Rattle.meaning.specs.Vocabulary.{vocabularyOf};
-ghost use Rattle.model_check.specs.Judging.{Judged};
+ghost use Rattle.model_check.specs.Judging.{ModelCheckPost};
 ghost use Rattle.workspace.specs.Work.{Beyond};
 
 // Whether the model satisfies the vocabulary and tells the policies apart.
@@ -48,13 +49,13 @@ fn tables_refusal(v: &[u32], p: &[u32], q: &[u32], m: &[u32]) -> u32
 
 // Model check: the refusals of the vocabulary, the policies and the model, 21, then the answer.
 pub fn model_check(v: &[u32], p: &[u32], q: &[u32], m: &[u32], work: &mut [u32]) -> Checked
-    ensures { λ r. ⌜ Judged (now (v .entry)) (now (p .entry)) (now (q .entry)) (now (m .entry)) (now (work .entry)) (now (work .exit)) r ⌝ }
+    ensures { λ r. ⌜ ModelCheckPost (now (v .entry)) (now (p .entry)) (now (q .entry)) (now (m .entry)) (now (work .entry)) (now (work .exit)) r ⌝ }
 {
     let refusal = work_refusal(tables_refusal(v, p, q, m), work);
     if refusal != 0 {
         return Checked::Refused(refusal);
     }
     let yes = does_refute(v, p, q, m, work);
-    clear(work, 0, WORK);
+    clear(work, 0, WORK_SIZE);
     if yes { Checked::Yes } else { Checked::No }
 }

@@ -5,16 +5,19 @@ use mathlib.Core.List.{List, [], _++_, _∷_, map, map-append}
 use mathlib.Core.Path.{_∙_, _≡_, ap, refl}
 use native.Mathlib.Omega.{arith}
 use lib.ListN.{getD, length}
-use Rattle.meaning.proofs.Terms.{ChainOf, NamedChain, ReadsTerms, chain-at, reads-term, total}
+use Rattle.meaning.proofs.Terms.{chain-at}
 use Rattle.meaning.proofs.Wellformed.{accepted-counts}
+use Rattle.meaning.specs.Accepted.{ChainOf, NamedChain, ReadsTerms, reads-term, total}
 use Rattle.meaning.specs.Countermodel.{size}
-use Rattle.meaning.specs.NormalForm.{Form, Interval, Successors, none, successor}
+use Rattle.meaning.specs.Intervals.{Constraint}
+use Rattle.meaning.specs.Limits.{mostRecords}
+use Rattle.meaning.specs.NormalForm.{Form, Successors, none, successor}
 use Rattle.meaning.specs.Policy.{Chain, Policy, class, end, impossible, interval, some}
-use Rattle.meaning.specs.Splitting.{constraints, intervalsOf}
+use Rattle.meaning.specs.Splitting.{constraintsBelow, constraintsOf}
 use Rattle.meaning.specs.Vocabulary.{Vocabulary, vocabularyRefusal}
 use Rattle.normal_form.proofs.Laws.{intervals-same}
 use Rattle.normal_form.proofs.Nodes.{held-in, rows-kept}
-use Rattle.normal_form.specs.Tables.{Fit, Tabled, heldBelow, heldBy, heldIn, intervalPlace, intervalsAt, mostEntries, rowsAt, tablesEnd, termAt}
+use Rattle.normal_form.specs.Tables.{Fit, Tabled, heldBelow, heldBy, heldIn, intervalPlace, intervalsAt, rowsAt, tablesEnd}
 use Rattle.normal_form.specs.declared.Tables.{Tables}
 
 -- ---- before: a term of an accepted policy
@@ -27,8 +30,8 @@ named-more n r f (some q child next) h = ((h .0 .0, omega (arith, h .0 .1)), nam
 named-more n r f (interval g lo hi next) h = ((h .0 .0, omega (arith, h .0 .1)), named-more n r f next (h .1))
 
 module _ {p : List ℕ} {s : ℕ} {c : Chain} {P : Policy} where
-  -- `total P ≤ 512` and `ChainOf v` are what `Accepted v p` says of the whole policy
-  pub term-fits : (v w : List ℕ) → vocabularyRefusal v ≡ 0 → tablesEnd ≤ length w → ReadsTerms p s (c ∷ P) → ChainOf v c → total (c ∷ P) ≤ mostEntries → Fit p w s
+  -- `total P ≤ mostRecords` and `ChainOf v` are what `Accepted v p` says of the whole policy
+  pub term-fits : (v w : List ℕ) → vocabularyRefusal v ≡ 0 → tablesEnd ≤ length w → ReadsTerms p s (c ∷ P) → ChainOf v c → total (c ∷ P) ≤ mostRecords → Fit p w s
   term-fits v w a long (reads-term h e r t) n few =
       let u = accepted-counts v a in
       let i = h .inside in
@@ -43,29 +46,29 @@ module _ {p : List ℕ} {s : ℕ} {c : Chain} {P : Policy} where
 
 -- ---- after: the constraints in the order of the definition
 
-held-by : (x : ℕ) (l : List Interval) → map (λ h. h .constraint) (heldBy x l) ≡ l
+held-by : (x : ℕ) (l : List Constraint) → map (λ h. h .constraint) (heldBy x l) ≡ l
 held-by x [] = refl
-held-by x (s ∷ l) = ap (λ (m : List Interval). s ∷ m) (held-by x l)
+held-by x (s ∷ l) = ap (λ (m : List Constraint). s ∷ m) (held-by x l)
 
-held-below : (ks : Successors) (k : ℕ) → map (λ h. h .constraint) (heldBelow ks k) ≡ intervalsOf ks
+held-below : (ks : Successors) (k : ℕ) → map (λ h. h .constraint) (heldBelow ks k) ≡ constraintsBelow ks
 held-below none k = refl
 held-below (successor r n under next) k =
-    map-append (λ h. h .constraint) (heldBy k (n .intervals)) (heldBelow under (suc k) ++ heldBelow next (suc k + size under))
-    ∙ ap (λ (l : List Interval). l ++ map (λ h. h .constraint) (heldBelow under (suc k) ++ heldBelow next (suc k + size under))) (held-by k (n .intervals))
-    ∙ ap (λ (l : List Interval). n .intervals ++ l) (map-append (λ h. h .constraint) (heldBelow under (suc k)) (heldBelow next (suc k + size under))
-    ∙ ap (λ (l : List Interval). l ++ map (λ h. h .constraint) (heldBelow next (suc k + size under))) (held-below under (suc k))
-    ∙ ap (λ (l : List Interval). intervalsOf under ++ l) (held-below next (suc k + size under)))
+    map-append (λ h. h .constraint) (heldBy k (n .constraints)) (heldBelow under (suc k) ++ heldBelow next (suc k + size under))
+    ∙ ap (λ (l : List Constraint). l ++ map (λ h. h .constraint) (heldBelow under (suc k) ++ heldBelow next (suc k + size under))) (held-by k (n .constraints))
+    ∙ ap (λ (l : List Constraint). n .constraints ++ l) (map-append (λ h. h .constraint) (heldBelow under (suc k)) (heldBelow next (suc k + size under))
+    ∙ ap (λ (l : List Constraint). l ++ map (λ h. h .constraint) (heldBelow next (suc k + size under))) (held-below under (suc k))
+    ∙ ap (λ (l : List Constraint). constraintsBelow under ++ l) (held-below next (suc k + size under)))
 
-pub held-constraints : (t : Form) → map (λ h. h .constraint) (heldIn t) ≡ constraints t
+pub held-constraints : (t : Form) → map (λ h. h .constraint) (heldIn t) ≡ constraintsOf t
 held-constraints t =
-    map-append (λ h. h .constraint) (heldBy 1 (t .node .intervals)) (heldBelow (t .successors) 2)
-    ∙ ap (λ (l : List Interval). l ++ map (λ h. h .constraint) (heldBelow (t .successors) 2)) (held-by 1 (t .node .intervals))
-    ∙ ap (λ (l : List Interval). t .node .intervals ++ l) (held-below (t .successors) 2)
+    map-append (λ h. h .constraint) (heldBy 1 (t .node .constraints)) (heldBelow (t .successors) 2)
+    ∙ ap (λ (l : List Constraint). l ++ map (λ h. h .constraint) (heldBelow (t .successors) 2)) (held-by 1 (t .node .constraints))
+    ∙ ap (λ (l : List Constraint). t .node .constraints ++ l) (held-below (t .successors) 2)
 
 -- ---- and later: rows and the first four words of each constraint are as they were
-pub tabled-kept : (K : Vocabulary) (t : Form) (w w′ : List ℕ) (r : Tables) → (r .individuals ≤ mostEntries) × (r .intervals ≤ mostEntries) → length w′ ≡ length w →
+pub tabled-kept : (K : Vocabulary) (t : Form) (w w′ : List ℕ) (r : Tables) → (r .individuals ≤ mostRecords) × (r .constraints ≤ mostRecords) → length w′ ≡ length w →
     ((i : ℕ) → rowsAt ≤ i → i < intervalsAt → getD w′ i 0 ≡ getD w i 0) →
-    ((m i : ℕ) → m < mostEntries → intervalPlace m ≤ i → i < intervalPlace m + 4 → getD w′ i 0 ≡ getD w i 0) → Tabled K t w r → Tabled K t w′ r
+    ((m i : ℕ) → m < mostRecords → intervalPlace m ≤ i → i < intervalPlace m + 4 → getD w′ i 0 ≡ getD w i 0) → Tabled K t w r → Tabled K t w′ r
 tabled-kept K t w w′ r most same f g s =
     let a = s .count in
     let b = s .top in

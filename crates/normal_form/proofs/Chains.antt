@@ -10,18 +10,21 @@ use lib.ListN.{getD, length, length-append, length-set, set}
 use lib.Seq.{getD-set-other, getD-set-same}
 use borrow.Author.Tests.{ne-eqb}
 use Rattle.hierarchy.specs.Rows.{rowOf, rowPlace}
-use Rattle.meaning.proofs.Links.{Name}
 use Rattle.meaning.proofs.Rules.{all-append}
-use Rattle.meaning.proofs.Terms.{NamedChain, Reads, chain-at, reads-class, reads-end, reads-impossible, reads-interval, reads-some}
+use Rattle.meaning.proofs.Terms.{chain-at}
+use Rattle.meaning.specs.Accepted.{NamedChain, Reads, reads-class, reads-end, reads-impossible, reads-interval, reads-some}
+use Rattle.meaning.specs.Intervals.{Constraint}
+use Rattle.meaning.specs.Limits.{mostClasses, mostFeatures, mostRecords, mostRoles}
 use Rattle.meaning.specs.Lists.{any, cons, nil}
-use Rattle.meaning.specs.NormalForm.{Interval, placeInterval}
+use Rattle.meaning.specs.NormalForm.{placeConstraint}
 use Rattle.meaning.specs.Policy.{Chain, childOf, class, end, hiOf, impossible, interval, kindOf, loOf, nameOf, nextOf, some}
-use Rattle.meaning.specs.Vocabulary.{mostClasses}
+use Rattle.meaning.specs.Records.{Name}
 use Rattle.normal_form.proofs.Laws.{front-kept, front-row, intervals-kept, live-append, words-append, words-eq, words-kept}
-use Rattle.normal_form.specs.Parts.{Arm, armAt, barred, chainAt, classesIn, conjuncts, headAt, intervalCount, intervalsIn, joins, live, roles, wordsAt}
+use Rattle.normal_form.specs.Parts.{Arm, armAt, bottomHere, chainAt, classesIn, conjuncts, headAt, intervalCount, intervalsIn}
+use Rattle.normal_form.specs.Parts.{joins, live, roles, wordsAt}
 use Rattle.normal_form.specs.Steps.{Adding, Adds, Entry, Good, Kept, Placed, ReadyFor, Sure, Told, front, intervalOf}
 use Rattle.normal_form.specs.Tables.{heldBy, pendingAt, rowsAt, tablesEnd}
-use Rattle.normal_form.specs.declared.Got.{Got}
+use Rattle.normal_form.specs.declared.Draft.{Draft}
 use Rattle.words.specs.Rows.{classWords}
 use Rattle.words.specs.Sets.{inSet}
 
@@ -32,7 +35,7 @@ module _ {p : List ℕ} {k : ℕ} where
   unfolding chainAt
   chain-is r = chain-at r
 
-  good : {c : Chain} → Reads p k c → NamedChain mostClasses 64 64 c → Good p k
+  good : {c : Chain} → Reads p k c → NamedChain mostClasses mostRoles mostFeatures c → Good p k
   good r n = record { reads = rw (chain-is r) r; named = rw (chain-is r) n }
 
 pub chain-end : (p : List ℕ) (k : ℕ) → k ≡ 0 → chainAt p k ≡ end
@@ -64,10 +67,10 @@ pub record Cut (p : List ℕ) (k : ℕ) (c : Chain) : Type 0 where
   pub child : kindOf p k ≡ 3 → Entry p k
   pub last : (kindOf p k ≡ 1 → ⊥) → (kindOf p k ≡ 2 → ⊥) → (kindOf p k ≡ 3 → ⊥) → kindOf p k ≡ 4
   pub arms : length (roles c) ≡ length (roles (headAt p k)) + length (roles (chainAt p (nextOf p k)))
-  pub intervals : intervalCount c ≡ intervalCount (headAt p k) + intervalCount (chainAt p (nextOf p k))
+  pub constraints : intervalCount c ≡ intervalCount (headAt p k) + intervalCount (chainAt p (nextOf p k))
   pub less : conjuncts (chainAt p (nextOf p k)) < conjuncts c
 
-pub cut : (p : List ℕ) (k : ℕ) {c : Chain} → (k ≡ 0 → ⊥) → Reads p k c → NamedChain mostClasses 64 64 c → Cut p k c
+pub cut : (p : List ℕ) (k : ℕ) {c : Chain} → (k ≡ 0 → ⊥) → Reads p k c → NamedChain mostClasses mostRoles mostFeatures c → Cut p k c
 cut p k z (reads-end e) m = absurd (z e)
 cut p k z (reads-class h i n) m = let e = chain-is n in let d = head-class p k i in record {
   next = good n (m .1);
@@ -75,7 +78,7 @@ cut p k z (reads-class h i n) m = let e = chain-is n in let d = head-class p k i
   child = λ j. absurd (omega arith);
   last = λ a b c. absurd (a i);
   arms = rw (e, d) (omega arith);
-  intervals = rw (e, d) (omega arith);
+  constraints = rw (e, d) (omega arith);
   less = rw e (omega arith);
 }
 cut p k z (reads-impossible h i n) m = let e = chain-is n in let d = head-impossible p k i in record {
@@ -84,7 +87,7 @@ cut p k z (reads-impossible h i n) m = let e = chain-is n in let d = head-imposs
   child = λ j. absurd (omega arith);
   last = λ a b c. absurd (b i);
   arms = rw (e, d) (omega arith);
-  intervals = rw (e, d) (omega arith);
+  constraints = rw (e, d) (omega arith);
   less = rw e (omega arith);
 }
 cut p k z (reads-some h i q n) m = let e = chain-is n in let d = head-some p k i in record {
@@ -93,7 +96,7 @@ cut p k z (reads-some h i q n) m = let e = chain-is n in let d = head-some p k i
   child = λ j. record { role = m .0 .1; good = good q (m .1) };
   last = λ a b c. absurd (c i);
   arms = rw (e, d) (omega arith);
-  intervals = rw (e, d) (omega arith);
+  constraints = rw (e, d) (omega arith);
   less = rw e (omega arith);
 }
 cut p k z (reads-interval h i n) m = let e = chain-is n in let d = head-interval p k i in record {
@@ -102,7 +105,7 @@ cut p k z (reads-interval h i n) m = let e = chain-is n in let d = head-interval
   child = λ j. absurd (omega arith);
   last = λ a b c. i;
   arms = rw (e, d) (omega arith);
-  intervals = rw (e, d) (omega arith);
+  constraints = rw (e, d) (omega arith);
   less = rw e (omega arith);
 }
 
@@ -114,7 +117,7 @@ kept-same j e u n m w = record {
   low = λ i h. refl;
   upper = λ i h g. refl;
   rows = λ i h g. refl;
-  intervals = λ i h g. refl;
+  constraints = λ i h g. refl;
   behind = λ i h. refl;
   same = refl;
 }
@@ -130,7 +133,7 @@ turn false true false = refl
 turn false false true = refl
 turn false false false = refl
 
-module _ (p : List ℕ) (x m : ℕ) (w : List ℕ) (g : Got) where
+module _ (p : List ℕ) (x m : ℕ) (w : List ℕ) (g : Draft) where
   pub add-none : (j e : ℕ) → Adds p x j e m (λ cs. cs) [] (λ l. l) 0 false w w g g
   add-none j e = record {
     classes = λ s cs h. h;
@@ -138,15 +141,15 @@ module _ (p : List ℕ) (x m : ℕ) (w : List ℕ) (g : Got) where
     arms = refl;
     sure = nil;
     top = λ l h s. h;
-    intervals = λ l h s. s;
+    constraints = λ l h s. s;
     few = omega arith;
     first = omega arith;
-    bars = sym (or-false (g .blocked));
-    kept = kept-same j e (g .pending) 512 m w;
+    bottom = sym (or-false (g .impossible));
+    kept = kept-same j e (g .pending) mostRecords m w;
   }
 
-  module _ (g′ : Got) where
-    add-bar : g′ .classes ≡ g .classes → g′ .pending ≡ g .pending → g′ .intervals ≡ g .intervals → g′ .blocked ≡ true →
+  module _ (g′ : Draft) where
+    add-bar : g′ .classes ≡ g .classes → g′ .pending ≡ g .pending → g′ .constraints ≡ g .constraints → g′ .impossible ≡ true →
         Adds p x 0 0 m (λ cs. cs) [] (λ l. l) 0 true w w g g′
     add-bar hc hp hs hb = record {
       classes = λ s cs h. rw hc h;
@@ -154,16 +157,16 @@ module _ (p : List ℕ) (x m : ℕ) (w : List ℕ) (g : Got) where
       arms = refl;
       sure = nil;
       top = λ l h s. hs ∙ h;
-      intervals = λ l h s. s;
+      constraints = λ l h s. s;
       few = omega arith;
       first = omega arith;
-      bars = hb ∙ sym (or-true (g .blocked));
-      kept = kept-same 0 0 (g .pending) 512 m w;
+      bottom = hb ∙ sym (or-true (g .impossible));
+      kept = kept-same 0 0 (g .pending) mostRecords m w;
     }
 
     add-class : (a : ℕ) (ws : List ℕ) → Name mostClasses a → tablesEnd ≤ length w → ws ≡ rowOf w a →
         ((d : ℕ) → inSet (g′ .classes .words) d ≡ inSet (g .classes .words) d || inSet ws d) →
-        g′ .pending ≡ g .pending → g′ .intervals ≡ g .intervals → g′ .blocked ≡ g .blocked →
+        g′ .pending ≡ g .pending → g′ .constraints ≡ g .constraints → g′ .impossible ≡ g .impossible →
         Adds p x 0 0 m (λ cs. a ∷ cs) [] (λ l. l) 0 false w w g g′
     add-class a ws n long ew hc hp hs hb = record {
       classes = λ s cs h b. more s cs h b;
@@ -171,11 +174,11 @@ module _ (p : List ℕ) (x m : ℕ) (w : List ℕ) (g : Got) where
       arms = refl;
       sure = nil;
       top = λ l h s. hs ∙ h;
-      intervals = λ l h s. s;
+      constraints = λ l h s. s;
       few = omega arith;
       first = omega arith;
-      bars = hb ∙ sym (or-false (g .blocked));
-      kept = kept-same 0 0 (g .pending) 512 m w;
+      bottom = hb ∙ sym (or-false (g .impossible));
+      kept = kept-same 0 0 (g .pending) mostRecords m w;
     }
       where
         row : ws ≡ rowOf (front w) a
@@ -188,7 +191,7 @@ module _ (p : List ℕ) (x m : ℕ) (w : List ℕ) (g : Got) where
 
     module _ (w′ : List ℕ) (low : pendingAt ≤ g .pending) where
       add-role : (k : ℕ) → (k ≡ 0 → ⊥) → Entry p k → g .pending < rowsAt → tablesEnd ≤ length w → w′ ≡ set w (g .pending) k →
-          g′ .classes ≡ g .classes → g′ .pending ≡ g .pending + 1 → g′ .intervals ≡ g .intervals → g′ .blocked ≡ g .blocked →
+          g′ .classes ≡ g .classes → g′ .pending ≡ g .pending + 1 → g′ .constraints ≡ g .constraints → g′ .impossible ≡ g .impossible →
           Adds p x 0 0 m (λ cs. cs) (armAt p k ∷ []) (λ l. l) 0 false w w′ g g′
       add-role k z en b long ew hc hp hs hb = record {
         classes = λ s cs h. rw hc h;
@@ -196,16 +199,16 @@ module _ (p : List ℕ) (x m : ℕ) (w : List ℕ) (g : Got) where
         arms = rw (at-end, ne-eqb k 0 z);
         sure = rw at-end (cons (inr en) nil);
         top = λ l h s. hs ∙ h;
-        intervals = λ l h s. intervals-kept w w′ m (heldBy x l) (λ i q f. other i (λ e. omega arith)) s;
+        constraints = λ l h s. intervals-kept w w′ m (heldBy x l) (λ i q f. other i (λ e. omega arith)) s;
         few = omega arith;
         first = omega arith;
-        bars = hb ∙ sym (or-false (g .blocked));
+        bottom = hb ∙ sym (or-false (g .impossible));
         kept = record {
           before = λ i h. other i (λ e. omega arith);
           low = λ i h. absurd (omega arith);
           upper = λ i h f. other i (λ e. omega arith);
           rows = λ i h f. other i (λ e. omega arith);
-          intervals = λ i h f. other i (λ e. omega arith);
+          constraints = λ i h f. other i (λ e. omega arith);
           behind = λ i h. other i (λ e. omega arith);
           same = ap length ew ∙ length-set w (g .pending) k;
         };
@@ -217,33 +220,33 @@ module _ (p : List ℕ) (x m : ℕ) (w : List ℕ) (g : Got) where
           other : (i : ℕ) → (i ≡ g .pending → ⊥) → getD w′ i 0 ≡ getD w i 0
           other i n = ap (λ (l : List ℕ). getD l i 0) ew ∙ getD-set-other w (g .pending) i k 0 n
 
-      add-interval : (one : Bool) (f lo hi : ℕ) → g .pending ≤ rowsAt → Placed one x m (g .intervals) f lo hi w w′ (g′ .intervals) →
-          g′ .classes ≡ g .classes → g′ .pending ≡ g .pending → g′ .blocked ≡ g .blocked →
-          Adds p x 0 0 m (λ cs. cs) [] (placeInterval one (intervalOf f lo hi)) 1 false w w′ g g′
+      add-interval : (one : Bool) (f lo hi : ℕ) → g .pending ≤ rowsAt → Placed one x m (g .constraints) f lo hi w w′ (g′ .constraints) →
+          g′ .classes ≡ g .classes → g′ .pending ≡ g .pending → g′ .impossible ≡ g .impossible →
+          Adds p x 0 0 m (λ cs. cs) [] (placeConstraint one (intervalOf f lo hi)) 1 false w w′ g g′
       add-interval one f lo hi b u hc hp hb = record {
         classes = λ s cs h. rw hc h;
         pending = omega arith;
         arms = refl;
         sure = nil;
         top = λ l h s. u .ends l h s;
-        intervals = λ l h s. u .intervals l h s;
+        constraints = λ l h s. u .constraints l h s;
         few = u .few;
         first = u .more;
-        bars = hb ∙ sym (or-false (g .blocked));
+        bottom = hb ∙ sym (or-false (g .impossible));
         kept = record {
           before = λ i h. u .low i (omega arith);
           low = λ i h. u .low i (omega arith);
           upper = λ i h f. u .low i (omega arith);
           rows = λ i h f. u .low i (omega arith);
-          intervals = λ i h f. u .low i f;
+          constraints = λ i h f. u .low i f;
           behind = u .behind;
           same = u .same;
         };
       }
 
 -- one addition after another
-module _ (p : List ℕ) (x j e m : ℕ) {fc fd : List ℕ → List ℕ} {rs qs : List Arm} {fs gs : List Interval → List Interval} {ns ms : ℕ} {a b : Bool}
-    {w w′ w″ : List ℕ} {g g′ g″ : Got} where
+module _ (p : List ℕ) (x j e m : ℕ) {fc fd : List ℕ → List ℕ} {rs qs : List Arm} {fs gs : List Constraint → List Constraint} {ns ms : ℕ} {a b : Bool}
+    {w w′ w″ : List ℕ} {g g′ g″ : Draft} where
   pub adds-then : (n : ℕ) (c : Bool) → n ≡ ns + ms → c ≡ a || b → e ≤ g .pending → Adds p x j e m fc rs fs ns a w w′ g g′ → Adds p x j e m fd qs gs ms b w′ w″ g′ g″ →
       Adds p x j e m (λ cs. fd (fc cs)) (rs ++ qs) (λ l. gs (fs l)) n c w w″ g g″
   adds-then n c en ec o s t = record {
@@ -253,17 +256,17 @@ module _ (p : List ℕ) (x j e m : ℕ) {fc fd : List ℕ → List ℕ} {rs qs :
         ap (live p) words ∙ live-append p (wordsAt w′ (g .pending) (length rs)) (wordsAt w″ (g′ .pending) (length qs))
         ∙ ap (λ (l : List Arm). l ++ live p (wordsAt w″ (g′ .pending) (length qs))) (s .arms) ∙ ap (λ (l : List Arm). rs ++ l) (t .arms);
     sure = subst (λ (l : List ℕ). Sure p l) (sym words) (all-append (s .sure) (t .sure));
-    top = λ l h q. t .top (fs l) (s .top l h q) (s .intervals l h q);
-    intervals = λ l h q. t .intervals (fs l) (s .top l h q) (s .intervals l h q);
+    top = λ l h q. t .top (fs l) (s .top l h q) (s .constraints l h q);
+    constraints = λ l h q. t .constraints (fs l) (s .top l h q) (s .constraints l h q);
     few = let u = s .few in let v = t .few in omega arith;
     first = let u = s .first in let v = t .first in omega arith;
-    bars = t .bars ∙ ap (λ (y : Bool). y || b) (s .bars) ∙ or-assoc (g .blocked) a b ∙ ap (λ (y : Bool). g .blocked || y) (sym ec);
+    bottom = t .bottom ∙ ap (λ (y : Bool). y || b) (s .bottom) ∙ or-assoc (g .impossible) a b ∙ ap (λ (y : Bool). g .impossible || y) (sym ec);
     kept = record {
       before = λ i h. t .kept .before i h ∙ s .kept .before i h;
       low = λ i h. t .kept .low i h ∙ s .kept .low i h;
       upper = λ i h f. t .kept .upper i h (let u = s .pending in omega arith) ∙ s .kept .upper i h f;
       rows = λ i h f. t .kept .rows i h f ∙ s .kept .rows i h f;
-      intervals = λ i h f. t .kept .intervals i h f ∙ s .kept .intervals i h f;
+      constraints = λ i h f. t .kept .constraints i h f ∙ s .kept .constraints i h f;
       behind = λ i h. t .kept .behind i h ∙ s .kept .behind i h;
       same = t .kept .same ∙ s .kept .same;
     };
@@ -277,7 +280,7 @@ module _ (p : List ℕ) (x j e m : ℕ) {fc fd : List ℕ → List ℕ} {rs qs :
           ∙ ap (λ (l : List ℕ). wordsAt w′ (g .pending) (length rs) ++ l) (words-eq w″ {n = length qs} (sym (s .pending)) refl)
 
 -- as an addition that keeps less
-pub adds-less : (p : List ℕ) (x j e m : ℕ) {fc : List ℕ → List ℕ} {rs : List Arm} {fs : List Interval → List Interval} {ns : ℕ} {b : Bool} {w w′ : List ℕ} {g g′ : Got} →
+pub adds-less : (p : List ℕ) (x j e m : ℕ) {fc : List ℕ → List ℕ} {rs : List Arm} {fs : List Constraint → List Constraint} {ns : ℕ} {b : Bool} {w w′ : List ℕ} {g g′ : Draft} →
     j ≤ g .pending → Adds p x 0 0 m fc rs fs ns b w w′ g g′ → Adds p x j e m fc rs fs ns b w w′ g g′
 adds-less p x j e m h s = record {
   classes = s .classes;
@@ -285,16 +288,16 @@ adds-less p x j e m h s = record {
   arms = s .arms;
   sure = s .sure;
   top = s .top;
-  intervals = s .intervals;
+  constraints = s .constraints;
   few = s .few;
   first = s .first;
-  bars = s .bars;
+  bottom = s .bottom;
   kept = record {
     before = s .kept .before;
     low = λ i f. s .kept .upper i (omega arith) (omega arith);
     upper = λ i a f. s .kept .upper i (omega arith) f;
     rows = s .kept .rows;
-    intervals = s .kept .intervals;
+    constraints = s .kept .constraints;
     behind = s .kept .behind;
     same = s .kept .same;
   };
@@ -302,25 +305,25 @@ adds-less p x j e m h s = record {
 
 -- ---- one conjunct
 
-module _ (one : ℕ → Bool) (p : List ℕ) (x m k : ℕ) (w : List ℕ) (g : Got) (z : k ≡ 0 → ⊥) (r : Good p k) (d : ReadyFor w m g (chainAt p k)) where
+module _ (one : ℕ → Bool) (p : List ℕ) (x m k : ℕ) (w : List ℕ) (g : Draft) (z : k ≡ 0 → ⊥) (r : Good p k) (d : ReadyFor w m g (chainAt p k)) where
   cut-here : Cut p k (chainAt p k)
   cut-here = cut p k z (r .reads) (r .named)
 
-  headed : {h : Chain} {w′ : List ℕ} {g′ : Got} → headAt p k ≡ h → Adding one p x m h w w′ g g′ → Adding one p x m (headAt p k) w w′ g g′
+  headed : {h : Chain} {w′ : List ℕ} {g′ : Draft} → headAt p k ≡ h → Adding one p x m h w w′ g g′ → Adding one p x m (headAt p k) w w′ g g′
   headed {w′ = w′} {g′ = g′} e a = subst (λ (y : Chain). Adding one p x m y w w′ g g′) (sym e) a
 
   module _ {kind a : ℕ} (ek : kind ≡ kindOf p k) (ea : a ≡ nameOf p k) where
     pub class-place : kind ≡ 1 → (1 ≤ a) × (a * classWords ≤ length w)
     class-place i = let n = cut-here .named (sym ek ∙ i) in let l = d .long in (omega arith, omega arith)
 
-    pub conj-class : kind ≡ 1 → (g′ : Got) (ws : List ℕ) → ws ≡ rowOf w a →
+    pub conj-class : kind ≡ 1 → (g′ : Draft) (ws : List ℕ) → ws ≡ rowOf w a →
         ((b : ℕ) → inSet (g′ .classes .words) b ≡ inSet (g .classes .words) b || inSet ws b) →
-        g′ .pending ≡ g .pending → g′ .intervals ≡ g .intervals → g′ .blocked ≡ g .blocked → Adding one p x m (headAt p k) w w g g′
+        g′ .pending ≡ g .pending → g′ .constraints ≡ g .constraints → g′ .impossible ≡ g .impossible → Adding one p x m (headAt p k) w w g g′
     conj-class i g′ ws ew hc hp hs hb =
         headed (head-class p k (sym ek ∙ i))
         (add-class p x m w g g′ (nameOf p k) ws (cut-here .named (sym ek ∙ i)) (d .long) (ew ∙ ap (λ (y : ℕ). rowOf w y) ea) hc hp hs hb)
 
-    pub conj-bar : kind ≡ 2 → (g′ : Got) → g′ .classes ≡ g .classes → g′ .pending ≡ g .pending → g′ .intervals ≡ g .intervals → g′ .blocked ≡ true →
+    pub conj-bar : kind ≡ 2 → (g′ : Draft) → g′ .classes ≡ g .classes → g′ .pending ≡ g .pending → g′ .constraints ≡ g .constraints → g′ .impossible ≡ true →
         Adding one p x m (headAt p k) w w g g′
     conj-bar i g′ hc hp hs hb = headed (head-impossible p k (sym ek ∙ i)) (add-bar p x m w g g′ hc hp hs hb)
 
@@ -331,8 +334,8 @@ module _ (one : ℕ → Bool) (p : List ℕ) (x m k : ℕ) (w : List ℕ) (g : G
         let e : length (roles (headAt p k)) ≡ 1 = ap (λ (y : Chain). length (roles y)) (head-some p k (sym ek ∙ i)) in
         omega arith
 
-    pub conj-role : kind ≡ 3 → (g′ : Got) (w′ : List ℕ) → w′ ≡ set w (g .pending) k → g′ .classes ≡ g .classes → g′ .pending ≡ g .pending + 1 →
-        g′ .intervals ≡ g .intervals → g′ .blocked ≡ g .blocked → Adding one p x m (headAt p k) w w′ g g′
+    pub conj-role : kind ≡ 3 → (g′ : Draft) (w′ : List ℕ) → w′ ≡ set w (g .pending) k → g′ .classes ≡ g .classes → g′ .pending ≡ g .pending + 1 →
+        g′ .constraints ≡ g .constraints → g′ .impossible ≡ g .impossible → Adding one p x m (headAt p k) w w′ g g′
     conj-role i g′ w′ ew hc hp hs hb =
         headed (head-some p k (sym ek ∙ i))
         (add-role p x m w g g′ w′ (d .low) k z (cut-here .child (sym ek ∙ i)) (role-room i) (d .long) ew hc hp hs hb)
@@ -341,44 +344,44 @@ module _ (one : ℕ → Bool) (p : List ℕ) (x m k : ℕ) (w : List ℕ) (g : G
       is-interval : kindOf p k ≡ 4
       is-interval = cut-here .last (λ e. n₁ (ek ∙ e)) (λ e. n₂ (ek ∙ e)) (λ e. n₃ (ek ∙ e))
 
-      pub interval-room : g .intervals < 512
+      pub interval-room : g .constraints < mostRecords
       interval-room =
-          let u = cut-here .intervals in
-          let v = d .intervals in
+          let u = cut-here .constraints in
+          let v = d .constraints in
           let e : intervalCount (headAt p k) ≡ 1 = ap (λ (y : Chain). intervalCount y) (head-interval p k is-interval) in
           omega arith
 
-      pub conj-interval : {t : Bool} {lo hi : ℕ} → t ≡ one a → lo ≡ loOf p k → hi ≡ hiOf p k → (g′ : Got) (w′ : List ℕ) →
-          Placed t x m (g .intervals) a lo hi w w′ (g′ .intervals) → g′ .classes ≡ g .classes → g′ .pending ≡ g .pending → g′ .blocked ≡ g .blocked →
+      pub conj-interval : {t : Bool} {lo hi : ℕ} → t ≡ one a → lo ≡ loOf p k → hi ≡ hiOf p k → (g′ : Draft) (w′ : List ℕ) →
+          Placed t x m (g .constraints) a lo hi w w′ (g′ .constraints) → g′ .classes ≡ g .classes → g′ .pending ≡ g .pending → g′ .impossible ≡ g .impossible →
           Adding one p x m (headAt p k) w w′ g g′
       conj-interval {t} {lo} {hi} et el eh g′ w′ u hc hp hb =
           headed (head-interval p k is-interval)
           (add-interval p x m w g g′ w′ (d .low) (one (nameOf p k)) (nameOf p k) (loOf p k) (hiOf p k) (let b = d .pending in omega arith) told hc hp hb)
         where
-          told : Placed (one (nameOf p k)) x m (g .intervals) (nameOf p k) (loOf p k) (hiOf p k) w w′ (g′ .intervals)
+          told : Placed (one (nameOf p k)) x m (g .constraints) (nameOf p k) (loOf p k) (hiOf p k) w w′ (g′ .constraints)
           told = rw (← ea, ← el, ← eh, ← et) u
 
 -- ---- the conjuncts, one after another
 
-pub chain-done : (one : ℕ → Bool) (p : List ℕ) (x m k : ℕ) (w : List ℕ) (g : Got) → k ≡ 0 → Adding one p x m (chainAt p k) w w g g
+pub chain-done : (one : ℕ → Bool) (p : List ℕ) (x m k : ℕ) (w : List ℕ) (g : Draft) → k ≡ 0 → Adding one p x m (chainAt p k) w w g g
 chain-done one p x m k w g e = subst (λ (y : Chain). Adding one p x m y w w g g) (sym (chain-end p k e)) (add-none p x m w g 0 0)
 
 -- a record, and then its next, which is y
-module _ (one : ℕ → Bool) (p : List ℕ) (x m k : ℕ) (w : List ℕ) (g : Got) (z : k ≡ 0 → ⊥) (r : Good p k) {y : ℕ} (e : y ≡ nextOf p k) where
+module _ (one : ℕ → Bool) (p : List ℕ) (x m k : ℕ) (w : List ℕ) (g : Draft) (z : k ≡ 0 → ⊥) (r : Good p k) {y : ℕ} (e : y ≡ nextOf p k) where
   pub next-good : Good p y
   next-good = rw e (cut p k z (r .reads) (r .named) .next)
 
   pub next-falls : {t : ℕ} → conjuncts (chainAt p k) ≡ t → conjuncts (chainAt p y) < t
   next-falls q = rw (e, ← q) (cut p k z (r .reads) (r .named) .less)
 
-  module _ {w′ : List ℕ} {g′ : Got} (s : Adding one p x m (headAt p k) w w′ g g′) where
+  module _ {w′ : List ℕ} {g′ : Draft} (s : Adding one p x m (headAt p k) w w′ g g′) where
     pub next-ready : ReadyFor w m g (chainAt p k) → ReadyFor w′ m g′ (chainAt p y)
     next-ready d = rw e (go (cut p k z (r .reads) (r .named)))
       where
         go : Cut p k (chainAt p k) → ReadyFor w′ m g′ (chainAt p (nextOf p k))
         go u =
             let a = u .arms in
-            let b = u .intervals in
+            let b = u .constraints in
             let h = s .pending in
             let i = s .few in
             let j = s .first in
@@ -387,16 +390,16 @@ module _ (one : ℕ → Bool) (p : List ℕ) (x m k : ℕ) (w : List ℕ) (g : G
             let d2 = d .low in
             let d3 = d .pending in
             let d4 = d .first in
-            let d5 = d .intervals in
-            record { long = omega arith; low = omega arith; pending = omega arith; first = omega arith; intervals = omega arith }
+            let d5 = d .constraints in
+            record { long = omega arith; low = omega arith; pending = omega arith; first = omega arith; constraints = omega arith }
 
-    pub chain-step : {w″ : List ℕ} {g″ : Got} → Adding one p x m (chainAt p y) w′ w″ g′ g″ → Adding one p x m (chainAt p k) w w″ g g″
+    pub chain-step : {w″ : List ℕ} {g″ : Draft} → Adding one p x m (chainAt p y) w′ w″ g′ g″ → Adding one p x m (chainAt p k) w w″ g g″
     chain-step {w″} {g″} t = go (r .reads)
       where
         t′ : Adding one p x m (chainAt p (nextOf p k)) w′ w″ g′ g″
         t′ = subst (λ (i : ℕ). Adding one p x m (chainAt p i) w′ w″ g′ g″) e t
 
-        join : (h d : Chain) → headAt p k ≡ h → chainAt p (nextOf p k) ≡ d → (n : ℕ) (c : Bool) → n ≡ intervalCount h + intervalCount d → c ≡ barred h || barred d →
+        join : (h d : Chain) → headAt p k ≡ h → chainAt p (nextOf p k) ≡ d → (n : ℕ) (c : Bool) → n ≡ intervalCount h + intervalCount d → c ≡ bottomHere h || bottomHere d →
             Adds p x 0 0 m (λ cs. classesIn d (classesIn h cs)) (roles h ++ roles d) (λ l. intervalsIn one d (intervalsIn one h l)) n c w w″ g g″
         join h d eh ed n c en ec =
             adds-then p x 0 0 m n c en ec (omega arith) (subst (λ (y : Chain). Adding one p x m y w w′ g g′) eh s) (subst (λ (y : Chain). Adding one p x m y w′ w″ g′ g″) ed t′)

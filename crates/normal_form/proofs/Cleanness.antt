@@ -4,16 +4,18 @@ use mathlib.Core.Bool.{Bool, _&&_, and-assoc, and-false, and-true, false, not, t
 use mathlib.Core.List.{List, [], _++_, _∷_, append-nil, map}
 use mathlib.Core.Path.{_∙_, _≡_, ap, ap₂, refl, sym}
 use native.Mathlib.Omega.{arith}
-use lib.Dec.{T, leb}
+use lib.Dec.{T}
 use lib.ListN.{getD, length}
-use Rattle.hierarchy.specs.Pairs.{PairRows, pairAt, pairCount, pairPlace, parting}
+use Rattle.hierarchy.specs.Pairs.{PairRows, pairAt, pairCount, pairPlace}
 use Rattle.meaning.proofs.Rules.{T-and, all-at, all-in, all-of, all-out, and-T, any-at, any-in, any-out, at-any, same-test}
 use Rattle.meaning.specs.Countermodel.{size}
-use Rattle.meaning.specs.Lists.{Any, _∈_, all, counting, flatMap}
-use Rattle.meaning.specs.NormalForm.{Form, Interval, Successors, clash, cleanNode, cleanSuccessors, compatible, filled, isBelow, none, separates, successor}
-use Rattle.meaning.specs.Vocabulary.{Axiom, Vocabulary, below, disjoint, functionalFeature, functionalRole, range, vocabularyOf}
+use Rattle.meaning.specs.Intervals.{Constraint, isNonEmpty}
+use Rattle.meaning.specs.Lists.{Any, _∈_, all, counting}
+use Rattle.meaning.specs.NormalForm.{Form, Successors, areNonEmpty, clash, cleanNode, cleanSuccessors, compatible, none, successor}
+use Rattle.meaning.specs.Stated.{disjointPairs, isBelow}
+use Rattle.meaning.specs.Vocabulary.{Vocabulary, vocabularyOf}
 use Rattle.normal_form.proofs.Nodes.{held-in}
-use Rattle.normal_form.specs.Clean.{TellsClean, agree, agreeIn, cleanForm, filledAt, parted, setAt}
+use Rattle.normal_form.specs.Clean.{DecidesClean, agree, agreeIn, cleanForm, hasBoth, nonEmptyAt, setAt}
 use Rattle.normal_form.specs.Tables.{Above, Held, IntervalsStand, RowsStand, Tabled, heldBelow, heldBy, heldIn}
 use Rattle.normal_form.specs.declared.Tables.{Tables}
 use Rattle.words.specs.Sets.{inSet}
@@ -66,16 +68,16 @@ module _ (p : ℕ → Bool) (n i : ℕ) (same : all p (counting 0 n) ≡ all p (
 -- ---- constraints
 
 -- the list's constraints have values
-abbrev filledAll : List Held → Bool
-filledAll l = all (λ h. leb (h .constraint .lo) (h .constraint .hi)) l
+abbrev nonEmptyAll : List Held → Bool
+nonEmptyAll l = all (λ h. isNonEmpty (h .constraint .lo) (h .constraint .hi)) l
 
-filled-words : (w : List ℕ) (m : ℕ) (l : List Held) → IntervalsStand w m l → all (filledAt w) (counting m (length l)) ≡ filledAll l
-filled-words w m [] s = refl
-filled-words w m (h ∷ l) s = rw (s .0 .lo, s .0 .hi) (ap (λ (b : Bool). leb (h .constraint .lo) (h .constraint .hi) && b) (filled-words w (suc m) l (s .1)))
+nonEmpty-words : (w : List ℕ) (m : ℕ) (l : List Held) → IntervalsStand w m l → all (nonEmptyAt w) (counting m (length l)) ≡ nonEmptyAll l
+nonEmpty-words w m [] s = refl
+nonEmpty-words w m (h ∷ l) s = rw (s .0 .lo, s .0 .hi) (ap (λ (b : Bool). isNonEmpty (h .constraint .lo) (h .constraint .hi) && b) (nonEmpty-words w (suc m) l (s .1)))
 
-filled-held : (x : ℕ) (l : List Interval) → filledAll (heldBy x l) ≡ filled l
-filled-held x [] = refl
-filled-held x (s ∷ l) = ap (λ (b : Bool). leb (s .lo) (s .hi) && b) (filled-held x l)
+nonEmpty-held : (x : ℕ) (l : List Constraint) → nonEmptyAll (heldBy x l) ≡ areNonEmpty l
+nonEmpty-held x [] = refl
+nonEmpty-held x (s ∷ l) = ap (λ (b : Bool). isNonEmpty (s .lo) (s .hi) && b) (nonEmpty-held x l)
 
 -- ---- sets
 
@@ -87,24 +89,17 @@ module _ (K : Vocabulary) (ws cs : List ℕ) (told : Above K ws cs) where
   in-set : (a b : ℕ) → a ∈ cs → T (isBelow K a b) → T (inSet ws b)
   in-set a b m t = rw (told b) (any-in (λ c. isBelow K c b) (at-any m t))
 
-  parts-them : (a b : ℕ) (x : Axiom) → a ∈ cs → b ∈ cs → T (separates K a b x) → T (parted ws x)
-  parts-them a b (below x y) m n t = t
-  parts-them a b (disjoint x y) m n t =
-      let u = T-and (isBelow K a x) (isBelow K b y) t in and-T (inSet ws x) (inSet ws y) (in-set a x m (u .0)) (in-set b y n (u .1))
-  parts-them a b (functionalRole r) m n t = t
-  parts-them a b (functionalFeature f) m n t = t
-  parts-them a b (range r c) m n t = t
+  clash-both : (a b : ℕ) (p : ℕ × ℕ) → a ∈ cs → b ∈ cs → T (isBelow K a (p .0) && isBelow K b (p .1)) → T (hasBoth ws p)
+  clash-both a b p m n t =
+      let u = T-and (isBelow K a (p .0)) (isBelow K b (p .1)) t in
+      and-T (inSet ws (p .0)) (inSet ws (p .1)) (in-set a (p .0) m (u .0)) (in-set b (p .1) n (u .1))
 
-  parted-by : (x : Axiom) → T (parted ws x) → (a : ℕ) × (b : ℕ) × (a ∈ cs) × (b ∈ cs) × T (separates K a b x)
-  parted-by (below x y) t = absurd t
-  parted-by (disjoint x y) t =
-      let u = T-and (inSet ws x) (inSet ws y) t in
-      let p = any-at (has x (u .0)) in
-      let q = any-at (has y (u .1)) in
-      (p .0, q .0, p .1, q .1, and-T (isBelow K (p .0) x) (isBelow K (q .0) y) (p .2) (q .2))
-  parted-by (functionalRole r) t = absurd t
-  parted-by (functionalFeature f) t = absurd t
-  parted-by (range r c) t = absurd t
+  both-clash : (p : ℕ × ℕ) → T (hasBoth ws p) → (a : ℕ) × (b : ℕ) × (a ∈ cs) × (b ∈ cs) × T (isBelow K a (p .0) && isBelow K b (p .1))
+  both-clash p t =
+      let u = T-and (inSet ws (p .0)) (inSet ws (p .1)) t in
+      let x = any-at (has (p .0) (u .0)) in
+      let y = any-at (has (p .1) (u .1)) in
+      (x .0, y .0, x .1, y .1, and-T (isBelow K (x .0) (p .0)) (isBelow K (y .0) (p .1)) (x .2) (y .2))
 
   no : (b : Bool) → (T b → ⊥) → T (not b)
   no true f = absurd (f tt)
@@ -117,39 +112,29 @@ module _ (K : Vocabulary) (ws cs : List ℕ) (told : Above K ws cs) where
   -- rule 7, told by the closed set
   agree-compatible : agree K ws ≡ compatible K cs
   unfolding agree
-  agree-compatible = same-test (all (λ x. not (parted ws x)) K) (compatible K cs) there back
+  agree-compatible = same-test (all (λ p. not (hasBoth ws p)) (disjointPairs K)) (compatible K cs) there back
     where
-      there : T (all (λ x. not (parted ws x)) K) → T (compatible K cs)
+      there : T (all (λ p. not (hasBoth ws p)) (disjointPairs K)) → T (compatible K cs)
       there t =
           all-in (λ a. all (λ b. not (clash K a b)) cs) (all-of cs (λ a m. all-in (λ b. not (clash K a b)) (all-of cs (λ b n. no (clash K a b) (λ c.
-          let s = any-at (any-out (separates K a b) K c) in
-          never (parted ws (s .0)) (all-at (all-out (λ x. not (parted ws x)) K t) (s .1)) (parts-them a b (s .0) m n (s .2)))))))
+          let s = any-at (any-out (λ p. isBelow K a (p .0) && isBelow K b (p .1)) (disjointPairs K) c) in
+          never (hasBoth ws (s .0)) (all-at (all-out (λ p. not (hasBoth ws p)) (disjointPairs K) t) (s .1)) (clash-both a b (s .0) m n (s .2)))))))
 
-      back : T (compatible K cs) → T (all (λ x. not (parted ws x)) K)
+      back : T (compatible K cs) → T (all (λ p. not (hasBoth ws p)) (disjointPairs K))
       back t =
-          all-in (λ x. not (parted ws x)) (all-of K (λ x m. no (parted ws x) (λ h.
-          let s = parted-by x h in
+          all-in (λ p. not (hasBoth ws p)) (all-of (disjointPairs K) (λ p m. no (hasBoth ws p) (λ h.
+          let s = both-clash p h in
           never (clash K (s .0) (s .1))
           (all-at (all-out (λ b. not (clash K (s .0) b)) cs (all-at (all-out (λ a. all (λ b. not (clash K a b)) cs) cs t) (s .2))) (s .3))
-          (any-in (separates K (s .0) (s .1)) (at-any m (s .4))))))
+          (any-in (λ p. isBelow K (s .0) (p .0) && isBelow K (s .1) (p .1)) (at-any m (s .4))))))
 
 -- ---- the list of pairs
-
--- no other axiom parts
-agree-parting : (K : Vocabulary) (ws : List ℕ) → agree (flatMap parting K) ws ≡ agree K ws
-unfolding agree
-agree-parting [] ws = refl
-agree-parting (below a b ∷ K) ws = agree-parting K ws
-agree-parting (disjoint a b ∷ K) ws = ap (λ (t : Bool). not (inSet ws a && inSet ws b) && t) (agree-parting K ws)
-agree-parting (functionalRole r ∷ K) ws = agree-parting K ws
-agree-parting (functionalFeature f ∷ K) ws = agree-parting K ws
-agree-parting (range r c ∷ K) ws = agree-parting K ws
 
 -- the list tells what the vocabulary says
 listed-agree : {v w : List ℕ} → PairRows v w → (ws : List ℕ) → agreeIn w ws ≡ agree (vocabularyOf v) ws
 unfolding agree agreeIn
 listed-agree {v} {w} h ws =
-    sym (all-map (λ x. not (parted ws x)) (pairAt w) (counting 0 (pairCount w))) ∙ ap (all (λ x. not (parted ws x))) (h .rows) ∙ agree-parting (vocabularyOf v) ws
+    sym (all-map (λ p. not (hasBoth ws p)) (pairAt w) (counting 0 (pairCount w))) ∙ ap (all (λ p. not (hasBoth ws p))) (h .rows)
 
 -- ---- the form
 
@@ -179,23 +164,23 @@ module _ (K : Vocabulary) (w : List ℕ) where
       ∙ ap (λ (b : Bool). b && all (λ j. agree K (setAt w j)) (counting (suc n + size under) (size next))) (agree-rows under (suc n) (suc n) (s .1))
       ∙ ap (λ (b : Bool). compatibleAll under && b) (agree-rows next i (suc n + size under) (s .2)))
 
-  clean-parts : (ks : Successors) (k : ℕ) → cleanSuccessors K ks ≡ filledAll (heldBelow ks k) && compatibleAll ks
+  clean-parts : (ks : Successors) (k : ℕ) → cleanSuccessors K ks ≡ nonEmptyAll (heldBelow ks k) && compatibleAll ks
   unfolding compatibleAll
   clean-parts none k = refl
   clean-parts (successor r n under next) k =
-      ap (λ (b : Bool). (filled (n .intervals) && compatible K (n .classes)) && (b && cleanSuccessors K next)) (clean-parts under (suc k))
-      ∙ ap (λ (b : Bool). (filled (n .intervals) && compatible K (n .classes)) && ((filledAll (heldBelow under (suc k)) && compatibleAll under) && b)) (clean-parts next (suc k + size under))
-      ∙ parts-of (filled (n .intervals)) (compatible K (n .classes)) (filledAll (heldBelow under (suc k))) (compatibleAll under) (filledAll (heldBelow next (suc k + size under))) (compatibleAll next)
+      ap (λ (b : Bool). (areNonEmpty (n .constraints) && compatible K (n .classes)) && (b && cleanSuccessors K next)) (clean-parts under (suc k))
+      ∙ ap (λ (b : Bool). (areNonEmpty (n .constraints) && compatible K (n .classes)) && ((nonEmptyAll (heldBelow under (suc k)) && compatibleAll under) && b)) (clean-parts next (suc k + size under))
+      ∙ parts-of (areNonEmpty (n .constraints)) (compatible K (n .classes)) (nonEmptyAll (heldBelow under (suc k))) (compatibleAll under) (nonEmptyAll (heldBelow next (suc k + size under))) (compatibleAll next)
       ∙ ap (λ (b : Bool). b && (compatible K (n .classes) && (compatibleAll under && compatibleAll next))) (sym whole)
     where
-      whole : filledAll (heldBelow (successor r n under next) k) ≡ filled (n .intervals) && (filledAll (heldBelow under (suc k)) && filledAll (heldBelow next (suc k + size under)))
+      whole : nonEmptyAll (heldBelow (successor r n under next) k) ≡ areNonEmpty (n .constraints) && (nonEmptyAll (heldBelow under (suc k)) && nonEmptyAll (heldBelow next (suc k + size under)))
       whole =
-          all-append (λ h. leb (h .constraint .lo) (h .constraint .hi)) (heldBy k (n .intervals)) (heldBelow under (suc k) ++ heldBelow next (suc k + size under))
-          ∙ ap (λ (b : Bool). b && filledAll (heldBelow under (suc k) ++ heldBelow next (suc k + size under))) (filled-held k (n .intervals))
-          ∙ ap (λ (b : Bool). filled (n .intervals) && b) (all-append (λ h. leb (h .constraint .lo) (h .constraint .hi)) (heldBelow under (suc k)) (heldBelow next (suc k + size under)))
+          all-append (λ h. isNonEmpty (h .constraint .lo) (h .constraint .hi)) (heldBy k (n .constraints)) (heldBelow under (suc k) ++ heldBelow next (suc k + size under))
+          ∙ ap (λ (b : Bool). b && nonEmptyAll (heldBelow under (suc k) ++ heldBelow next (suc k + size under))) (nonEmpty-held k (n .constraints))
+          ∙ ap (λ (b : Bool). areNonEmpty (n .constraints) && b) (all-append (λ h. isNonEmpty (h .constraint .lo) (h .constraint .hi)) (heldBelow under (suc k)) (heldBelow next (suc k + size under)))
 
 -- both tests of the tables
-module _ (K : Vocabulary) (w : List ℕ) (r : Tables) {a : Bool} (ea : a ≡ all (filledAt w) (counting 0 (r .intervals))) where
+module _ (K : Vocabulary) (w : List ℕ) (r : Tables) {a : Bool} (ea : a ≡ all (nonEmptyAt w) (counting 0 (r .constraints))) where
   clean-form : (t : Form) → Tabled K t w r → cleanForm K t ≡ a && all (λ j. agree K (setAt w j)) (counting 0 (r .individuals))
   clean-form t s =
       ap (λ (b : Bool). cleanNode K (t .node) && b) (sym (and-true (cleanSuccessors K (t .successors))))
@@ -203,11 +188,11 @@ module _ (K : Vocabulary) (w : List ℕ) (r : Tables) {a : Bool} (ea : a ≡ all
       ∙ ap (λ (b : Bool). b && compatibleAll K w (successor 0 (t .node) (t .successors) none)) holds
       ∙ ap (λ (b : Bool). a && b) (sym fit)
     where
-      long : r .intervals ≡ length (heldIn t)
+      long : r .constraints ≡ length (heldIn t)
       long = s .top ∙ sym (held-in t)
 
-      holds : filledAll (heldBelow (successor 0 (t .node) (t .successors) none) 1) ≡ a
-      holds = rw append-nil (sym (ea ∙ ap (λ (n : ℕ). all (filledAt w) (counting 0 n)) long ∙ filled-words w 0 (heldIn t) (s .held)))
+      holds : nonEmptyAll (heldBelow (successor 0 (t .node) (t .successors) none) 1) ≡ a
+      holds = rw append-nil (sym (ea ∙ ap (λ (n : ℕ). all (nonEmptyAt w) (counting 0 n)) long ∙ nonEmpty-words w 0 (heldIn t) (s .held)))
 
       fit : all (λ j. agree K (setAt w j)) (counting 0 (r .individuals)) ≡ compatibleAll K w (successor 0 (t .node) (t .successors) none)
       fit =
@@ -221,12 +206,12 @@ module _ (K : Vocabulary) (w : List ℕ) (r : Tables) {a : Bool} (ea : a ≡ all
   clean-both h eb t s = eb ∙ sym (clean-form t s ∙ rw h)
 
 -- so by the list, of whatever vocabulary it is
-module _ (w : List ℕ) (r : Tables) {a : Bool} (ea : a ≡ all (filledAt w) (counting 0 (r .intervals))) where
-  pub clean-listed : {b : Bool} → a ≡ true → b ≡ all (λ j. agreeIn w (setAt w j)) (counting 0 (r .individuals)) → TellsClean w r b
+module _ (w : List ℕ) (r : Tables) {a : Bool} (ea : a ≡ all (nonEmptyAt w) (counting 0 (r .constraints))) where
+  pub clean-listed : {b : Bool} → a ≡ true → b ≡ all (λ j. agreeIn w (setAt w j)) (counting 0 (r .individuals)) → DecidesClean w r b
   clean-listed h eb v t p s =
       clean-both (vocabularyOf v) w r ea h (eb ∙ all-same (λ j. agreeIn w (setAt w j)) (λ j. agree (vocabularyOf v) (setAt w j)) (λ j. listed-agree p (setAt w j)) (counting 0 (r .individuals))) t s
 
-  pub clean-empty : a ≡ false → TellsClean w r a
+  pub clean-empty : a ≡ false → DecidesClean w r a
   clean-empty h v t p s = clean-not (vocabularyOf v) w r ea h t s
 
 -- the test of an individual's set, once it is loaded
@@ -236,8 +221,8 @@ row-agrees w i e d = sym (d ∙ ap (agreeIn w) e)
 -- ---- one pair: the second class is looked for where the set has the first
 
 module _ (w ws : List ℕ) (i : ℕ) {at : ℕ} {s : Bool} (ea : at ≡ pairPlace i) (es : s ≡ inSet ws (getD w at 0)) where
-  pub parts-none : s ≡ false → s ≡ parted ws (pairAt w i)
-  parts-none h = sym (rw (← ea, ← es, h))
+  pub has-none : s ≡ false → s ≡ hasBoth ws (pairAt w i)
+  has-none h = sym (rw (← ea, ← es, h))
 
-  pub parts-both : {t : Bool} → s ≡ true → t ≡ inSet ws (getD w (at + 1) 0) → t ≡ parted ws (pairAt w i)
-  parts-both h et = et ∙ sym (rw (← ea, ← es, h))
+  pub has-both : {t : Bool} → s ≡ true → t ≡ inSet ws (getD w (at + 1) 0) → t ≡ hasBoth ws (pairAt w i)
+  has-both h et = et ∙ sym (rw (← ea, ← es, h))

@@ -12,16 +12,23 @@ use Rattle.hierarchy.proofs.Pairs.{pairs-kept}
 use Rattle.hierarchy.specs.Pairs.{pairsAt}
 use Rattle.hierarchy.specs.Rows.{ClosedRows, RangeRows, roleRow, rowOf, rowPlace}
 use Rattle.hierarchy.specs.declared.Functional.{Functional}
-use Rattle.meaning.proofs.Links.{Name}
+use Rattle.meaning.proofs.Bounds.{rangePairs-named}
 use Rattle.meaning.proofs.Rules.{all-append, head, tail}
-use Rattle.meaning.proofs.Terms.{ChainOf, count}
-use Rattle.meaning.proofs.Wellformed.{NamedAxiom, accepted-axioms, accepted-counts}
+use Rattle.meaning.proofs.Wellformed.{accepted-counts}
+use Rattle.meaning.specs.Accepted.{ChainOf, count}
+use Rattle.meaning.specs.Intervals.{Constraint}
+use Rattle.meaning.specs.Limits.{mostClasses, mostFeatures, mostRoles}
 use Rattle.meaning.specs.Lists.{All, any, cons, filter, nil}
-use Rattle.meaning.specs.NormalForm.{Form, Interval, Node, Successors, add, bare, blocked, graft, isBelow, none, normalForm, placeSuccessor, ranges, single, singleFeature, successor}
+use Rattle.meaning.specs.NormalForm.{Form, Node, Successors, add, bare, graft, hasBottom, none, normalForm, placeSuccessor}
+use Rattle.meaning.specs.NormalForm.{successor}
 use Rattle.meaning.specs.Policy.{Chain, class, end, impossible, interval, some}
-use Rattle.meaning.specs.Vocabulary.{Vocabulary, below, classCount, disjoint, featureCount, functionalFeature, functionalRole, mostClasses, range, roleCount, vocabularyOf, vocabularyRefusal}
+use Rattle.meaning.specs.Records.{Name}
+use Rattle.meaning.specs.Stated.{isBelow, isFunctionalFeature, isFunctionalRole, ranges, rangesIn}
+use Rattle.meaning.specs.Vocabulary.{Vocabulary, classCount, featureCount, roleCount, vocabularyOf, vocabularyRefusal}
 use Rattle.normal_form.proofs.Laws.{front-row, row-kept}
-use Rattle.normal_form.specs.Parts.{Arm, barred, barredAll, blockedAll, classesAll, classesIn, countAll, intervalCount, intervalsAll, intervalsIn, joins, parts, placeAll, roles, rolesAll, successorsOf, weigh}
+use Rattle.normal_form.specs.Parts.{Arm, bottomHere, bottomHereAll, classesAll, classesIn, countAll, hasBottomAll}
+use Rattle.normal_form.specs.Parts.{intervalCount, intervalsAll, intervalsIn, joins, parts, placeAll, roles, rolesAll}
+use Rattle.normal_form.specs.Parts.{successorsOf, weigh}
 use Rattle.normal_form.specs.Steps.{ArmOf, Kept, Told, front, startOf}
 use Rattle.normal_form.specs.Tables.{Above, Prepared, pendingAt, tablesEnd}
 use Rattle.words.proofs.Laws.{in-zeros}
@@ -34,10 +41,10 @@ abbrev addAll : Vocabulary → List Arm → Form → Form
 addAll K [] t = t
 addAll K (a ∷ l) t = addAll K l (add K (a .child) t)
 
-abbrev onto : Vocabulary → List Arm → List ℕ → List Interval → Successors → Form
-onto K l cs ss ks = record { node = record { classes = cs; intervals = ss }; successors = placeAll K l ks }
+abbrev onto : Vocabulary → List Arm → List ℕ → List Constraint → Successors → Form
+onto K l cs ss ks = record { node = record { classes = cs; constraints = ss }; successors = placeAll K l ks }
 
-add-parts : (K : Vocabulary) (c : Chain) (t : Form) → add K c t ≡ onto K (roles c) (classesIn c (t .node .classes)) (intervalsIn (singleFeature K) c (t .node .intervals)) (t .successors)
+add-parts : (K : Vocabulary) (c : Chain) (t : Form) → add K c t ≡ onto K (roles c) (classesIn c (t .node .classes)) (intervalsIn (isFunctionalFeature K) c (t .node .constraints)) (t .successors)
 add-parts K end t = refl
 add-parts K (class a next) t = add-parts K next _
 add-parts K (impossible next) t = add-parts K next _
@@ -48,48 +55,48 @@ place-append : (K : Vocabulary) (l m : List Arm) (ks : Successors) → placeAll 
 place-append K [] m ks = refl
 place-append K (a ∷ l) m ks = place-append K l m _
 
-all-parts : (K : Vocabulary) (l : List Arm) (t : Form) → addAll K l t ≡ onto K (rolesAll l) (classesAll l (t .node .classes)) (intervalsAll (singleFeature K) l (t .node .intervals)) (t .successors)
+all-parts : (K : Vocabulary) (l : List Arm) (t : Form) → addAll K l t ≡ onto K (rolesAll l) (classesAll l (t .node .classes)) (intervalsAll (isFunctionalFeature K) l (t .node .constraints)) (t .successors)
 all-parts K [] t = refl
 all-parts K (a ∷ l) t =
     ap (addAll K l) (add-parts K (a .child) t)
-    ∙ all-parts K l (onto K (roles (a .child)) (classesIn (a .child) (t .node .classes)) (intervalsIn (singleFeature K) (a .child) (t .node .intervals)) (t .successors))
-    ∙ ap (λ (x : Successors). record { node = record { classes = classesAll (a ∷ l) (t .node .classes); intervals = intervalsAll (singleFeature K) (a ∷ l) (t .node .intervals) }; successors = x })
+    ∙ all-parts K l (onto K (roles (a .child)) (classesIn (a .child) (t .node .classes)) (intervalsIn (isFunctionalFeature K) (a .child) (t .node .constraints)) (t .successors))
+    ∙ ap (λ (x : Successors). record { node = record { classes = classesAll (a ∷ l) (t .node .classes); constraints = intervalsAll (isFunctionalFeature K) (a ∷ l) (t .node .constraints) }; successors = x })
     (sym (place-append K (roles (a .child)) (rolesAll l) (t .successors)))
 
 -- arms after a first one of role s
 groups : (K : Vocabulary) (l : List Arm) (s : ℕ) (n : Node) (ks next : Successors) →
     placeAll K l (successor s n ks next)
-    ≡ graft s (addAll K (filter (joins (single K) s) l) (record { node = n; successors = ks })) (placeAll K (filter (parts (single K) s) l) next)
+    ≡ graft s (addAll K (filter (joins (isFunctionalRole K) s) l) (record { node = n; successors = ks })) (placeAll K (filter (parts (isFunctionalRole K) s) l) next)
 groups K [] s n ks next = refl
-groups K (a ∷ l) s n ks next = go (joins (single K) s a) (λ n′ ks′. groups K l s n′ ks′ next) (λ next′. groups K l s n ks next′)
+groups K (a ∷ l) s n ks next = go (joins (isFunctionalRole K) s a) (λ n′ ks′. groups K l s n′ ks′ next) (λ next′. groups K l s n ks next′)
   where
     go : (b : Bool) →
         ((n′ : Node) (ks′ : Successors) → placeAll K l (successor s n′ ks′ next)
-        ≡ graft s (addAll K (filter (joins (single K) s) l) (record { node = n′; successors = ks′ })) (placeAll K (filter (parts (single K) s) l) next)) →
+        ≡ graft s (addAll K (filter (joins (isFunctionalRole K) s) l) (record { node = n′; successors = ks′ })) (placeAll K (filter (parts (isFunctionalRole K) s) l) next)) →
         ((next′ : Successors) → placeAll K l (successor s n ks next′)
-        ≡ graft s (addAll K (filter (joins (single K) s) l) (record { node = n; successors = ks })) (placeAll K (filter (parts (single K) s) l) next′)) →
+        ≡ graft s (addAll K (filter (joins (isFunctionalRole K) s) l) (record { node = n; successors = ks })) (placeAll K (filter (parts (isFunctionalRole K) s) l) next′)) →
         placeAll K l
         (cond b (graft s (add K (a .child) (record { node = n; successors = ks })) next)
-        (successor s n ks (placeSuccessor (single K (a .role)) (a .role) (bare (ranges K (a .role))) (add K (a .child)) next)))
-        ≡ graft s (addAll K (cond b (a ∷ filter (joins (single K) s) l) (filter (joins (single K) s) l)) (record { node = n; successors = ks }))
-        (placeAll K (cond (not b) (a ∷ filter (parts (single K) s) l) (filter (parts (single K) s) l)) next)
+        (successor s n ks (placeSuccessor (isFunctionalRole K (a .role)) (a .role) (bare (ranges K (a .role))) (add K (a .child)) next)))
+        ≡ graft s (addAll K (cond b (a ∷ filter (joins (isFunctionalRole K) s) l) (filter (joins (isFunctionalRole K) s) l)) (record { node = n; successors = ks }))
+        (placeAll K (cond (not b) (a ∷ filter (parts (isFunctionalRole K) s) l) (filter (parts (isFunctionalRole K) s) l)) next)
     go true f g = f _ _
     go false f g = g _
 
 -- a first arm and those behind it
 by-groups : (K : Vocabulary) (a : Arm) (l : List Arm) →
-    let every = a ∷ filter (joins (single K) (a .role)) l in
-    successorsOf K (a ∷ l) ≡ successor (a .role) (record { classes = classesAll every (ranges K (a .role)); intervals = intervalsAll (singleFeature K) every [] })
-    (successorsOf K (rolesAll every)) (successorsOf K (filter (parts (single K) (a .role)) l))
+    let every = a ∷ filter (joins (isFunctionalRole K) (a .role)) l in
+    successorsOf K (a ∷ l) ≡ successor (a .role) (record { classes = classesAll every (ranges K (a .role)); constraints = intervalsAll (isFunctionalFeature K) every [] })
+    (successorsOf K (rolesAll every)) (successorsOf K (filter (parts (isFunctionalRole K) (a .role)) l))
 unfolding successorsOf
 by-groups K a l =
     groups K l (a .role) (add K (a .child) (bare (ranges K (a .role))) .node) (add K (a .child) (bare (ranges K (a .role))) .successors) none
-    ∙ ap (λ (t : Form). graft (a .role) t (placeAll K (filter (parts (single K) (a .role)) l) none)) (all-parts K (a ∷ filter (joins (single K) (a .role)) l) (bare (ranges K (a .role))))
+    ∙ ap (λ (t : Form). graft (a .role) t (placeAll K (filter (parts (isFunctionalRole K) (a .role)) l) none)) (all-parts K (a ∷ filter (joins (isFunctionalRole K) (a .role)) l) (bare (ranges K (a .role))))
 
 -- by tests that tell the functional names
-pub successors-cons : (K : Vocabulary) {one two : ℕ → Bool} → one ≡ single K → two ≡ singleFeature K → (a : Arm) (l : List Arm) →
+pub successors-cons : (K : Vocabulary) {one two : ℕ → Bool} → one ≡ isFunctionalRole K → two ≡ isFunctionalFeature K → (a : Arm) (l : List Arm) →
     let every = a ∷ filter (joins one (a .role)) l in
-    successorsOf K (a ∷ l) ≡ successor (a .role) (record { classes = classesAll every (ranges K (a .role)); intervals = intervalsAll two every [] })
+    successorsOf K (a ∷ l) ≡ successor (a .role) (record { classes = classesAll every (ranges K (a .role)); constraints = intervalsAll two every [] })
     (successorsOf K (rolesAll every)) (successorsOf K (filter (parts one (a .role)) l))
 successors-cons K e d a l = rw (e, d) (by-groups K a l)
 
@@ -157,29 +164,29 @@ pub any-append : {A : Type 0} (p : A → Bool) (l m : List A) → any p (l ++ m)
 any-append p [] m = refl
 any-append p (x ∷ l) m = ap (λ (b : Bool). p x || b) (any-append p l m) ∙ sym (or-assoc (p x) (any p l) (any p m))
 
-chain-blocked : (c : Chain) → blocked c ≡ barred c || blockedAll (roles c)
-chain-blocked end = refl
-chain-blocked (class a next) = chain-blocked next
-chain-blocked (impossible next) = refl
-chain-blocked (some r child next) = ap (λ (b : Bool). blocked child || b) (chain-blocked next) ∙ front-of (blocked child) (barred next) (blockedAll (roles next))
-chain-blocked (interval f lo hi next) = chain-blocked next
+hasBottom-roles : (c : Chain) → hasBottom c ≡ bottomHere c || hasBottomAll (roles c)
+hasBottom-roles end = refl
+hasBottom-roles (class a next) = hasBottom-roles next
+hasBottom-roles (impossible next) = refl
+hasBottom-roles (some r child next) = ap (λ (b : Bool). hasBottom child || b) (hasBottom-roles next) ∙ front-of (hasBottom child) (bottomHere next) (hasBottomAll (roles next))
+hasBottom-roles (interval f lo hi next) = hasBottom-roles next
 
-pub all-blocked : (l : List Arm) → blockedAll l ≡ barredAll l || blockedAll (rolesAll l)
-all-blocked [] = refl
-all-blocked (a ∷ l) =
-    ap (λ (b : Bool). b || blockedAll l) (chain-blocked (a .child))
-    ∙ ap (λ (b : Bool). (barred (a .child) || blockedAll (roles (a .child))) || b) (all-blocked l)
-    ∙ swap (barred (a .child)) (blockedAll (roles (a .child))) (barredAll l) (blockedAll (rolesAll l))
-    ∙ ap (λ (b : Bool). (barred (a .child) || barredAll l) || b) (sym (any-append (λ x. blocked (x .child)) (roles (a .child)) (rolesAll l)))
+pub hasBottomAll-roles : (l : List Arm) → hasBottomAll l ≡ bottomHereAll l || hasBottomAll (rolesAll l)
+hasBottomAll-roles [] = refl
+hasBottomAll-roles (a ∷ l) =
+    ap (λ (b : Bool). b || hasBottomAll l) (hasBottom-roles (a .child))
+    ∙ ap (λ (b : Bool). (bottomHere (a .child) || hasBottomAll (roles (a .child))) || b) (hasBottomAll-roles l)
+    ∙ swap (bottomHere (a .child)) (hasBottomAll (roles (a .child))) (bottomHereAll l) (hasBottomAll (rolesAll l))
+    ∙ ap (λ (b : Bool). (bottomHere (a .child) || bottomHereAll l) || b) (sym (any-append (λ x. hasBottom (x .child)) (roles (a .child)) (rolesAll l)))
 
-pub filter-blocked : (p : Arm → Bool) (l : List Arm) → blockedAll l ≡ blockedAll (filter p l) || blockedAll (filter (λ a. not (p a)) l)
-filter-blocked p [] = refl
-filter-blocked p (a ∷ l) = go (p a) (filter-blocked p l)
+pub hasBottomAll-filter : (p : Arm → Bool) (l : List Arm) → hasBottomAll l ≡ hasBottomAll (filter p l) || hasBottomAll (filter (λ a. not (p a)) l)
+hasBottomAll-filter p [] = refl
+hasBottomAll-filter p (a ∷ l) = go (p a) (hasBottomAll-filter p l)
   where
-    go : (b : Bool) → blockedAll l ≡ blockedAll (filter p l) || blockedAll (filter (λ x. not (p x)) l) →
-        blocked (a .child) || blockedAll l ≡ blockedAll (cond b (a ∷ filter p l) (filter p l)) || blockedAll (cond (not b) (a ∷ filter (λ x. not (p x)) l) (filter (λ x. not (p x)) l))
-    go true h = ap (λ (t : Bool). blocked (a .child) || t) h ∙ sym (or-assoc (blocked (a .child)) (blockedAll (filter p l)) (blockedAll (filter (λ x. not (p x)) l)))
-    go false h = ap (λ (t : Bool). blocked (a .child) || t) h ∙ front-of (blocked (a .child)) (blockedAll (filter p l)) (blockedAll (filter (λ x. not (p x)) l))
+    go : (b : Bool) → hasBottomAll l ≡ hasBottomAll (filter p l) || hasBottomAll (filter (λ x. not (p x)) l) →
+        hasBottom (a .child) || hasBottomAll l ≡ hasBottomAll (cond b (a ∷ filter p l) (filter p l)) || hasBottomAll (cond (not b) (a ∷ filter (λ x. not (p x)) l) (filter (λ x. not (p x)) l))
+    go true h = ap (λ (t : Bool). hasBottom (a .child) || t) h ∙ sym (or-assoc (hasBottom (a .child)) (hasBottomAll (filter p l)) (hasBottomAll (filter (λ x. not (p x)) l)))
+    go false h = ap (λ (t : Bool). hasBottom (a .child) || t) h ∙ front-of (hasBottom (a .child)) (hasBottomAll (filter p l)) (hasBottomAll (filter (λ x. not (p x)) l))
 
 -- ---- names
 
@@ -215,13 +222,9 @@ module _ (v : List ℕ) where
   named-all (a ∷ l) cs h g = named-all l (classesIn (a .child) cs) (tail h) (named-classes (a .child) cs (head h .1) g)
 
 -- role 0 is no role, and has no range
-no-range : {N R F : ℕ} {K : Vocabulary} → All (NamedAxiom N R F) K → ranges K 0 ≡ []
+no-range : {R S : ℕ} {l : List (ℕ × ℕ)} → All (λ p. Name R (p .0) × Name S (p .1)) l → rangesIn l 0 ≡ []
 no-range nil = refl
-no-range (cons {x = below a b} n t) = no-range t
-no-range (cons {x = disjoint a b} n t) = no-range t
-no-range (cons {x = functionalRole r} n t) = no-range t
-no-range (cons {x = functionalFeature f} n t) = no-range t
-no-range (cons {x = range r c} n t) = rw (ne-eqb 0 r (λ e. omega arith)) (no-range t)
+no-range (cons {x = (r, c)} n t) = rw (ne-eqb 0 r (λ e. omega arith)) (no-range t)
 
 -- ---- classes
 
@@ -239,7 +242,7 @@ all-append-classes (a ∷ l) cs ds = ap (classesAll l) (classes-append (a .child
 -- ---- what writes behind the rows keeps them
 
 module _ (w w′ : List ℕ) (e : length w′ ≡ length w) (before : (i : ℕ) → i < pairsAt → getD w′ i 0 ≡ getD w i 0) where
-  same-row : (i : ℕ) → i ≤ roleRow 64 → rowOf w′ i ≡ rowOf w i
+  same-row : (i : ℕ) → i ≤ roleRow mostRoles → rowOf w′ i ≡ rowOf w i
   same-row i h = row-kept classWords w w′ (rowPlace i) e (λ j p q. before j (omega arith))
 
   module _ {v : List ℕ} where
@@ -267,11 +270,12 @@ prepared-same {w = w} {w′ = w′} e before g = record {
 
 -- what the rows say is what the vocabulary says
 module _ {v w : List ℕ} {f : Functional} (prepared : Prepared v w f) where
-  counts : Name mostClasses (classCount v) × (roleCount v ≤ 64) × (featureCount v ≤ 64)
+  counts : Name mostClasses (classCount v) × (roleCount v ≤ mostRoles) × (featureCount v ≤ mostFeatures)
   counts = accepted-counts v (prepared .accepted)
 
   pub unranged : ranges (vocabularyOf v) 0 ≡ []
-  unranged = no-range (accepted-axioms v (prepared .accepted))
+  unfolding ranges
+  unranged = no-range (rangePairs-named v (prepared .accepted))
 
   pub prepared-kept : {j e u n m : ℕ} {w′ : List ℕ} → Kept j e u n m w w′ → Prepared v w′ f
   prepared-kept k = prepared-same (k .same) (k .before) prepared

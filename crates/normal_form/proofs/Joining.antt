@@ -9,15 +9,16 @@ use lib.ListN.{getD, length, length-append, length-set, set}
 use lib.Seq.{getD-set-other, getD-set-same}
 use borrow.Author.Tests.{eq-eqb, ne-eqb}
 use Rattle.meaning.proofs.Rules.{head, tail}
+use Rattle.meaning.specs.Intervals.{Constraint}
 use Rattle.meaning.specs.Lists.{cons, filter}
-use Rattle.meaning.specs.NormalForm.{Interval}
 use Rattle.meaning.specs.Policy.{Chain, childOf}
 use Rattle.normal_form.proofs.Chains.{add-none, adds-then}
 use Rattle.normal_form.proofs.Laws.{front-kept, intervals-kept, words-eq, words-kept, words-next}
-use Rattle.normal_form.specs.Parts.{Arm, armAt, barred, chainAt, classesIn, intervalCount, intervalsIn, joins, live, parts, roles, rolesAll, wordsAt}
+use Rattle.normal_form.specs.Parts.{Arm, armAt, bottomHere, chainAt, classesIn, intervalCount, intervalsIn, joins, live}
+use Rattle.normal_form.specs.Parts.{parts, roles, rolesAll, wordsAt}
 use Rattle.normal_form.specs.Steps.{Adding, Adds, Entry, Gathering, Good, ReadyFor, ReadyForAll, Struck, Sure, front, restAt}
 use Rattle.normal_form.specs.Tables.{IntervalsStand, heldBy, pendingAt, rowsAt}
-use Rattle.normal_form.specs.declared.Got.{Got}
+use Rattle.normal_form.specs.declared.Draft.{Draft}
 
 -- ---- the pending words
 
@@ -56,7 +57,7 @@ words-same w w′ j stop f = words-kept w w′ j (stop - j) (λ i a b. f i a (om
 abbrev pub picks : (ℕ → Bool) → List ℕ → List ℕ → ℕ → ℕ → ℕ → List Arm
 picks one p w r j stop = filter (joins one r) (restAt p w j stop)
 
-lower : {p : List ℕ} {x j e m : ℕ} {fc : List ℕ → List ℕ} {rs : List Arm} {fs : List Interval → List Interval} {ns : ℕ} {b : Bool} {u u′ : List ℕ} {h h′ : Got} →
+lower : {p : List ℕ} {x j e m : ℕ} {fc : List ℕ → List ℕ} {rs : List Arm} {fs : List Constraint → List Constraint} {ns : ℕ} {b : Bool} {u u′ : List ℕ} {h h′ : Draft} →
     Adds p x (j + 1) e m fc rs fs ns b u u′ h h′ → Adds p x j e m fc rs fs ns b u u′ h h′
 lower s = record {
   classes = s .classes;
@@ -64,29 +65,29 @@ lower s = record {
   arms = s .arms;
   sure = s .sure;
   top = s .top;
-  intervals = s .intervals;
+  constraints = s .constraints;
   few = s .few;
   first = s .first;
-  bars = s .bars;
+  bottom = s .bottom;
   kept = record {
     before = s .kept .before;
     low = λ i f. s .kept .low i (omega arith);
     upper = s .kept .upper;
     rows = s .kept .rows;
-    intervals = s .kept .intervals;
+    constraints = s .kept .constraints;
     behind = s .kept .behind;
     same = s .kept .same;
   };
 }
 
 -- `one` tells the functional roles, `two` the functional features
-module _ (one two : ℕ → Bool) (p : List ℕ) (x r j stop m : ℕ) (w : List ℕ) (g : Got) where
+module _ (one two : ℕ → Bool) (p : List ℕ) (x r j stop m : ℕ) (w : List ℕ) (g : Draft) where
   -- what `gather` asks
-  abbrev Can : ℕ → List ℕ → Got → Type 0
+  abbrev Can : ℕ → List ℕ → Draft → Type 0
   Can i u h = (i ≤ stop) × (stop ≤ h .pending) × (pendingAt ≤ i) × Sure p (wordsAt u i (stop - i)) × ReadyForAll u m h (restAt p u i stop)
 
   -- what it gives
-  abbrev Done : ℕ → List ℕ → List ℕ → Got → Got → Type 0
+  abbrev Done : ℕ → List ℕ → List ℕ → Draft → Draft → Type 0
   Done i u u′ h h′ = Gathering two p x i stop m (picks one p u r i stop) u u′ h h′ × Struck one p r i stop u u′
 
   module _ (can : Can j w g) where
@@ -111,7 +112,7 @@ module _ (one two : ℕ → Bool) (p : List ℕ) (x r j stop m : ℕ) (w : List 
           rw (rest-zero p w j stop less z) at (can .4),
         )
 
-        pub skip-done : {w′ : List ℕ} {g′ : Got} → Done (j + 1) w w′ g g′ → Done j w w′ g g′
+        pub skip-done : {w′ : List ℕ} {g′ : Draft} → Done (j + 1) w w′ g g′ → Done j w w′ g g′
         skip-done {w′} {g′} s = (
           subst (λ (l : List Arm). Gathering two p x j stop m (filter (joins one r) l) w w′ g g′) (sym (rest-zero p w j stop less z)) (lower (s .0)),
           record {
@@ -140,15 +141,15 @@ module _ (one two : ℕ → Bool) (p : List ℕ) (x r j stop m : ℕ) (w : List 
           pass-can =
               let e = length-append (roles (chainAt p (childOf p k))) (rolesAll (restAt p w (j + 1) stop)) in
               let a = room .pending in
-              let b = room .intervals in (
+              let b = room .constraints in (
                 let a = less in omega arith,
                 can .1,
                 let a = can .2 in omega arith,
                 sure-tail p w j stop less (can .3),
-                record { long = room .long; low = room .low; pending = omega arith; first = room .first; intervals = omega arith },
+                record { long = room .long; low = room .low; pending = omega arith; first = room .first; constraints = omega arith },
               )
 
-          pub pass-done : {w′ : List ℕ} {g′ : Got} → Done (j + 1) w w′ g g′ → Done j w w′ g g′
+          pub pass-done : {w′ : List ℕ} {g′ : Draft} → Done (j + 1) w w′ g g′ → Done j w w′ g g′
           pass-done {w′} {g′} s = (
             subst (λ (l : List Arm). Gathering two p x j stop m l w w′ g g′) (sym passed) (lower (s .0)),
             record {
@@ -179,12 +180,12 @@ module _ (one two : ℕ → Bool) (p : List ℕ) (x r j stop m : ℕ) (w : List 
               let e = length-append (roles (chainAt p (childOf p k))) (rolesAll (restAt p w (j + 1) stop)) in
               let z = u-length in
               let a = room .pending in
-              let b = room .intervals in
+              let b = room .constraints in
               let l = room .long in
-              rw ey (entry .good, record { long = omega arith; low = room .low; pending = omega arith; first = room .first; intervals = omega arith })
+              rw ey (entry .good, record { long = omega arith; low = room .low; pending = omega arith; first = room .first; constraints = omega arith })
 
           -- v is the words after its chain, h what it has given
-          module _ {v : List ℕ} {h : Got} (c : Adding two p x m (chainAt p y) u v g h) where
+          module _ {v : List ℕ} {h : Draft} (c : Adding two p x m (chainAt p y) u v g h) where
             c′ : Adding two p x m (chainAt p (childOf p k)) u v g h
             c′ = subst (λ (i : ℕ). Adding two p x m (chainAt p i) u v g h) ey c
 
@@ -210,7 +211,7 @@ module _ (one two : ℕ → Bool) (p : List ℕ) (x r j stop m : ℕ) (w : List 
                 let e = length-append (roles (chainAt p (childOf p k))) (rolesAll (restAt p w (j + 1) stop)) in
                 let z = u-length in
                 let a = room .pending in
-                let b = room .intervals in
+                let b = room .constraints in
                 let l = room .long in
                 let o = room .low in
                 let i = room .first in
@@ -225,7 +226,7 @@ module _ (one two : ℕ → Bool) (p : List ℕ) (x r j stop m : ℕ) (w : List 
                   omega arith,
                   omega arith,
                   subst (λ (l : List ℕ). Sure p l) (sym v-words) (sure-tail p w j stop less (can .3)),
-                  rw v-rest (record { long = omega arith; low = omega arith; pending = omega arith; first = omega arith; intervals = omega arith }),
+                  rw v-rest (record { long = omega arith; low = omega arith; pending = omega arith; first = omega arith; constraints = omega arith }),
                 )
 
             u-front : front u ≡ front w
@@ -234,23 +235,23 @@ module _ (one two : ℕ → Bool) (p : List ℕ) (x r j stop m : ℕ) (w : List 
             abbrev given : Chain
             given = chainAt p (childOf p k)
 
-            struck-chain : Adds p x j stop m (classesIn given) (roles given) (intervalsIn two given) (intervalCount given) (barred given) w v g h
+            struck-chain : Adds p x j stop m (classesIn given) (roles given) (intervalsIn two given) (intervalCount given) (bottomHere given) w v g h
             struck-chain = record {
               classes = λ s cs q. rw u-front at (c′ .classes s cs (rw u-front q));
               pending = c′ .pending;
               arms = c′ .arms;
               sure = c′ .sure;
               top = λ l q s. c′ .top l q (onto-u l s);
-              intervals = λ l q s. c′ .intervals l q (onto-u l s);
+              constraints = λ l q s. c′ .constraints l q (onto-u l s);
               few = c′ .few;
               first = c′ .first;
-              bars = c′ .bars;
+              bottom = c′ .bottom;
               kept = record {
                 before = λ i a. c′ .kept .before i a ∙ u-other i (λ d. let n = can .2 in omega arith);
                 low = λ i f. c′ .kept .upper i (omega arith) (let t = less in let q = end-low in omega arith) ∙ u-other i (λ d. omega arith);
                 upper = λ i a f. c′ .kept .upper i (omega arith) f ∙ u-other i (λ d. let t = less in omega arith);
                 rows = λ i a f. c′ .kept .rows i a f ∙ u-other i (λ d. beyond i a d);
-                intervals = λ i a f. c′ .kept .intervals i a f ∙ u-other i (λ d. beyond i (omega arith) d);
+                constraints = λ i a f. c′ .kept .constraints i a f ∙ u-other i (λ d. beyond i (omega arith) d);
                 behind = λ i a. c′ .kept .behind i a ∙ u-other i (λ d. beyond i (omega arith) d);
                 same = c′ .kept .same ∙ u-length;
               };
@@ -259,10 +260,10 @@ module _ (one two : ℕ → Bool) (p : List ℕ) (x r j stop m : ℕ) (w : List 
                 beyond : (i : ℕ) → rowsAt ≤ i → i ≡ j → ⊥
                 beyond i a d = let t = less in let q = end-low in let n = room .pending in omega arith
 
-                onto-u : (l : List Interval) → IntervalsStand w m (heldBy x l) → IntervalsStand u m (heldBy x l)
+                onto-u : (l : List Constraint) → IntervalsStand w m (heldBy x l) → IntervalsStand u m (heldBy x l)
                 onto-u l s = intervals-kept w u m (heldBy x l) (λ i a b. u-other i (λ d. beyond i (omega arith) d)) s
 
-            module _ {w′ : List ℕ} {g′ : Got} (s : Done (j + 1) v w′ h g′) where
+            module _ {w′ : List ℕ} {g′ : Draft} (s : Done (j + 1) v w′ h g′) where
               taken : picks one p w r j stop ≡ armAt p k ∷ picks one p w r (j + 1) stop
               taken = ap (filter (joins one r)) rest ∙ rw yes
 

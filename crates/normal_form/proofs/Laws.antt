@@ -10,12 +10,15 @@ use lib.ListN.{drop, getD, length, length-drop, length-set, length-take, replica
 use lib.Seq.{ext-getD, getD-drop, getD-set-other, getD-set-same, getD-take}
 use borrow.Author.Tests.{eqb-true, ne-eqb}
 use Rattle.hierarchy.specs.Rows.{roleRow, rowOf, rowPlace}
-use Rattle.meaning.specs.NormalForm.{Interval, placeInterval}
+use Rattle.meaning.specs.Intervals.{Constraint}
+use Rattle.meaning.specs.Limits.{mostRecords, mostRoles}
+use Rattle.meaning.specs.NormalForm.{placeConstraint}
 use Rattle.normal_form.specs.Parts.{Arm, armAt, live, wordsAt}
 use Rattle.normal_form.specs.Steps.{Placed, RowPut, front, intervalOf, intervalPut, startOf}
-use Rattle.normal_form.specs.Tables.{Held, IntervalStands, IntervalsStand, heldBy, intervalPlace, pendingAt, individualPlace, tablesEnd}
-use Rattle.words.specs.Rows.{classWords, putAt, rowAt}
+use Rattle.normal_form.specs.Tables.{Held, IntervalStands, IntervalsStand, heldBy, individualPlace, intervalPlace, pendingAt}
+use Rattle.normal_form.specs.Tables.{tablesEnd}
 use Rattle.words.proofs.Rows.{length-put, length-row, put-after, put-before, put-row}
+use Rattle.words.specs.Rows.{classWords, putAt, rowAt}
 
 -- ---- tests
 
@@ -95,7 +98,7 @@ pub start-none : (h s : List ℕ) (r : ℕ) → r ≡ 0 → s ≡ replicate clas
 unfolding startOf
 start-none h s r e d = rw e d
 
-pub start-range : (w s : List ℕ) (r : ℕ) → (r ≡ 0 → ⊥) → r ≤ 64 → tablesEnd ≤ length w → s ≡ rowOf w (roleRow r) → s ≡ startOf (front w) r
+pub start-range : (w s : List ℕ) (r : ℕ) → (r ≡ 0 → ⊥) → r ≤ mostRoles → tablesEnd ≤ length w → s ≡ rowOf w (roleRow r) → s ≡ startOf (front w) r
 unfolding startOf
 start-range w s r n h long e = rw (ne-eqb r 0 n) (e ∙ sym (front-row w (rowPlace (roleRow r)) (omega arith) long))
 
@@ -126,7 +129,7 @@ pub intervals-append : (w : List ℕ) (m : ℕ) (l k : List Held) → IntervalsS
 intervals-append w m [] k s t = subst (λ (i : ℕ). IntervalsStand w i k) (omega arith) t
 intervals-append w m (h ∷ l) k s t = (s .0, intervals-append w (suc m) l k (s .1) (subst (λ (i : ℕ). IntervalsStand w i k) (omega arith) t))
 
-pub held-length : (x : ℕ) (l : List Interval) → length (heldBy x l) ≡ length l
+pub held-length : (x : ℕ) (l : List Constraint) → length (heldBy x l) ≡ length l
 held-length x [] = refl
 held-length x (s ∷ l) = ap suc (held-length x l)
 
@@ -145,7 +148,7 @@ module _ (w : List ℕ) (i x f lo hi : ℕ) where
   abbrev w3 : List ℕ
   w3 = set w2 (s + 2) lo
 
-  pub put-stands : i < 512 → tablesEnd ≤ length w → IntervalStands (intervalPut w i x f lo hi) i (record { individual = x; constraint = intervalOf f lo hi })
+  pub put-stands : i < mostRecords → tablesEnd ≤ length w → IntervalStands (intervalPut w i x f lo hi) i (record { individual = x; constraint = intervalOf f lo hi })
   unfolding intervalPut
   put-stands h g = record {
     individual =
@@ -180,16 +183,16 @@ second : (a b : Bool) → (a && b) ≡ true → b ≡ true
 second true b h = h
 second false b h = cc
 
-length-zero : (l : List Interval) → length l ≡ 0 → l ≡ []
+length-zero : (l : List Constraint) → length l ≡ 0 → l ≡ []
 length-zero [] e = refl
 length-zero (s ∷ l) e = absurd (omega arith)
 
-module _ (one : Bool) (x i top f lo hi : ℕ) (w w′ : List ℕ) (small : top < 512) (long : tablesEnd ≤ length w) where
+module _ (one : Bool) (x i top f lo hi : ℕ) (w w′ : List ℕ) (small : top < mostRecords) (long : tablesEnd ≤ length w) where
   -- no constraint is left
   pub placed-last : i ≡ top → w′ ≡ intervalPut w i x f lo hi → Placed one x i top f lo hi w w′ (top + 1)
   placed-last e d = rw d (record {
     ends = λ l p q. let z = length-zero l (omega arith) in rw z (omega arith);
-    intervals = λ l p q. let z = length-zero l (omega arith) in rw z (put-stands w i x f lo hi (omega arith) long, tt);
+    constraints = λ l p q. let z = length-zero l (omega arith) in rw z (put-stands w i x f lo hi (omega arith) long, tt);
     more = omega arith;
     few = omega arith;
     low = λ k h. put-other w i x f lo hi k (inl h);
@@ -198,7 +201,7 @@ module _ (one : Bool) (x i top f lo hi : ℕ) (w w′ : List ℕ) (small : top <
   })
 
   module _ (less : i < top) {g : ℕ} {t : Bool} (eg : g ≡ getD w (intervalPlace i + 1) 0) (et : t ≡ (one && eqb g f)) where
-    tested : {b : Bool} → t ≡ b → (s : Interval) → getD w (intervalPlace i + 1) 0 ≡ s .feature → (one && eqb (s .feature) f) ≡ b
+    tested : {b : Bool} → t ≡ b → (s : Constraint) → getD w (intervalPlace i + 1) 0 ≡ s .feature → (one && eqb (s .feature) f) ≡ b
     tested h s e = rw (← e, ← eg) (sym et ∙ h)
 
     -- the one at i takes it
@@ -206,7 +209,7 @@ module _ (one : Bool) (x i top f lo hi : ℕ) (w w′ : List ℕ) (small : top <
         w′ ≡ intervalPut w i x f a b → Placed one x i top f lo hi w w′ top
     placed-here {a} {b} t ea eb d = rw d (record {
       ends = λ l p q. ends l p q;
-      intervals = λ l p q. intervals l p q;
+      constraints = λ l p q. constraints l p q;
       more = omega arith;
       few = omega arith;
       low = λ k h. put-other w i x f a b k (inl h);
@@ -214,14 +217,14 @@ module _ (one : Bool) (x i top f lo hi : ℕ) (w w′ : List ℕ) (small : top <
       same = put-length w i x f a b;
     })
       where
-        ends : (l : List Interval) → top ≡ i + length l → IntervalsStand w i (heldBy x l) → top ≡ i + length (placeInterval one (intervalOf f lo hi) l)
+        ends : (l : List Constraint) → top ≡ i + length l → IntervalsStand w i (heldBy x l) → top ≡ i + length (placeConstraint one (intervalOf f lo hi) l)
         ends [] p q = absurd (omega arith)
         ends (s ∷ l) p q = rw (tested t s (q .0 .feature)) p
 
-        intervals : (l : List Interval) → top ≡ i + length l → IntervalsStand w i (heldBy x l) →
-            IntervalsStand (intervalPut w i x f a b) i (heldBy x (placeInterval one (intervalOf f lo hi) l))
-        intervals [] p q = absurd (omega arith)
-        intervals (s ∷ l) p q =
+        constraints : (l : List Constraint) → top ≡ i + length l → IntervalsStand w i (heldBy x l) →
+            IntervalsStand (intervalPut w i x f a b) i (heldBy x (placeConstraint one (intervalOf f lo hi) l))
+        constraints [] p q = absurd (omega arith)
+        constraints (s ∷ l) p q =
             let u = put-stands w i x f a b (omega arith) long in
             let e = tested t s (q .0 .feature) in
             rw e (
@@ -238,7 +241,7 @@ module _ (one : Bool) (x i top f lo hi : ℕ) (w w′ : List ℕ) (small : top <
     pub placed-on : {r : ℕ} → t ≡ false → Placed one x (i + 1) top f lo hi w w′ r → Placed one x i top f lo hi w w′ r
     placed-on {r} t u = record {
       ends = λ l p q. ends l p q;
-      intervals = λ l p q. intervals l p q;
+      constraints = λ l p q. constraints l p q;
       more = u .more;
       few = u .few;
       low = λ k h. u .low k (omega arith);
@@ -246,20 +249,20 @@ module _ (one : Bool) (x i top f lo hi : ℕ) (w w′ : List ℕ) (small : top <
       same = u .same;
     }
       where
-        behind : (l : List Interval) → IntervalsStand w (suc i) (heldBy x l) → IntervalsStand w (i + 1) (heldBy x l)
+        behind : (l : List Constraint) → IntervalsStand w (suc i) (heldBy x l) → IntervalsStand w (i + 1) (heldBy x l)
         behind l q = subst (λ (n : ℕ). IntervalsStand w n (heldBy x l)) (omega arith) q
 
-        ends : (l : List Interval) → top ≡ i + length l → IntervalsStand w i (heldBy x l) → r ≡ i + length (placeInterval one (intervalOf f lo hi) l)
+        ends : (l : List Constraint) → top ≡ i + length l → IntervalsStand w i (heldBy x l) → r ≡ i + length (placeConstraint one (intervalOf f lo hi) l)
         ends [] p q = absurd (omega arith)
         ends (s ∷ l) p q = rw (tested t s (q .0 .feature)) (let h = u .ends l (omega arith) (behind l (q .1)) in omega arith)
 
-        intervals : (l : List Interval) → top ≡ i + length l → IntervalsStand w i (heldBy x l) →
-            IntervalsStand w′ i (heldBy x (placeInterval one (intervalOf f lo hi) l))
-        intervals [] p q = absurd (omega arith)
-        intervals (s ∷ l) p q =
+        constraints : (l : List Constraint) → top ≡ i + length l → IntervalsStand w i (heldBy x l) →
+            IntervalsStand w′ i (heldBy x (placeConstraint one (intervalOf f lo hi) l))
+        constraints [] p q = absurd (omega arith)
+        constraints (s ∷ l) p q =
             rw (tested t s (q .0 .feature)) (
               interval-kept w w′ i _ (λ k g h. u .low k (omega arith)) (q .0),
-              subst (λ (n : ℕ). IntervalsStand w′ n (heldBy x (placeInterval one (intervalOf f lo hi) l))) (omega arith) (u .intervals l (omega arith) (behind l (q .1))),
+              subst (λ (n : ℕ). IntervalsStand w′ n (heldBy x (placeConstraint one (intervalOf f lo hi) l))) (omega arith) (u .constraints l (omega arith) (behind l (q .1))),
             )
 
 -- ---- a row put
@@ -267,7 +270,7 @@ module _ (one : Bool) (x i top f lo hi : ℕ) (w w′ : List ℕ) (small : top <
 row-one : (w : List ℕ) (k : ℕ) → getD (rowAt 1 w k) 0 0 ≡ getD w k 0
 row-one w k = row-word 1 w k 0 (omega arith) ∙ step w (k + 0) k (omega arith) refl
 
-pub row-put : (n i r : ℕ) (s w w′ : List ℕ) → n < 512 → tablesEnd ≤ length w → length s ≡ classWords →
+pub row-put : (n i r : ℕ) (s w w′ : List ℕ) → n < mostRecords → tablesEnd ≤ length w → length s ≡ classWords →
     w′ ≡ putAt (set (set w (individualPlace n) i) (individualPlace n + 1) r) (individualPlace n + 2) s → RowPut n i r s w w′
 row-put n i r s w w′ h long es e = rw e (record {
   parent = before (individualPlace n) (omega arith) ∙ getD-set-other u (individualPlace n + 1) (individualPlace n) r 0 (λ d. omega arith) ∙ getD-set-same w (individualPlace n) i 0 (omega arith);

@@ -8,22 +8,29 @@ use native.Mathlib.Omega.{arith}
 use lib.ListN.{getD, length, length-append, length-set, set}
 use lib.Seq.{getD-set-other, getD-set-same}
 use Rattle.hierarchy.specs.declared.Functional.{Functional}
-use Rattle.meaning.proofs.Terms.{ChainOf, count}
-use Rattle.meaning.specs.Countermodel.{size}
-use Rattle.meaning.specs.Lists.{All, cons, filter, nil}
 use Rattle.meaning.proofs.Rules.{head, tail}
-use Rattle.meaning.specs.NormalForm.{Form, Node, Successors, blocked, none, normalForm, ranges, successor}
+use Rattle.meaning.specs.Accepted.{ChainOf, count}
+use Rattle.meaning.specs.Countermodel.{size}
+use Rattle.meaning.specs.Limits.{mostRecords, mostRoles}
+use Rattle.meaning.specs.Lists.{All, cons, filter, nil}
+use Rattle.meaning.specs.NormalForm.{Form, Node, Successors, hasBottom, none, normalForm, successor}
 use Rattle.meaning.specs.Policy.{Chain, childOf, nameOf}
-use Rattle.meaning.specs.Splitting.{constraints, intervalsOf}
+use Rattle.meaning.specs.Splitting.{constraintsBelow, constraintsOf}
+use Rattle.meaning.specs.Stated.{ranges}
 use Rattle.meaning.specs.Vocabulary.{Vocabulary, vocabularyOf}
 use Rattle.normal_form.proofs.Chains.{adds-less, adds-then, kept-same}
-use Rattle.normal_form.proofs.Groups.{all-blocked, all-count, filter-all, filter-blocked, filter-length, filter-weigh, named-below, prepared-kept, successors-cons, successors-root, told-above, unranged}
+use Rattle.normal_form.proofs.Groups.{all-count, filter-all, filter-length, filter-weigh, hasBottomAll-filter}
+use Rattle.normal_form.proofs.Groups.{hasBottomAll-roles, named-below, prepared-kept, successors-cons, successors-root}
+use Rattle.normal_form.proofs.Groups.{told-above, unranged}
 use Rattle.normal_form.proofs.Joining.{rest-arm, rest-none, rest-zero, sure-cons, sure-entry, sure-tail, words-same}
 use Rattle.normal_form.proofs.Laws.{held-length, intervals-append, intervals-kept, row-kept, words-eq, words-kept}
-use Rattle.normal_form.specs.Parts.{Arm, armAt, barredAll, blockedAll, chainAt, classesAll, countAll, intervalsAll, joins, live, parts, roles, rolesAll, successorsOf, weigh, wordsAt}
-use Rattle.normal_form.specs.Steps.{Adding, Built, Entry, Gathering, Good, Grown, Kept, ArmOf, Noded, ReadyFor, ReadyForAll, Room, RowPut, Struck, Sure, everyAt, front, othersAt, restAt, startOf}
-use Rattle.normal_form.specs.Tables.{Fit, IntervalsStand, Normalised, Prepared, RowStands, RowsStand, Tabled, heldBelow, heldBy, heldIn, pendingAt, individualPlace, rowsAt, tablesEnd, termAt}
-use Rattle.normal_form.specs.declared.Got.{Got}
+use Rattle.normal_form.specs.Parts.{Arm, armAt, bottomHereAll, chainAt, classesAll, countAll, hasBottomAll, intervalsAll}
+use Rattle.normal_form.specs.Parts.{joins, live, parts, roles, rolesAll, successorsOf, weigh, wordsAt}
+use Rattle.normal_form.specs.Steps.{Adding, ArmOf, Built, Entry, Gathering, Good, Grown, Kept, Noded, ReadyFor, ReadyForAll}
+use Rattle.normal_form.specs.Steps.{Room, RowPut, Struck, Sure, everyAt, front, othersAt, restAt, startOf}
+use Rattle.normal_form.specs.Tables.{Fit, IntervalsStand, Normalised, Prepared, RowStands, RowsStand, Tabled, heldBelow}
+use Rattle.normal_form.specs.Tables.{heldBy, heldIn, individualPlace, pendingAt, rowsAt, tablesEnd, termAt}
+use Rattle.normal_form.specs.declared.Draft.{Draft}
 use Rattle.normal_form.specs.declared.Tables.{Tables}
 use Rattle.words.specs.Rows.{classWords}
 use Rattle.words.specs.Sets.{inSet}
@@ -72,24 +79,24 @@ module _ (one two : ℕ → Bool) (p w : List ℕ) (j stop n m k : ℕ) (less : 
     whole = refl;
   }
 
-  pub number : n < 512
+  pub number : n < mostRecords
   number = let s = sums .long in let a = room .rows in omega arith
 
-  pub role-small : nameOf p k ≤ 64
+  pub role-small : nameOf p k ≤ mostRoles
   role-small = entry-in .role
 
-  module _ {start : Got} (sp : start .pending ≡ stop) (ss : start .intervals ≡ m) {y : ℕ} (ey : y ≡ childOf p k) where
+  module _ {start : Draft} (sp : start .pending ≡ stop) (ss : start .constraints ≡ m) {y : ℕ} (ey : y ≡ childOf p k) where
     pub own-ready : Good p y × ReadyFor w m start (chainAt p y)
     own-ready =
         let s1 = sums .heavy in
         let s2 = sums .all in
         let s3 = sums .split in
         let a = room .pending in
-        let b = room .intervals in
+        let b = room .constraints in
         let l = room .low in
-        rw ey (entry-in .good, record { long = room .long; low = omega arith; pending = omega arith; first = omega arith; intervals = omega arith })
+        rw ey (entry-in .good, record { long = room .long; low = omega arith; pending = omega arith; first = omega arith; constraints = omega arith })
 
-    module _ {x : ℕ} {w1 : List ℕ} {mine : Got} (c : Adding two p x m (chainAt p y) w w1 start mine) where
+    module _ {x : ℕ} {w1 : List ℕ} {mine : Draft} (c : Adding two p x m (chainAt p y) w w1 start mine) where
       c′ : Adding two p x m own w w1 start mine
       c′ = subst (λ (i : ℕ). Adding two p x m (chainAt p i) w w1 start mine) ey c
 
@@ -105,7 +112,7 @@ module _ (one two : ℕ → Bool) (p w : List ℕ) (j stop n m k : ℕ) (less : 
           let s2 = sums .all in
           let s3 = sums .split in
           let a = room .pending in
-          let b = room .intervals in
+          let b = room .constraints in
           let d = room .long in
           let l = room .low in
           let e = c′ .pending in
@@ -116,14 +123,14 @@ module _ (one two : ℕ → Bool) (p w : List ℕ) (j stop n m k : ℕ) (less : 
             omega arith,
             omega arith,
             subst (λ (l : List ℕ). Sure p l) (sym same-words) (sure-tail p w j stop less (room .sure)),
-            rw same-rest (record { long = omega arith; low = omega arith; pending = omega arith; first = omega arith; intervals = omega arith }),
+            rw same-rest (record { long = omega arith; low = omega arith; pending = omega arith; first = omega arith; constraints = omega arith }),
           )
 
       -- what `gather` gives
-      abbrev Gave : ℕ → List ℕ → Got → Type 0
+      abbrev Gave : ℕ → List ℕ → Draft → Type 0
       Gave r w2 g = Gathering two p x (j + 1) stop m (filter (joins one r) (restAt p w1 (j + 1) stop)) w1 w2 mine g × Struck one p r (j + 1) stop w1 w2
 
-      module _ {r : ℕ} {w2 : List ℕ} {g : Got} (er : r ≡ nameOf p k) (gave : Gave r w2 g) where
+      module _ {r : ℕ} {w2 : List ℕ} {g : Draft} (er : r ≡ nameOf p k) (gave : Gave r w2 g) where
         q : Gave (nameOf p k) w2 g
         q = subst (λ (i : ℕ). Gave i w2 g) er gave
 
@@ -135,7 +142,7 @@ module _ (one two : ℕ → Bool) (p w : List ℕ) (j stop n m k : ℕ) (less : 
         pub row-long : tablesEnd ≤ length w2
         row-long = let a = total .kept .same in let b = room .long in omega arith
 
-        pub noded : {i : ℕ} {w3 : List ℕ} {b : Bool} → x ≡ n + 1 → start .classes .words ≡ startOf (front w) r → start .blocked ≡ b →
+        pub noded : {i : ℕ} {w3 : List ℕ} {b : Bool} → x ≡ n + 1 → start .classes .words ≡ startOf (front w) r → start .impossible ≡ b →
             RowPut n i r (g .classes .words) w2 w3 → Noded two p every others (nameOf p k) j stop i n m b w w3 g
         noded {i} {w3} {b} ex ec eb u =
             let s1 = sums .heavy in
@@ -143,10 +150,10 @@ module _ (one two : ℕ → Bool) (p w : List ℕ) (j stop n m k : ℕ) (less : 
             let s3 = sums .whole in
             let s4 = sums .cut-heavy in
             let a = room .pending in
-            let d = room .intervals in
+            let d = room .constraints in
             let l = room .low in
             let num = number in
-            let none-yet : start .intervals ≡ m + 0 = omega arith in
+            let none-yet : start .constraints ≡ m + 0 = omega arith in
             let tp : g .pending ≡ start .pending + length (rolesAll every) = total .pending in
             let kp : (h : ℕ) → h < rowsAt → getD w3 h 0 ≡ getD w2 h 0 = (λ h o. u .low h (omega arith)) in
             let arms-same : wordsAt w3 stop (length (rolesAll every)) ≡ wordsAt w2 (start .pending) (length (rolesAll every)) =
@@ -157,21 +164,21 @@ module _ (one two : ℕ → Bool) (p w : List ℕ) (j stop n m k : ℕ) (less : 
               role = u .role ∙ er;
               classes = rw (u .classes) (total .classes (startOf (front w) (nameOf p k)) [] (rw (ec ∙ ap (startOf (front w)) er) (λ h. refl)));
               top = total .top [] none-yet tt;
-              intervals = subst (λ (z : ℕ). IntervalsStand w3 m (heldBy z (intervalsAll two every []))) ex
-                  (intervals-kept w2 w3 m (heldBy x (intervalsAll two every [])) (λ h e f. u .high h (omega arith)) (total .intervals [] none-yet tt));
+              constraints = subst (λ (z : ℕ). IntervalsStand w3 m (heldBy z (intervalsAll two every []))) ex
+                  (intervals-kept w2 w3 m (heldBy x (intervalsAll two every [])) (λ h e f. u .high h (omega arith)) (total .constraints [] none-yet tt));
               few = let f = total .few in omega arith;
               pending = omega arith;
               arms = ap (live p) arms-same ∙ total .arms;
               sure = subst (λ (l : List ℕ). Sure p l) (sym arms-same) (total .sure);
               left = ap (live p) left-same ∙ q .1 .left ∙ ap (filter (parts one (nameOf p k))) same-rest;
               left-sure = subst (λ (l : List ℕ). Sure p l) (sym left-same) (q .1 .sure);
-              bars = total .bars ∙ ap (λ (y : Bool). y || barredAll every) eb;
+              bottom = total .bottom ∙ ap (λ (y : Bool). y || bottomHereAll every) eb;
               kept = record {
                 before = λ h o. kp h (omega arith) ∙ total .kept .before h o;
                 low = λ h o. kp h (omega arith) ∙ total .kept .low h (omega arith);
                 upper = λ h o f. absurd (omega arith);
                 rows = λ h o f. u .low h f ∙ total .kept .rows h o (omega arith);
-                intervals = λ h o f. u .high h (omega arith) ∙ total .kept .intervals h o f;
+                constraints = λ h o f. u .high h (omega arith) ∙ total .kept .constraints h o f;
                 behind = λ h o. u .high h (omega arith) ∙ total .kept .behind h o;
                 same = u .same ∙ total .kept .same;
               };
@@ -195,25 +202,25 @@ module _ (K : Vocabulary) (w w′ : List ℕ) (same : length w′ ≡ length w) 
     rows-kept next i (suc n + size under) (λ h a b. f h (omega arith) (omega arith)) (s .2),
   )
 
-pub held-below : (ks : Successors) (k : ℕ) → length (heldBelow ks k) ≡ length (intervalsOf ks)
+pub held-below : (ks : Successors) (k : ℕ) → length (heldBelow ks k) ≡ length (constraintsBelow ks)
 held-below none k = refl
 held-below (successor r n under next) k =
     let a = held-below under (suc k) in
     let b = held-below next (suc k + size under) in
-    let c = held-length k (n .intervals) in
-    let d = length-append (heldBy k (n .intervals)) (heldBelow under (suc k) ++ heldBelow next (suc k + size under)) in
+    let c = held-length k (n .constraints) in
+    let d = length-append (heldBy k (n .constraints)) (heldBelow under (suc k) ++ heldBelow next (suc k + size under)) in
     let e = length-append (heldBelow under (suc k)) (heldBelow next (suc k + size under)) in
-    let f = length-append (n .intervals) (intervalsOf under ++ intervalsOf next) in
-    let g = length-append (intervalsOf under) (intervalsOf next) in
+    let f = length-append (n .constraints) (constraintsBelow under ++ constraintsBelow next) in
+    let g = length-append (constraintsBelow under) (constraintsBelow next) in
     omega arith
 
 -- a constraint of the table for each of the form's
-pub held-in : (t : Form) → length (heldIn t) ≡ length (constraints t)
+pub held-in : (t : Form) → length (heldIn t) ≡ length (constraintsOf t)
 held-in t =
     let a = held-below (t .successors) 2 in
-    let b = held-length 1 (t .node .intervals) in
-    let c = length-append (heldBy 1 (t .node .intervals)) (heldBelow (t .successors) 2) in
-    let d = length-append (t .node .intervals) (intervalsOf (t .successors)) in
+    let b = held-length 1 (t .node .constraints) in
+    let c = length-append (heldBy 1 (t .node .constraints)) (heldBelow (t .successors) 2) in
+    let d = length-append (t .node .constraints) (constraintsBelow (t .successors)) in
     omega arith
 
 -- ---- the ways of `successors`
@@ -222,22 +229,22 @@ held-in t =
 abbrev pub undone : List ℕ → List ℕ → ℕ → ℕ → ℕ
 undone p w j stop = weigh (restAt p w j stop) + (stop - j)
 
-module _ (f : Functional) (p w : List ℕ) (j stop i : ℕ) (t : Tables) (room : Room p w j stop (t .individuals) (t .intervals)) where
+module _ (f : Functional) (p w : List ℕ) (j stop i : ℕ) (t : Tables) (room : Room p w j stop (t .individuals) (t .constraints)) where
   abbrev one : ℕ → Bool
   one = inSet (f .roles)
 
   abbrev two : ℕ → Bool
   two = inSet (f .features)
 
-  pub built-end : j ≡ stop → Built f (restAt p w j stop) j i (t .individuals) (t .intervals) (t .blocked) w w t
+  pub built-end : j ≡ stop → Built f (restAt p w j stop) j i (t .individuals) (t .constraints) (t .impossible) w w t
   unfolding successorsOf
   built-end e = rw (rest-none p w j stop e) (record {
     grown = λ v q h. record { count = omega arith; top = omega arith; rows = tt; held = tt };
     more = (omega arith, omega arith);
     few = omega arith;
     fewer = omega arith;
-    bars = sym (or-false (t .blocked));
-    kept = kept-same j j j (t .individuals) (t .intervals) w;
+    bottom = sym (or-false (t .impossible));
+    kept = kept-same j j j (t .individuals) (t .constraints) w;
   })
 
   module _ (ne : j ≡ stop → ⊥) where
@@ -249,13 +256,13 @@ module _ (f : Functional) (p w : List ℕ) (j stop i : ℕ) (t : Tables) (room :
       gone : restAt p w j stop ≡ restAt p w (j + 1) stop
       gone = rest-zero p w j stop less z
 
-      pub skip-room : Room p w (j + 1) stop (t .individuals) (t .intervals)
+      pub skip-room : Room p w (j + 1) stop (t .individuals) (t .constraints)
       skip-room =
           let e : weigh (restAt p w j stop) ≡ weigh (restAt p w (j + 1) stop) = ap weigh gone in
           let h : length (restAt p w j stop) ≡ length (restAt p w (j + 1) stop) = ap length gone in
           let a = room .pending in
           let b = room .rows in
-          let c = room .intervals in
+          let c = room .constraints in
           let d = less in
           let l = room .low in
           record {
@@ -265,7 +272,7 @@ module _ (f : Functional) (p w : List ℕ) (j stop i : ℕ) (t : Tables) (room :
             sure = sure-tail p w j stop less (room .sure);
             pending = omega arith;
             rows = omega arith;
-            intervals = omega arith;
+            constraints = omega arith;
           }
 
       pub skip-falls : {n : ℕ} → undone p w j stop ≡ n → undone p w (j + 1) stop < n
@@ -274,28 +281,28 @@ module _ (f : Functional) (p w : List ℕ) (j stop i : ℕ) (t : Tables) (room :
           let d = less in
           omega arith
 
-      pub skip-built : {w′ : List ℕ} {u : Tables} → Built f (restAt p w (j + 1) stop) (j + 1) i (t .individuals) (t .intervals) (t .blocked) w w′ u →
-          Built f (restAt p w j stop) j i (t .individuals) (t .intervals) (t .blocked) w w′ u
+      pub skip-built : {w′ : List ℕ} {u : Tables} → Built f (restAt p w (j + 1) stop) (j + 1) i (t .individuals) (t .constraints) (t .impossible) w w′ u →
+          Built f (restAt p w j stop) j i (t .individuals) (t .constraints) (t .impossible) w w′ u
       skip-built s = rw gone (record {
         grown = s .grown;
         more = s .more;
         few = s .few;
         fewer = s .fewer;
-        bars = s .bars;
+        bottom = s .bottom;
         kept = record {
           before = s .kept .before;
           low = λ h a. s .kept .low h (omega arith);
           upper = λ h a b. absurd (omega arith);
           rows = s .kept .rows;
-          intervals = s .kept .intervals;
+          constraints = s .kept .constraints;
           behind = s .kept .behind;
           same = s .kept .same;
         };
       })
 
     module _ {k : ℕ} (ek : k ≡ getD w j 0) (nz : k ≡ 0 → ⊥) where
-      abbrev S : Sums one two p w j stop (t .individuals) (t .intervals) k less ek nz room
-      S = sums one two p w j stop (t .individuals) (t .intervals) k less ek nz room
+      abbrev S : Sums one two p w j stop (t .individuals) (t .constraints) k less ek nz room
+      S = sums one two p w j stop (t .individuals) (t .constraints) k less ek nz room
 
       abbrev ev : List Arm
       ev = everyAt one p w j stop k
@@ -303,10 +310,10 @@ module _ (f : Functional) (p w : List ℕ) (j stop i : ℕ) (t : Tables) (room :
       abbrev ot : List Arm
       ot = othersAt one p w j stop k
 
-      pub few : t .individuals < 512
-      few = number one two p w j stop (t .individuals) (t .intervals) k less ek nz room
+      pub few : t .individuals < mostRecords
+      few = number one two p w j stop (t .individuals) (t .constraints) k less ek nz room
 
-      module _ {w1 : List ℕ} {g : Got} (nd : Noded two p ev ot (nameOf p k) j stop i (t .individuals) (t .intervals) (t .blocked) w w1 g) where
+      module _ {w1 : List ℕ} {g : Draft} (nd : Noded two p ev ot (nameOf p k) j stop i (t .individuals) (t .constraints) (t .impossible) w w1 g) where
         wide : g .pending - stop ≡ length (rolesAll ev)
         wide = let a = nd .pending in omega arith
 
@@ -316,7 +323,7 @@ module _ (f : Functional) (p w : List ℕ) (j stop i : ℕ) (t : Tables) (room :
         new-rest : restAt p w1 stop (g .pending) ≡ rolesAll ev
         new-rest = ap (live p) new-words ∙ nd .arms
 
-        pub child-room : Room p w1 stop (g .pending) (t .individuals + 1) (g .intervals)
+        pub child-room : Room p w1 stop (g .pending) (t .individuals + 1) (g .constraints)
         child-room =
             let e : weigh (restAt p w1 stop (g .pending)) ≡ weigh (rolesAll ev) = ap weigh new-rest in
             let h : length (restAt p w1 stop (g .pending)) ≡ length (rolesAll ev) = ap length new-rest in
@@ -330,7 +337,7 @@ module _ (f : Functional) (p w : List ℕ) (j stop i : ℕ) (t : Tables) (room :
             let c = nd .kept .same in
             let r1 = room .pending in
             let r2 = room .rows in
-            let r3 = room .intervals in
+            let r3 = room .constraints in
             let r4 = room .long in
             let r5 = room .low in
             let l = less in
@@ -341,7 +348,7 @@ module _ (f : Functional) (p w : List ℕ) (j stop i : ℕ) (t : Tables) (room :
               sure = subst (λ (l : List ℕ). Sure p l) (sym new-words) (nd .sure);
               pending = omega arith;
               rows = omega arith;
-              intervals = omega arith;
+              constraints = omega arith;
             }
 
         pub child-falls : {n : ℕ} → undone p w j stop ≡ n → undone p w1 stop (g .pending) < n
@@ -356,7 +363,7 @@ module _ (f : Functional) (p w : List ℕ) (j stop i : ℕ) (t : Tables) (room :
             omega arith
 
         module _ {x : ℕ} (ex : x ≡ t .individuals + 1) {w2 : List ℕ} {u : Tables}
-            (ch : Built f (restAt p w1 stop (g .pending)) stop x (t .individuals + 1) (g .intervals) (g .blocked) w1 w2 u) where
+            (ch : Built f (restAt p w1 stop (g .pending)) stop x (t .individuals + 1) (g .constraints) (g .impossible) w1 w2 u) where
           old-words : wordsAt w2 (j + 1) (stop - (j + 1)) ≡ wordsAt w1 (j + 1) (stop - (j + 1))
           old-words = words-same w1 w2 (j + 1) stop (λ h a b. ch .kept .low h b)
 
@@ -376,7 +383,7 @@ module _ (f : Functional) (p w : List ℕ) (j stop i : ℕ) (t : Tables) (room :
           e4 : length (restAt p w2 (j + 1) stop) ≡ length ot
           e4 = ap length old-rest
 
-          pub next-room : Room p w2 (j + 1) stop (u .individuals) (u .intervals)
+          pub next-room : Room p w2 (j + 1) stop (u .individuals) (u .constraints)
           next-room =
               let s1 = S .long in
               let s2 = S .heavy in
@@ -392,7 +399,7 @@ module _ (f : Functional) (p w : List ℕ) (j stop i : ℕ) (t : Tables) (room :
               let o = ch .fewer in
               let r1 = room .pending in
               let r2 = room .rows in
-              let r3 = room .intervals in
+              let r3 = room .constraints in
               let r4 = room .long in
               let r5 = room .low in
               let l = less in
@@ -407,7 +414,7 @@ module _ (f : Functional) (p w : List ℕ) (j stop i : ℕ) (t : Tables) (room :
                 sure = subst (λ (l : List ℕ). Sure p l) (sym old-words) (nd .left-sure);
                 pending = omega arith;
                 rows = omega arith;
-                intervals = omega arith;
+                constraints = omega arith;
               }
 
           pub next-falls : {n : ℕ} → undone p w j stop ≡ n → undone p w2 (j + 1) stop < n
@@ -418,7 +425,7 @@ module _ (f : Functional) (p w : List ℕ) (j stop i : ℕ) (t : Tables) (room :
               let n3 = e3 in
               omega arith
 
-          module _ {w3 : List ℕ} {u3 : Tables} (nx : Built f (restAt p w2 (j + 1) stop) (j + 1) i (u .individuals) (u .intervals) (u .blocked) w2 w3 u3) where
+          module _ {w3 : List ℕ} {u3 : Tables} (nx : Built f (restAt p w2 (j + 1) stop) (j + 1) i (u .individuals) (u .constraints) (u .impossible) w2 w3 u3) where
             module _ (v : List ℕ) (q : Prepared v w f) (named : All (ArmOf v) (armAt p k ∷ restAt p w (j + 1) stop)) where
               abbrev K : Vocabulary
               K = vocabularyOf v
@@ -433,19 +440,19 @@ module _ (f : Functional) (p w : List ℕ) (j stop i : ℕ) (t : Tables) (room :
               next = successorsOf K ot
 
               me : Node
-              me = record { classes = classesAll ev (ranges K (nameOf p k)); intervals = intervalsAll two ev [] }
+              me = record { classes = classesAll ev (ranges K (nameOf p k)); constraints = intervalsAll two ev [] }
 
               prepared1 : Prepared v w1 f
               prepared1 = prepared-kept q (nd .kept)
 
-              below : Grown K under x (t .individuals + 1) (g .intervals) w2 u
+              below : Grown K under x (t .individuals + 1) (g .constraints) w2 u
               unfolding under
-              below = subst (λ (l : List Arm). All (ArmOf v) l → Grown K (successorsOf K l) x (t .individuals + 1) (g .intervals) w2 u) new-rest (ch .grown v prepared1) (named-below v ev mine)
+              below = subst (λ (l : List Arm). All (ArmOf v) l → Grown K (successorsOf K l) x (t .individuals + 1) (g .constraints) w2 u) new-rest (ch .grown v prepared1) (named-below v ev mine)
 
-              behind : Grown K next i (u .individuals) (u .intervals) w3 u3
+              behind : Grown K next i (u .individuals) (u .constraints) w3 u3
               unfolding next
               behind =
-                  subst (λ (l : List Arm). All (ArmOf v) l → Grown K (successorsOf K l) i (u .individuals) (u .intervals) w3 u3) old-rest
+                  subst (λ (l : List Arm). All (ArmOf v) l → Grown K (successorsOf K l) i (u .individuals) (u .constraints) w3 u3) old-rest
                   (nx .grown v (prepared-kept prepared1 (ch .kept))) (filter-all (parts one (nameOf p k)) (tail named))
 
               -- where they stand
@@ -472,70 +479,70 @@ module _ (f : Functional) (p w : List ℕ) (j stop i : ℕ) (t : Tables) (room :
                 subst (λ (y : ℕ). RowsStand K w3 next i y) then (behind .rows),
               )
 
-              mid : u .intervals ≡ t .intervals + length (me .intervals) + length (intervalsOf under)
+              mid : u .constraints ≡ t .constraints + length (me .constraints) + length (constraintsBelow under)
               unfolding me
               mid = let a = below .top in let b = nd .top in omega arith
 
-              me-held : IntervalsStand w1 (t .intervals) (heldBy (t .individuals + 1) (me .intervals))
+              me-held : IntervalsStand w1 (t .constraints) (heldBy (t .individuals + 1) (me .constraints))
               unfolding me
-              me-held = nd .intervals
+              me-held = nd .constraints
 
-              held-all : IntervalsStand w3 (t .intervals) (heldBelow (successor (nameOf p k) me under next) (t .individuals + 1))
+              held-all : IntervalsStand w3 (t .constraints) (heldBelow (successor (nameOf p k) me under next) (t .individuals + 1))
               held-all =
-                  let a = held-length (t .individuals + 1) (me .intervals) in
+                  let a = held-length (t .individuals + 1) (me .constraints) in
                   let b = held-below under (suc (t .individuals + 1)) in
                   let c = mid in
                   let d : t .individuals + 1 + 1 ≡ suc (t .individuals + 1) = omega arith in
                   let e : u .individuals + 1 ≡ suc (t .individuals + 1) + size under = let h = then in omega arith in
-                  intervals-append w3 (t .intervals) (heldBy (t .individuals + 1) (me .intervals)) (heldBelow under (suc (t .individuals + 1)) ++ heldBelow next (suc (t .individuals + 1) + size under))
+                  intervals-append w3 (t .constraints) (heldBy (t .individuals + 1) (me .constraints)) (heldBelow under (suc (t .individuals + 1)) ++ heldBelow next (suc (t .individuals + 1) + size under))
                   mine-held
-                  (intervals-append w3 (t .intervals + length (heldBy (t .individuals + 1) (me .intervals))) (heldBelow under (suc (t .individuals + 1))) (heldBelow next (suc (t .individuals + 1) + size under))
+                  (intervals-append w3 (t .constraints + length (heldBy (t .individuals + 1) (me .constraints))) (heldBelow under (suc (t .individuals + 1))) (heldBelow next (suc (t .individuals + 1) + size under))
                   (subst (λ (y : ℕ). IntervalsStand w3 y (heldBelow under (suc (t .individuals + 1)))) (let v = nd-top in omega arith)
-                  (intervals-kept w2 w3 (g .intervals) (heldBelow under (suc (t .individuals + 1))) (λ h o l. nx .kept .intervals h (let v = nd-top in omega arith) (let v = nd-top in omega arith))
-                  (subst (λ (y : ℕ). IntervalsStand w2 (g .intervals) (heldBelow under y)) d (below .held))))
+                  (intervals-kept w2 w3 (g .constraints) (heldBelow under (suc (t .individuals + 1))) (λ h o l. nx .kept .constraints h (let v = nd-top in omega arith) (let v = nd-top in omega arith))
+                  (subst (λ (y : ℕ). IntervalsStand w2 (g .constraints) (heldBelow under y)) d (below .held))))
                   (subst (λ (y : ℕ). IntervalsStand w3 y (heldBelow next (suc (t .individuals + 1) + size under))) (omega arith)
-                  (subst (λ (y : ℕ). IntervalsStand w3 (u .intervals) (heldBelow next y)) e (behind .held))))
+                  (subst (λ (y : ℕ). IntervalsStand w3 (u .constraints) (heldBelow next y)) e (behind .held))))
                 where
-                  nd-top : g .intervals ≡ t .intervals + length (me .intervals)
+                  nd-top : g .constraints ≡ t .constraints + length (me .constraints)
                   nd-top = let a = below .top in let b = mid in omega arith
 
-                  mine-held : IntervalsStand w3 (t .intervals) (heldBy (t .individuals + 1) (me .intervals))
+                  mine-held : IntervalsStand w3 (t .constraints) (heldBy (t .individuals + 1) (me .constraints))
                   mine-held =
-                      let a = held-length (t .individuals + 1) (me .intervals) in
+                      let a = held-length (t .individuals + 1) (me .constraints) in
                       let b = nd-top in
                       let c = mid in
-                      intervals-kept w1 w3 (t .intervals) (heldBy (t .individuals + 1) (me .intervals))
-                      (λ h o l. nx .kept .intervals h (omega arith) (omega arith) ∙ ch .kept .intervals h (omega arith) (omega arith)) me-held
+                      intervals-kept w1 w3 (t .constraints) (heldBy (t .individuals + 1) (me .constraints))
+                      (λ h o l. nx .kept .constraints h (omega arith) (omega arith) ∙ ch .kept .constraints h (omega arith) (omega arith)) me-held
 
-              together : Grown K (successor (nameOf p k) me under next) i (t .individuals) (t .intervals) w3 u3
+              together : Grown K (successor (nameOf p k) me under next) i (t .individuals) (t .constraints) w3 u3
               together =
                   let a1 = then in
                   let a2 = behind .count in
                   let a3 = mid in
                   let a4 = behind .top in
-                  let a5 = length-append (me .intervals) (intervalsOf under ++ intervalsOf next) in
-                  let a6 = length-append (intervalsOf under) (intervalsOf next) in
+                  let a5 = length-append (me .constraints) (constraintsBelow under ++ constraintsBelow next) in
+                  let a6 = length-append (constraintsBelow under) (constraintsBelow next) in
                   record { count = omega arith; top = omega arith; rows = rows-all; held = held-all }
 
-              pub node-grown : Grown K (successorsOf K (armAt p k ∷ restAt p w (j + 1) stop)) i (t .individuals) (t .intervals) w3 u3
+              pub node-grown : Grown K (successorsOf K (armAt p k ∷ restAt p w (j + 1) stop)) i (t .individuals) (t .constraints) w3 u3
               unfolding me under next
               node-grown =
-                  subst (λ (y : Successors). Grown K y i (t .individuals) (t .intervals) w3 u3)
+                  subst (λ (y : Successors). Grown K y i (t .individuals) (t .constraints) w3 u3)
                   (sym (successors-cons K (fun-ext (q .singles .role)) (fun-ext (q .singles .feature)) (armAt p k) (restAt p w (j + 1) stop))) together
 
-            bars-all : u3 .blocked ≡ t .blocked || blockedAll (armAt p k ∷ restAt p w (j + 1) stop)
+            bars-all : u3 .impossible ≡ t .impossible || hasBottomAll (armAt p k ∷ restAt p w (j + 1) stop)
             bars-all =
-                nx .bars ∙ ap (λ (y : Bool). y || blockedAll (restAt p w2 (j + 1) stop)) (ch .bars)
-                ∙ ap (λ (l : List Arm). (g .blocked || blockedAll (restAt p w1 stop (g .pending))) || blockedAll l) old-rest
-                ∙ ap (λ (l : List Arm). (g .blocked || blockedAll l) || blockedAll ot) new-rest
-                ∙ ap (λ (y : Bool). (y || blockedAll (rolesAll ev)) || blockedAll ot) (nd .bars)
-                ∙ ap (λ (y : Bool). y || blockedAll ot) (or-assoc (t .blocked) (barredAll ev) (blockedAll (rolesAll ev)))
-                ∙ ap (λ (y : Bool). (t .blocked || y) || blockedAll ot) (sym (all-blocked ev))
-                ∙ or-assoc (t .blocked) (blockedAll ev) (blockedAll ot)
-                ∙ ap (λ (y : Bool). t .blocked || y) (or-assoc (blocked (chainAt p (childOf p k))) (blockedAll (filter (joins one (nameOf p k)) (restAt p w (j + 1) stop))) (blockedAll ot))
-                ∙ ap (λ (y : Bool). t .blocked || (blocked (chainAt p (childOf p k)) || y)) (sym (filter-blocked (joins one (nameOf p k)) (restAt p w (j + 1) stop)))
+                nx .bottom ∙ ap (λ (y : Bool). y || hasBottomAll (restAt p w2 (j + 1) stop)) (ch .bottom)
+                ∙ ap (λ (l : List Arm). (g .impossible || hasBottomAll (restAt p w1 stop (g .pending))) || hasBottomAll l) old-rest
+                ∙ ap (λ (l : List Arm). (g .impossible || hasBottomAll l) || hasBottomAll ot) new-rest
+                ∙ ap (λ (y : Bool). (y || hasBottomAll (rolesAll ev)) || hasBottomAll ot) (nd .bottom)
+                ∙ ap (λ (y : Bool). y || hasBottomAll ot) (or-assoc (t .impossible) (bottomHereAll ev) (hasBottomAll (rolesAll ev)))
+                ∙ ap (λ (y : Bool). (t .impossible || y) || hasBottomAll ot) (sym (hasBottomAll-roles ev))
+                ∙ or-assoc (t .impossible) (hasBottomAll ev) (hasBottomAll ot)
+                ∙ ap (λ (y : Bool). t .impossible || y) (or-assoc (hasBottom (chainAt p (childOf p k))) (hasBottomAll (filter (joins one (nameOf p k)) (restAt p w (j + 1) stop))) (hasBottomAll ot))
+                ∙ ap (λ (y : Bool). t .impossible || (hasBottom (chainAt p (childOf p k)) || y)) (sym (hasBottomAll-filter (joins one (nameOf p k)) (restAt p w (j + 1) stop)))
 
-            pub node-built : Built f (restAt p w j stop) j i (t .individuals) (t .intervals) (t .blocked) w w3 u3
+            pub node-built : Built f (restAt p w j stop) j i (t .individuals) (t .constraints) (t .impossible) w w3 u3
             node-built =
                 let s1 = S .long in
                 let s2 = S .heavy in
@@ -555,18 +562,18 @@ module _ (f : Functional) (p w : List ℕ) (j stop i : ℕ) (t : Tables) (room :
                 let n2 = e2 in
                 let n3 = e3 in
                 let n4 = e4 in
-                subst (λ (l : List Arm). Built f l j i (t .individuals) (t .intervals) (t .blocked) w w3 u3) (sym (rest-arm p w j stop less k nz ek)) (record {
+                subst (λ (l : List Arm). Built f l j i (t .individuals) (t .constraints) (t .impossible) w w3 u3) (sym (rest-arm p w j stop less k nz ek)) (record {
                   grown = λ v q h. node-grown v q h;
                   more = (omega arith, omega arith);
                   few = omega arith;
                   fewer = omega arith;
-                  bars = bars-all;
+                  bottom = bars-all;
                   kept = record {
                     before = λ h a. nx .kept .before h a ∙ ch .kept .before h a ∙ nd .kept .before h a;
                     low = λ h a. nx .kept .low h (omega arith) ∙ ch .kept .low h (let l = less in omega arith) ∙ nd .kept .low h a;
                     upper = λ h a b. absurd (omega arith);
                     rows = λ h a b. nx .kept .rows h a (omega arith) ∙ ch .kept .rows h a (omega arith) ∙ nd .kept .rows h a b;
-                    intervals = λ h a b. nx .kept .intervals h a (omega arith) ∙ ch .kept .intervals h a (omega arith) ∙ nd .kept .intervals h a b;
+                    constraints = λ h a b. nx .kept .constraints h a (omega arith) ∙ ch .kept .constraints h a (omega arith) ∙ nd .kept .constraints h a b;
                     behind = λ h a. nx .kept .behind h a ∙ ch .kept .behind h a ∙ nd .kept .behind h a;
                     same = nx .kept .same ∙ ch .kept .same ∙ nd .kept .same;
                   };
@@ -602,7 +609,7 @@ module _ (p w : List ℕ) (s : ℕ) (fit : Fit p w s) where
         sure = sure-cons p (set w pendingAt s) pendingAt (pendingAt + 1) (omega arith) (inr (subst (λ (y : ℕ). Entry p y) (sym first) entry)) nil;
         pending = omega arith;
         rows = omega arith;
-        intervals = omega arith;
+        constraints = omega arith;
       }
     where
       entry : Entry p s
@@ -612,7 +619,7 @@ module _ (p w : List ℕ) (s : ℕ) (fit : Fit p w s) where
       Built f (restAt p (set w pendingAt s) pendingAt (pendingAt + 1)) pendingAt 0 0 0 false (set w pendingAt s) w′ u → Normalised f (termAt p s) w w′ u
   normalised f {w′} {u} built = record {
     tabled = tabled;
-    bars = b .bars ∙ or-false (blocked (chainAt p (childOf p s))) ∙ ap blocked term;
+    bottom = b .bottom ∙ or-false (hasBottom (chainAt p (childOf p s))) ∙ ap hasBottom term;
     most =
         let c1 = b .few in
         let c2 = b .fewer in
@@ -636,7 +643,7 @@ module _ (p w : List ℕ) (s : ℕ) (fit : Fit p w s) where
         low = λ h a. other h (λ e. omega arith);
         upper = λ h a c. absurd (omega arith);
         rows = λ h a c. absurd (omega arith);
-        intervals = λ h a c. absurd (omega arith);
+        constraints = λ h a c. absurd (omega arith);
         behind = λ h a. other h (λ e. omega arith);
         same = length-set w pendingAt s;
       }
@@ -653,7 +660,7 @@ module _ (p w : List ℕ) (s : ℕ) (fit : Fit p w s) where
           (b .grown v (prepared-kept q root) (cons (let a = fit .nameless in omega arith, rw term n) nil)) in
           let c1 = g .count in
           let c2 = g .top in
-          let c6 = length-append (t .node .intervals) (intervalsOf (t .successors) ++ []) in
-          let c7 = length-append (intervalsOf (t .successors)) [] in
-          let c8 = length-append (t .node .intervals) (intervalsOf (t .successors)) in
+          let c6 = length-append (t .node .constraints) (constraintsBelow (t .successors) ++ []) in
+          let c7 = length-append (constraintsBelow (t .successors)) [] in
+          let c8 = length-append (t .node .constraints) (constraintsBelow (t .successors)) in
           record { count = omega arith; top = omega arith; rows = g .rows; held = rw append-nil at (g .held) }

@@ -4,10 +4,12 @@ use mathlib.Core.Bool.{Bool, _&&_, _||_, cond, false, not, true}
 use mathlib.Core.List.{List, [], _++_, _∷_}
 use lib.Dec.{eqb}
 use lib.ListN.{getD, length}
-use Rattle.meaning.proofs.Terms.{count}
+use Rattle.meaning.specs.Accepted.{count}
+use Rattle.meaning.specs.Intervals.{Constraint}
 use Rattle.meaning.specs.Lists.{any}
-use Rattle.meaning.specs.NormalForm.{Interval, Successors, add, bare, blocked, none, placeInterval, placeSuccessor, ranges, single}
+use Rattle.meaning.specs.NormalForm.{Successors, add, bare, hasBottom, none, placeConstraint, placeSuccessor}
 use Rattle.meaning.specs.Policy.{Chain, chainFrom, childOf, class, conjunctAt, end, impossible, interval, nameOf, some}
+use Rattle.meaning.specs.Stated.{isFunctionalRole, ranges}
 use Rattle.meaning.specs.Vocabulary.{Vocabulary}
 
 -- ---- the words of a policy
@@ -33,12 +35,12 @@ classesIn (impossible next) cs = classesIn next cs
 classesIn (some r child next) cs = classesIn next cs
 classesIn (interval f lo hi next) cs = classesIn next cs
 
-abbrev pub intervalsIn : (ℕ → Bool) → Chain → List Interval → List Interval
+abbrev pub intervalsIn : (ℕ → Bool) → Chain → List Constraint → List Constraint
 intervalsIn one end l = l
 intervalsIn one (class a next) l = intervalsIn one next l
 intervalsIn one (impossible next) l = intervalsIn one next l
 intervalsIn one (some r child next) l = intervalsIn one next l
-intervalsIn one (interval f lo hi next) l = intervalsIn one next (placeInterval (one f) (record { feature = f; lo = lo; hi = hi }) l)
+intervalsIn one (interval f lo hi next) l = intervalsIn one next (placeConstraint (one f) (record { feature = f; lo = lo; hi = hi }) l)
 
 abbrev pub roles : Chain → List Arm
 roles end = []
@@ -48,12 +50,12 @@ roles (some r child next) = record { role = r; child = child } ∷ roles next
 roles (interval f lo hi next) = roles next
 
 -- the impossible concept stands among its own conjuncts
-abbrev pub barred : Chain → Bool
-barred end = false
-barred (class a next) = barred next
-barred (impossible next) = true
-barred (some r child next) = barred next
-barred (interval f lo hi next) = barred next
+abbrev pub bottomHere : Chain → Bool
+bottomHere end = false
+bottomHere (class a next) = bottomHere next
+bottomHere (impossible next) = true
+bottomHere (some r child next) = bottomHere next
+bottomHere (interval f lo hi next) = bottomHere next
 
 -- how many constraints, and how many conjuncts
 abbrev pub intervalCount : Chain → ℕ
@@ -75,7 +77,7 @@ abbrev pub classesAll : List Arm → List ℕ → List ℕ
 classesAll [] cs = cs
 classesAll (a ∷ l) cs = classesAll l (classesIn (a .child) cs)
 
-abbrev pub intervalsAll : (ℕ → Bool) → List Arm → List Interval → List Interval
+abbrev pub intervalsAll : (ℕ → Bool) → List Arm → List Constraint → List Constraint
 intervalsAll one [] s = s
 intervalsAll one (a ∷ l) s = intervalsAll one l (intervalsIn one (a .child) s)
 
@@ -83,9 +85,9 @@ abbrev pub rolesAll : List Arm → List Arm
 rolesAll [] = []
 rolesAll (a ∷ l) = roles (a .child) ++ rolesAll l
 
-abbrev pub barredAll : List Arm → Bool
-barredAll [] = false
-barredAll (a ∷ l) = barred (a .child) || barredAll l
+abbrev pub bottomHereAll : List Arm → Bool
+bottomHereAll [] = false
+bottomHereAll (a ∷ l) = bottomHere (a .child) || bottomHereAll l
 
 abbrev pub countAll : List Arm → ℕ
 countAll [] = 0
@@ -96,14 +98,14 @@ abbrev pub weigh : List Arm → ℕ
 weigh [] = 0
 weigh (a ∷ l) = count (a .child) + weigh l
 
-abbrev pub blockedAll : List Arm → Bool
-blockedAll l = any (λ a. blocked (a .child)) l
+abbrev pub hasBottomAll : List Arm → Bool
+hasBottomAll l = any (λ a. hasBottom (a .child)) l
 
 -- ---- the individuals that arms reach
 
 abbrev pub placeAll : Vocabulary → List Arm → Successors → Successors
 placeAll K [] ks = ks
-placeAll K (a ∷ l) ks = placeAll K l (placeSuccessor (single K (a .role)) (a .role) (bare (ranges K (a .role))) (add K (a .child)) ks)
+placeAll K (a ∷ l) ks = placeAll K l (placeSuccessor (isFunctionalRole K (a .role)) (a .role) (bare (ranges K (a .role))) (add K (a .child)) ks)
 
 unfoldable pub successorsOf : Vocabulary → List Arm → Successors
 successorsOf K l = placeAll K l none

@@ -7,22 +7,21 @@ use Rattle.hierarchy.specs.Pairs.{PairRows, pairsEnd}
 use Rattle.hierarchy.specs.Rows.{ClosedRows, RangeRows}
 use Rattle.hierarchy.specs.Singles.{Singles}
 use Rattle.hierarchy.specs.declared.Functional.{Functional}
-use Rattle.meaning.proofs.Terms.{ChainOf, NamedChain, Reads, count}
+use Rattle.meaning.specs.Accepted.{ChainOf, NamedChain, Reads, count}
 use Rattle.meaning.specs.Countermodel.{individuals, size}
+use Rattle.meaning.specs.Intervals.{Constraint}
+use Rattle.meaning.specs.Limits.{mostClasses, mostFeatures, mostRecords, mostRoles}
 use Rattle.meaning.specs.Lists.{any}
-use Rattle.meaning.specs.NormalForm.{Form, Interval, Successors, blocked, isBelow, none, normalForm, successor}
+use Rattle.meaning.specs.NormalForm.{Form, Successors, hasBottom, none, normalForm, successor}
 use Rattle.meaning.specs.Policy.{Chain, chainFrom, childOf, nameOf}
-use Rattle.meaning.specs.Splitting.{constraints}
-use Rattle.meaning.specs.Vocabulary.{Vocabulary, mostClasses, vocabularyOf, vocabularyRefusal}
+use Rattle.meaning.specs.Splitting.{constraintsOf}
+use Rattle.meaning.specs.Stated.{isBelow}
+use Rattle.meaning.specs.Vocabulary.{Vocabulary, vocabularyOf, vocabularyRefusal}
 use Rattle.normal_form.specs.declared.Tables.{Tables}
 use Rattle.words.specs.Rows.{classWords, rowAt}
 use Rattle.words.specs.Sets.{inSet}
 
 -- ---- where the tables stand: behind what hierarchy writes
-
--- the most individuals, constraints and roles that wait: a policy has no more records
-abbrev pub mostEntries : ℕ
-mostEntries = 512
 
 -- records of roles that are still to be followed, a word each
 abbrev pub pendingAt : ℕ
@@ -30,17 +29,17 @@ pendingAt = pairsEnd
 
 -- individuals: parent, role, set of classes
 abbrev pub rowsAt : ℕ
-rowsAt = pendingAt + mostEntries
+rowsAt = pendingAt + mostRecords
 
 abbrev pub rowWidth : ℕ
 rowWidth = 2 + classWords
 
 -- constraints: individual, feature, lo, hi, and two words for whoever splits them
 abbrev pub intervalsAt : ℕ
-intervalsAt = rowsAt + rowWidth * mostEntries
+intervalsAt = rowsAt + rowWidth * mostRecords
 
 abbrev pub tablesEnd : ℕ
-tablesEnd = intervalsAt + 6 * mostEntries
+tablesEnd = intervalsAt + 6 * mostRecords
 
 -- the row of individual n + 1, and constraint m, counted from 0
 abbrev pub individualPlace : ℕ → ℕ
@@ -69,8 +68,8 @@ pub record Fit (p w : List ℕ) (s : ℕ) : Type 0 where
   pub here : s ≡ 0 → ⊥
   pub nameless : nameOf p s ≡ 0
   pub reads : Reads p (childOf p s) (termAt p s)
-  pub named : NamedChain mostClasses 64 64 (termAt p s)
-  pub few : count (termAt p s) < mostEntries
+  pub named : NamedChain mostClasses mostRoles mostFeatures (termAt p s)
+  pub few : count (termAt p s) < mostRecords
 
 -- ---- what is left behind
 
@@ -93,20 +92,20 @@ RowsStand K w (successor r m under next) i n =
 -- a constraint and the individual that it is of
 pub record Held : Type 0 where
   pub individual : ℕ
-  pub constraint : Interval
+  pub constraint : Constraint
 
-abbrev pub heldBy : ℕ → List Interval → List Held
+abbrev pub heldBy : ℕ → List Constraint → List Held
 heldBy x [] = []
 heldBy x (s ∷ l) = record { individual = x; constraint = s } ∷ heldBy x l
 
 -- those of individuals that have the numbers from k on
 abbrev pub heldBelow : Successors → ℕ → List Held
 heldBelow none k = []
-heldBelow (successor r n under next) k = heldBy k (n .intervals) ++ (heldBelow under (suc k) ++ heldBelow next (suc k + size under))
+heldBelow (successor r n under next) k = heldBy k (n .constraints) ++ (heldBelow under (suc k) ++ heldBelow next (suc k + size under))
 
 -- "Constraints go by individual, then by place in the walk": `constraints t`, each with its individual
 abbrev pub heldIn : Form → List Held
-heldIn t = heldBy 1 (t .node .intervals) ++ heldBelow (t .successors) 2
+heldIn t = heldBy 1 (t .node .constraints) ++ heldBelow (t .successors) 2
 
 pub record IntervalStands (w : List ℕ) (m : ℕ) (h : Held) : Type 0 where
   pub individual : getD w (intervalPlace m) 0 ≡ h .individual
@@ -122,7 +121,7 @@ IntervalsStand w m (h ∷ l) = IntervalStands w m h × IntervalsStand w (suc m) 
 -- the tables hold the form: the first individual is by role 0 below individual 0, which there are not
 pub record Tabled (K : Vocabulary) (t : Form) (w : List ℕ) (r : Tables) : Type 0 where
   pub count : r .individuals ≡ individuals t
-  pub top : r .intervals ≡ length (constraints t)
+  pub top : r .constraints ≡ length (constraintsOf t)
   pub rows : RowsStand K w (successor 0 (t .node) (t .successors) none) 0 0
   pub held : IntervalsStand w 0 (heldIn t)
 
@@ -130,8 +129,8 @@ pub record Tabled (K : Vocabulary) (t : Form) (w : List ℕ) (r : Tables) : Type
 -- what stands before and behind the tables is as it was
 pub record Normalised (f : Functional) (c : Chain) (w w′ : List ℕ) (r : Tables) : Type 0 where
   pub tabled : (v : List ℕ) → Prepared v w f → ChainOf v c → Tabled (vocabularyOf v) (normalForm (vocabularyOf v) c) w′ r
-  pub bars : r .blocked ≡ blocked c
-  pub most : (r .individuals ≤ mostEntries) × (r .intervals ≤ mostEntries)
+  pub bottom : r .impossible ≡ hasBottom c
+  pub most : (r .individuals ≤ mostRecords) × (r .constraints ≤ mostRecords)
   pub before : (i : ℕ) → i < pendingAt → getD w′ i 0 ≡ getD w i 0
   pub behind : (i : ℕ) → tablesEnd ≤ i → getD w′ i 0 ≡ getD w i 0
   pub same : length w′ ≡ length w

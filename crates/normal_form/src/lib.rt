@@ -8,6 +8,7 @@ use hierarchy::range_above;
 use meaning::ClassNo;
 use meaning::FeatureNo;
 use meaning::RoleNo;
+use meaning::limits::MOST_RECORDS;
 use policy::child_of;
 use policy::hi_of;
 use policy::kind_of;
@@ -19,46 +20,44 @@ ghost use mathlib.Core.Bool.{_&&_};
 ghost use mathlib.Core.Path.{_≡_};
 ghost use Prim.Native.Nat.{_+_, _<_, _≤_, max, min};
 ghost use lib.Dec.{eqb};
-ghost use lib.ListN.{length, getD};
+ghost use lib.ListN.{getD, length};
 ghost use Rattle.hierarchy.specs.Pairs.{mostPairs, pairAt, pairCount, pairsEnd};
+ghost use Rattle.meaning.specs.Limits.{mostRecords, mostRoles};
 ghost use Rattle.meaning.specs.Lists.{all, counting};
-ghost use Rattle.normal_form.specs.Clean.{TellsClean, agreeIn, filledAt, parted, setAt};
+ghost use Rattle.normal_form.specs.Clean.{DecidesClean, agreeIn, hasBoth, nonEmptyAt, setAt};
 ghost use Rattle.normal_form.specs.Parts.{armAt, chainAt, headAt, joins};
-ghost use Rattle.normal_form.specs.Steps.{Adding, BuiltFrom, Gatherable, Gathered, Good, NodedFrom, Placed, ReadyFor, Room, RowPut};
-ghost use Rattle.normal_form.specs.Steps.{front, intervalPut, startOf};
-ghost use Rattle.normal_form.specs.Tables.{Fit, Normalised, mostEntries, tablesEnd, termAt};
+ghost use Rattle.normal_form.specs.Steps.{Adding, BuiltFrom, Gatherable, Gathered, Good, NodedFrom, Placed, ReadyFor, Room};
+ghost use Rattle.normal_form.specs.Steps.{RowPut, front, intervalPut, startOf};
+ghost use Rattle.normal_form.specs.Tables.{Fit, Normalised, tablesEnd, termAt};
 ghost use Rattle.words.specs.Sets.{inSet};
 
-// The most individuals, the most constraints and the most roles that wait: a policy has no more records.
-const MOST: usize = 512;
-
-// Behind what hierarchy writes: the records of roles that are still to be followed, 0 for one that was merged away.
+// After what hierarchy writes, room for each record of a policy: those of roles that are still to be followed, 0 for one that was merged away.
 const PENDING: usize = PAIRS_END;
 
 // Individuals: parent, role, set of classes.
-pub const ROWS: usize = PENDING + MOST;
+pub const ROWS: usize = PENDING + MOST_RECORDS;
 
 pub const ROW: usize = 2 + ClassSet::WORDS;
 
 // Constraints: individual, feature, lo, hi, and two words for whoever splits them.
-pub const INTERVALS: usize = ROWS + ROW * MOST;
+pub const INTERVALS: usize = ROWS + ROW * MOST_RECORDS;
 
 pub const INTERVAL: usize = 6;
 
 // What the tables hold, and whether the impossible concept stands in the term.
 pub struct Tables {
     pub individuals: u32,
-    pub intervals: usize,
-    pub blocked: bool,
+    pub constraints: usize,
+    pub impossible: bool,
 }
 
 // What the conjuncts of an individual have given: its classes, the ends of the pending roles and of the constraints, and whether
 // one is the impossible concept.
-struct Got {
+struct Draft {
     classes: ClassSet,
     pending: usize,
-    intervals: usize,
-    blocked: bool,
+    constraints: usize,
+    impossible: bool,
 }
 
 fn larger(x: u32, y: u32) -> u32
@@ -80,7 +79,7 @@ fn both(one: bool, f: u32, g: u32) -> bool
 }
 
 fn put_interval(work: &mut [u32], i: usize, x: u32, f: u32, lo: u32, hi: u32)
-    requires { ⌜ (i < mostEntries) × (tablesEnd ≤ length (now work)) ⌝ }
+    requires { ⌜ (i < mostRecords) × (tablesEnd ≤ length (now work)) ⌝ }
     ensures { λ _. ⌜ now (work .exit) ≡ intervalPut (now (work .entry)) i x f lo hi ⌝ }
 {
     let at = INTERVALS + INTERVAL * i;
@@ -101,7 +100,7 @@ fn add_interval(
     lo: u32,
     hi: u32,
 ) -> usize
-    requires { ⌜ (i ≤ top) × (top < mostEntries) × (tablesEnd ≤ length (now work)) ⌝ }
+    requires { ⌜ (i ≤ top) × (top < mostRecords) × (tablesEnd ≤ length (now work)) ⌝ }
     ensures { λ r. ⌜ Placed one x i top f lo hi (now (work .entry)) (now (work .exit)) r ⌝ }
 {
     if i == top {
@@ -121,7 +120,7 @@ fn add_interval(
 
 // One individual's row.
 fn put_row(work: &mut [u32], n: u32, parent: u32, r: u32, s: ClassSet)
-    requires { ⌜ (n < mostEntries) × (tablesEnd ≤ length (now work)) ⌝ }
+    requires { ⌜ (n < mostRecords) × (tablesEnd ≤ length (now work)) ⌝ }
     ensures { λ _. ⌜ RowPut n parent r (s .words) (now (work .entry)) (now (work .exit)) ⌝ }
 {
     let at = ROWS + ROW * (n as usize);
@@ -132,7 +131,7 @@ fn put_row(work: &mut [u32], n: u32, parent: u32, r: u32, s: ClassSet)
 
 // The classes of a new individual by role r: those above r's ranges. The first individual is by no role.
 fn start_classes(work: &[u32], r: u32) -> ClassSet
-    requires { ⌜ (r ≤ 64) × (tablesEnd ≤ length (now work)) ⌝ }
+    requires { ⌜ (r ≤ mostRoles) × (tablesEnd ≤ length (now work)) ⌝ }
     ensures { λ s. ⌜ s .words ≡ startOf (front (now (work .entry))) r ⌝ }
 {
     if r == 0 {
@@ -143,7 +142,15 @@ fn start_classes(work: &[u32], r: u32) -> ClassSet
 }
 
 // One conjunct of individual x, whose constraints start at place first.
-fn conjunct(p: &[u32], work: &mut [u32], f: Functional, k: u32, x: u32, first: usize, g: Got) -> Got
+fn conjunct(
+    p: &[u32],
+    work: &mut [u32],
+    f: Functional,
+    k: u32,
+    x: u32,
+    first: usize,
+    g: Draft,
+) -> Draft
     requires { ⌜ (k ≡ 0 → ⊥) × Good (now p) k × ReadyFor (now work) first g (chainAt (now p) k) ⌝ }
     ensures { λ r. ⌜ Adding (inSet (f .features)) (now (p .entry)) x first (headAt (now (p .entry)) k) (now (work .entry)) (now (work .exit)) g r ⌝ }
 {
@@ -153,27 +160,27 @@ fn conjunct(p: &[u32], work: &mut [u32], f: Functional, k: u32, x: u32, first: u
     match kind {
         1 => {
             let more = classes.union(above(work, ClassNo(a)));
-            Got {
+            Draft {
                 classes: more,
                 pending: g.pending,
-                intervals: g.intervals,
-                blocked: g.blocked,
+                constraints: g.constraints,
+                impossible: g.impossible,
             }
         }
-        2 => Got {
+        2 => Draft {
             classes,
             pending: g.pending,
-            intervals: g.intervals,
-            blocked: true,
+            constraints: g.constraints,
+            impossible: true,
         },
         3 => {
             let at = g.pending;
             work[at] = k;
-            Got {
+            Draft {
                 classes,
                 pending: at + 1,
-                intervals: g.intervals,
-                blocked: g.blocked,
+                constraints: g.constraints,
+                impossible: g.impossible,
             }
         }
         _ => {
@@ -183,23 +190,31 @@ fn conjunct(p: &[u32], work: &mut [u32], f: Functional, k: u32, x: u32, first: u
                 one,
                 x,
                 first,
-                g.intervals,
+                g.constraints,
                 a,
                 lo_of(p, k),
                 hi_of(p, k),
             );
-            Got {
+            Draft {
                 classes,
                 pending: g.pending,
-                intervals: top,
-                blocked: g.blocked,
+                constraints: top,
+                impossible: g.impossible,
             }
         }
     }
 }
 
 // The conjuncts from record k on.
-fn chain(p: &[u32], work: &mut [u32], f: Functional, k: u32, x: u32, first: usize, g: Got) -> Got
+fn chain(
+    p: &[u32],
+    work: &mut [u32],
+    f: Functional,
+    k: u32,
+    x: u32,
+    first: usize,
+    g: Draft,
+) -> Draft
     requires { ⌜ Good (now p) k × ReadyFor (now work) first g (chainAt (now p) k) ⌝ }
     ensures { λ r. ⌜ Adding (inSet (f .features)) (now (p .entry)) x first (chainAt (now (p .entry)) k) (now (work .entry)) (now (work .exit)) g r ⌝ }
 {
@@ -229,8 +244,8 @@ fn gather(
     stop: usize,
     x: u32,
     first: usize,
-    g: Got,
-) -> Got
+    g: Draft,
+) -> Draft
     requires { ⌜ Gatherable (now p) (now work) j stop first g ⌝ }
     ensures { λ s. ⌜ Gathered f (now (p .entry)) r j stop x first (now (work .entry)) (now (work .exit)) g s ⌝ }
 {
@@ -259,19 +274,19 @@ fn node(
     stop: usize,
     parent: u32,
     t: Tables,
-) -> Got
-    requires { ⌜ (j < stop) × (k ≡ getD (now work) j 0) × (k ≡ 0 → ⊥) × Room (now p) (now work) j stop (t .individuals) (t .intervals) ⌝ }
+) -> Draft
+    requires { ⌜ (j < stop) × (k ≡ getD (now work) j 0) × (k ≡ 0 → ⊥) × Room (now p) (now work) j stop (t .individuals) (t .constraints) ⌝ }
     ensures { λ g. ⌜ NodedFrom f (now (p .entry)) j k stop parent t (now (work .entry)) (now (work .exit)) g ⌝ }
 {
     let r = name_of(p, k);
     let child = child_of(p, k);
     let x = t.individuals + 1;
-    let first = t.intervals;
-    let start = Got {
+    let first = t.constraints;
+    let start = Draft {
         classes: start_classes(work, r),
         pending: stop,
-        intervals: first,
-        blocked: t.blocked,
+        constraints: first,
+        impossible: t.impossible,
     };
     let own = chain(p, work, f, child, x, first, start);
     let all = gather(p, work, f, r, j + 1, stop, x, first, own);
@@ -290,7 +305,7 @@ fn successors(
     parent: u32,
     t: Tables,
 ) -> Tables
-    requires { ⌜ Room (now p) (now work) j stop (t .individuals) (t .intervals) ⌝ }
+    requires { ⌜ Room (now p) (now work) j stop (t .individuals) (t .constraints) ⌝ }
     ensures { λ u. ⌜ BuiltFrom f (now (p .entry)) j stop parent t (now (work .entry)) (now (work .exit)) u ⌝ }
 {
     if j == stop {
@@ -311,8 +326,8 @@ fn successors(
         here,
         Tables {
             individuals: here,
-            intervals: g.intervals,
-            blocked: g.blocked,
+            constraints: g.constraints,
+            impossible: g.impossible,
         },
     );
     successors(p, work, f, j + 1, stop, parent, u)
@@ -334,16 +349,16 @@ pub fn normalise(p: &[u32], work: &mut [u32], f: Functional, s: u32) -> Tables
         0,
         Tables {
             individuals: 0,
-            intervals: 0,
-            blocked: false,
+            constraints: 0,
+            impossible: false,
         },
     )
 }
 
 // Whether both classes of pair i are in the set.
-fn parts(work: &[u32], i: u32, s: ClassSet) -> bool
+fn has_both(work: &[u32], i: u32, s: ClassSet) -> bool
     requires { ⌜ (i < mostPairs) × (pairsEnd ≤ length (now work)) ⌝ }
-    ensures { λ r. ⌜ r ≡ parted (s .words) (pairAt (now (work .entry)) i) ⌝ }
+    ensures { λ r. ⌜ r ≡ hasBoth (s .words) (pairAt (now (work .entry)) i) ⌝ }
 {
     let at = pair_at(i);
     let a = work[at];
@@ -358,7 +373,7 @@ fn is_compatible(work: &[u32], s: ClassSet) -> bool
 {
     let n = work[PAIRS];
     for i in 0..n {
-        if parts(work, i, s) {
+        if has_both(work, i, s) {
             return false;
         }
     }
@@ -367,7 +382,7 @@ fn is_compatible(work: &[u32], s: ClassSet) -> bool
 
 // Rule 7 at each of the first n individuals.
 fn are_compatible(work: &[u32], n: u32) -> bool
-    requires { ⌜ (pairCount (now work) ≤ mostPairs) × (n ≤ mostEntries) × (tablesEnd ≤ length (now work)) ⌝ }
+    requires { ⌜ (pairCount (now work) ≤ mostPairs) × (n ≤ mostRecords) × (tablesEnd ≤ length (now work)) ⌝ }
     ensures { λ r. ⌜ r ≡ all (λ i. agreeIn (now (work .entry)) (setAt (now (work .entry)) i)) (counting 0 n) ⌝ }
 {
     for i in 0..n {
@@ -380,9 +395,9 @@ fn are_compatible(work: &[u32], n: u32) -> bool
 }
 
 // Rule 3 at each of the first n constraints.
-pub fn are_filled(work: &[u32], n: usize) -> bool
-    requires { ⌜ (n ≤ mostEntries) × (tablesEnd ≤ length (now work)) ⌝ }
-    ensures { λ r. ⌜ r ≡ all (filledAt (now (work .entry))) (counting 0 n) ⌝ }
+pub fn are_nonempty(work: &[u32], n: usize) -> bool
+    requires { ⌜ (n ≤ mostRecords) × (tablesEnd ≤ length (now work)) ⌝ }
+    ensures { λ r. ⌜ r ≡ all (nonEmptyAt (now (work .entry))) (counting 0 n) ⌝ }
 {
     for i in 0..n {
         let at = INTERVALS + INTERVAL * i;
@@ -398,8 +413,8 @@ pub fn are_filled(work: &[u32], n: usize) -> bool
 // Whether rules 3 and 7 find nothing in the form that the tables hold. Time grows with the individuals times the pairs.
 pub fn is_clean(work: &[u32], t: Tables) -> bool
     requires { ⌜ (pairCount (now work) ≤ mostPairs) × (tablesEnd ≤ length (now work)) ⌝ }
-    requires { ⌜ (t .individuals ≤ mostEntries) × (t .intervals ≤ mostEntries) ⌝ }
-    ensures { λ r. ⌜ TellsClean (now (work .entry)) t r ⌝ }
+    requires { ⌜ (t .individuals ≤ mostRecords) × (t .constraints ≤ mostRecords) ⌝ }
+    ensures { λ r. ⌜ DecidesClean (now (work .entry)) t r ⌝ }
 {
-    are_filled(work, t.intervals) && are_compatible(work, t.individuals)
+    are_nonempty(work, t.constraints) && are_compatible(work, t.individuals)
 }

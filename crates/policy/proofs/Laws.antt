@@ -8,17 +8,20 @@ use lib.ListN.{getD, length, replicate}
 use native.Mathlib.Numerals.{add-one}
 use native.Mathlib.Omega.{arith}
 use borrow.Author.Tests.{eq-eqb, eqb-false, eqb-true, ne-eqb, not-false, not-true}
-use Rattle.meaning.proofs.Links.{Enough, enough-end, falling, falling-le, falls, onward-le, tests}
-use Rattle.meaning.proofs.Terms.{Here, child-enough, next-enough}
+use Rattle.meaning.proofs.Links.{enough-end, falling-le, falls, onward-le, tests}
 use Rattle.meaning.proofs.Refusals.{or-assoc, or-first, policy-few}
-use Rattle.meaning.specs.Answers.{Answer, accepted, refused}
+use Rattle.meaning.proofs.Terms.{child-enough, next-enough}
+use Rattle.meaning.specs.Accepted.{Here}
+use Rattle.meaning.specs.Answers.{Answer, ReadingResult, accepted, refused, result}
+use Rattle.meaning.specs.Limits.{mostDepth, mostPolicyWords, mostRecords}
 use Rattle.meaning.specs.Lists.{any}
 use Rattle.meaning.specs.Operations.{inputRefusal, readPolicy, readSecondPolicy, unless}
-use Rattle.meaning.specs.Policy.{Walk, childOf, fault, faultOf, firstTerm, headedPolicy, hiOf, kindOf, loOf, nameOf, nextOf, onward, policyRefusal, recordFits, second, soundRecord, walk}
-use Rattle.meaning.specs.Records.{lastOf, linked, named, orElse, sized}
+use Rattle.meaning.specs.Policy.{Walk, childOf, fault, faultOf, firstTerm, headedPolicy, hiOf, kindOf, loOf, nameOf, nextOf, onward}
+use Rattle.meaning.specs.Policy.{policyRefusal, recordFits, secondRefusal, soundRecord, walk}
+use Rattle.meaning.specs.Records.{Enough, falling, isName, isOnward, isSized, lastOf, orElse}
 use Rattle.meaning.specs.Vocabulary.{classCount, featureCount, roleCount, vocabularyRefusal}
 use Rattle.policy.specs.Numbers.{numbered}
-use Rattle.policy.specs.Trails.{Arrived, Follows, Marks, faultAt, going, mostRecords, stopped, trailWords}
+use Rattle.policy.specs.Trails.{Arrived, Follows, Marks, faultAt, going, stopped, trailWords}
 use Rattle.words.proofs.Laws.{in-including, in-zeros, length-including, named-within}
 use Rattle.words.specs.Sets.{capacity, inSet, including}
 
@@ -57,40 +60,40 @@ module _ (v p : List ℕ) (depth k : ℕ) {kind : ℕ} {t : Bool} (ek : kind ≡
 
       -- the test of its name
       module _ {f : Bool} where
-        pub class-fits : kind ≡ 1 → f ≡ named (classCount v) a → f && ((eqb lo 0 && eqb hi 0) && eqb child 0) ≡ recordFits v p depth k
+        pub class-fits : kind ≡ 1 → f ≡ isName (classCount v) a → f && ((eqb lo 0 && eqb hi 0) && eqb child 0) ≡ recordFits v p depth k
         class-fits z m = rw (placed false (rw z), sym ek ∙ z, sym ea, sym el, sym eh, sym ec, m, and-assoc (eqb lo 0))
 
-        pub role-fits : kind ≡ 3 → f ≡ named (roleCount v) a → f && (eqb lo 0 && eqb hi 0) ≡ recordFits v p depth k
+        pub role-fits : kind ≡ 3 → f ≡ isName (roleCount v) a → f && (eqb lo 0 && eqb hi 0) ≡ recordFits v p depth k
         role-fits z m = rw (placed false (rw z), sym ek ∙ z, sym ea, sym el, sym eh, m)
 
-        pub feature-fits : kind ≡ 4 → f ≡ named (featureCount v) a → f && eqb child 0 ≡ recordFits v p depth k
+        pub feature-fits : kind ≡ 4 → f ≡ isName (featureCount v) a → f && eqb child 0 ≡ recordFits v p depth k
         feature-fits z m = rw (placed false (rw z), sym ek ∙ z, sym ea, sym ec, m)
 
 -- with the tests of its links
 pub links-sound : (v p : List ℕ) (depth k : ℕ) {last x y : ℕ} {f g h : Bool} → last ≡ lastOf 6 p → f ≡ recordFits v p depth k →
-    x ≡ childOf p k → g ≡ linked last k x → y ≡ nextOf p k → h ≡ linked last k y → f && (g && h) ≡ soundRecord v p depth k
+    x ≡ childOf p k → g ≡ isOnward last k x → y ≡ nextOf p k → h ≡ isOnward last k y → f && (g && h) ≡ soundRecord v p depth k
 links-sound v p depth k el ef ex eg ey eh = rw (ef, eg, eh, ex, ey, el)
 
 -- ---- the fault at a record
 
 -- s is the test of the record
 module _ (v p : List ℕ) (depth k : ℕ) (b : Bool) {s : Bool} (es : s ≡ soundRecord v p depth k) where
-  pub fault-twice : b ≡ true → 7 ≡ faultAt b (soundRecord v p depth k) (eqb depth 17)
+  pub fault-twice : b ≡ true → 7 ≡ faultAt b (soundRecord v p depth k) (eqb depth (suc mostDepth))
   unfolding faultAt
   fault-twice e = rw e
 
   module _ (e : b ≡ false) where
-    pub fault-bad : not s ≡ true → 6 ≡ faultAt b (soundRecord v p depth k) (eqb depth 17)
+    pub fault-bad : not s ≡ true → 6 ≡ faultAt b (soundRecord v p depth k) (eqb depth (suc mostDepth))
     unfolding faultAt
     fault-bad h = rw (e, sym es ∙ not-true s h)
 
-    pub fault-deep : not s ≡ false → depth ≤ 17 → 16 < depth → 8 ≡ faultAt b (soundRecord v p depth k) (eqb depth 17)
+    pub fault-deep : not s ≡ false → depth ≤ suc mostDepth → mostDepth < depth → 8 ≡ faultAt b (soundRecord v p depth k) (eqb depth (suc mostDepth))
     unfolding faultAt
-    fault-deep h l g = rw (e, sym es ∙ not-false s h, eq-eqb depth 17 (omega arith))
+    fault-deep h l g = rw (e, sym es ∙ not-false s h, eq-eqb depth (suc mostDepth) (omega arith))
 
-    pub fault-none : not s ≡ false → depth ≤ 16 → 0 ≡ faultAt b (soundRecord v p depth k) (eqb depth 17)
+    pub fault-none : not s ≡ false → depth ≤ mostDepth → 0 ≡ faultAt b (soundRecord v p depth k) (eqb depth (suc mostDepth))
     unfolding faultAt
-    fault-none h g = rw (e, sym es ∙ not-false s h, ne-eqb depth 17 (λ q. omega arith))
+    fault-none h g = rw (e, sym es ∙ not-false s h, ne-eqb depth (suc mostDepth) (λ q. omega arith))
 
 -- ---- the walk
 
@@ -115,15 +118,15 @@ clear false false d h = absurd (omega arith)
 
 -- n is the fault at record k
 module _ (v p : List ℕ) (depth k : ℕ) (b : Bool) {n : ℕ} (m : k ≡ 0 → ⊥) (i : k ≤ lastOf 6 p)
-    (en : n ≡ faultAt b (soundRecord v p depth k) (eqb depth 17)) (z : n ≡ 0) where
-  cleared : (b ≡ false) × (soundRecord v p depth k ≡ true) × (eqb depth 17 ≡ false)
-  cleared = clear b (soundRecord v p depth k) (eqb depth 17) (sym en ∙ z)
+    (en : n ≡ faultAt b (soundRecord v p depth k) (eqb depth (suc mostDepth))) (z : n ≡ 0) where
+  cleared : (b ≡ false) × (soundRecord v p depth k ≡ true) × (eqb depth (suc mostDepth) ≡ false)
+  cleared = clear b (soundRecord v p depth k) (eqb depth (suc mostDepth)) (sym en ∙ z)
 
   here : Here p k
   here = let u = simp tests at (cleared .1) in record { inside = (omega arith, i); child = u .1 .0; next = u .1 .1 }
 
-  pub deeper : depth ≤ 17 → depth + 1 ≤ 17
-  deeper d = let q = eqb-false depth 17 (cleared .2) in omega arith
+  pub deeper : depth ≤ suc mostDepth → depth + 1 ≤ suc mostDepth
+  deeper d = let q = eqb-false depth (suc mostDepth) (cleared .2) in omega arith
 
   -- a link goes on, and the records that may follow get fewer
   module _ {x : ℕ} where
@@ -167,7 +170,7 @@ module _ (v p : List ℕ) (depth k : ℕ) (s : List ℕ) where
 
   -- b is the test of whether record k was reached before, and n the fault at it
   module _ (b : Bool) {n : ℕ} (m : k ≡ 0 → ⊥) (l : lastOf 6 p ≤ mostRecords) (i : k ≤ lastOf 6 p) (eb : b ≡ inSet s k)
-      (en : n ≡ faultAt b (soundRecord v p depth k) (eqb depth 17)) where
+      (en : n ≡ faultAt b (soundRecord v p depth k) (eqb depth (suc mostDepth))) where
     -- some fuel is left
     step : {s′ : List ℕ} {r : ℕ} → length s′ ≡ length s →
         ((f : ℕ) (seen : List ℕ) → Enough (lastOf 6 p) (suc f) k → Marks s seen → Arrived s′ r (walk (suc f) v p depth k seen)) →
@@ -185,7 +188,7 @@ module _ (v p : List ℕ) (depth k : ℕ) (s : List ℕ) where
     unfolding walk faultAt
     walk-faults z =
         step refl (λ f seen h a. let on = onward (walk f v p (suc depth) (childOf p k) (k ∷ seen)) (walk f v p depth (nextOf p k)) in
-        rw (ne-eqb k 0 m, reached-is a) (go b (soundRecord v p depth k) (eqb depth 17) on en z))
+        rw (ne-eqb k 0 m, reached-is a) (go b (soundRecord v p depth k) (eqb depth (suc mostDepth)) on en z))
       where
         go : (b c d : Bool) (on : Walk) → n ≡ faultAt b c d → (n ≡ 0 → ⊥) → Arrived s n (cond b (fault 7) (cond c (cond d (fault 8) on) (fault 6)))
         go true c d on e z = stopped e
@@ -224,8 +227,8 @@ pub headed : (p : List ℕ) {x last a b c d e : ℕ} → x ≡ firstTerm p → l
 headed p ex el ea eb ec ed ee = rw (ex, el, ea, eb, ec, ed, ee)
 
 -- t is the test of the length
-module _ (p : List ℕ) {t : Bool} (e : t ≡ sized 6 3078 (length p)) (h : not t ≡ false) where
-  right-size : sized 6 3078 (length p) ≡ true
+module _ (p : List ℕ) {t : Bool} (e : t ≡ isSized 6 mostPolicyWords (length p)) (h : not t ≡ false) where
+  right-size : isSized 6 mostPolicyWords (length p) ≡ true
   right-size = sym e ∙ not-false t h
 
   pub least : 6 ≤ length p
@@ -246,7 +249,7 @@ fault-is : {s : List ℕ} {n : ℕ} {q : Walk} → Arrived s n q → n ≡ fault
 fault-is (going z m) = z
 fault-is (stopped z) = z
 
-module _ (v p : List ℕ) {t : Bool} (e : t ≡ sized 6 3078 (length p)) where
+module _ (v p : List ℕ) {t : Bool} (e : t ≡ isSized 6 mostPolicyWords (length p)) where
   pub wrong-size : not t ≡ true → 4 ≡ policyRefusal v p
   unfolding policyRefusal
   wrong-size h = rw (sym e ∙ not-true t h)
@@ -279,8 +282,8 @@ module _ (v p : List ℕ) (latter : Bool) {a : ℕ} (ea : a ≡ vocabularyRefusa
     pub policy-former : latter ≡ false → b ≡ orElse (vocabularyRefusal v) (numbered latter (policyRefusal v p))
     policy-former f = rw (sym ea ∙ z, f) eb
 
-    pub policy-latter : {r : ℕ} → latter ≡ true → r ≡ second b → r ≡ orElse (vocabularyRefusal v) (numbered latter (policyRefusal v p))
-    policy-latter f er = rw (sym ea ∙ z, f) (er ∙ ap second eb)
+    pub policy-latter : {r : ℕ} → latter ≡ true → r ≡ secondRefusal b → r ≡ orElse (vocabularyRefusal v) (numbered latter (policyRefusal v p))
+    policy-latter f er = rw (sym ea ∙ z, f) (er ∙ ap secondRefusal eb)
 
 -- a is the refusal of the vocabulary and the first policy
 module _ (v p q : List ℕ) {a : ℕ} (ea : a ≡ orElse (vocabularyRefusal v) (policyRefusal v p)) where
@@ -288,16 +291,16 @@ module _ (v p q : List ℕ) {a : ℕ} (ea : a ≡ orElse (vocabularyRefusal v) (
   unfolding inputRefusal
   input-former n = rw (or-assoc (vocabularyRefusal v) (policyRefusal v p), sym ea) (or-first a _ n)
 
-  pub input-latter : {b r : ℕ} → a ≡ 0 → b ≡ policyRefusal v q → r ≡ second b → r ≡ inputRefusal v p q
+  pub input-latter : {b r : ℕ} → a ≡ 0 → b ≡ policyRefusal v q → r ≡ secondRefusal b → r ≡ inputRefusal v p q
   unfolding inputRefusal
-  input-latter z eb er = rw (or-assoc (vocabularyRefusal v) (policyRefusal v p), sym ea ∙ z) (er ∙ ap second eb)
+  input-latter z eb er = rw (or-assoc (vocabularyRefusal v) (policyRefusal v p), sym ea ∙ z) (er ∙ ap secondRefusal eb)
 
 -- n is the first refusal, and x its answer
-module _ (v p : List ℕ) {n : ℕ} {x : Answer} (h : x ≡ unless refused n accepted) where
+module _ (v p : List ℕ) {n : ℕ} {x : Answer ReadingResult} (h : x ≡ unless refused n (result accepted)) where
   pub answers : n ≡ orElse (vocabularyRefusal v) (policyRefusal v p) → x ≡ readPolicy v p
   unfolding readPolicy
-  answers e = h ∙ ap (λ (n : ℕ). unless refused n accepted) e
+  answers e = h ∙ ap (λ (n : ℕ). unless refused n (result accepted)) e
 
-  pub answers-second : n ≡ orElse (vocabularyRefusal v) (second (policyRefusal v p)) → x ≡ readSecondPolicy v p
+  pub answers-second : n ≡ orElse (vocabularyRefusal v) (secondRefusal (policyRefusal v p)) → x ≡ readSecondPolicy v p
   unfolding readSecondPolicy
-  answers-second e = h ∙ ap (λ (n : ℕ). unless refused n accepted) e
+  answers-second e = h ∙ ap (λ (n : ℕ). unless refused n (result accepted)) e

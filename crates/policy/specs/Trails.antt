@@ -5,15 +5,11 @@ use mathlib.Core.List.{List}
 use mathlib.Core.Path.{_≡_}
 use lib.Dec.{eqb}
 use lib.ListN.{length}
-use Rattle.meaning.proofs.Links.{Enough}
+use Rattle.meaning.specs.Limits.{mostRecords}
 use Rattle.meaning.specs.Lists.{any}
 use Rattle.meaning.specs.Policy.{Walk, fault, reached, walk}
-use Rattle.meaning.specs.Records.{lastOf}
+use Rattle.meaning.specs.Records.{Enough, lastOf}
 use Rattle.words.specs.Sets.{inSet}
-
--- "At most 512 records follow."
-abbrev pub mostRecords : ℕ
-mostRecords = 512
 
 -- how many words have a bit for each record
 abbrev pub trailWords : ℕ

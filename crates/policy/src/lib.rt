@@ -3,7 +3,10 @@ use meaning::ClassNo;
 use meaning::FeatureNo;
 use meaning::Reading;
 use meaning::RoleNo;
-use records::links;
+use meaning::limits::MOST_DEPTH;
+use meaning::limits::MOST_POLICY_WORDS;
+use meaning::limits::MOST_RECORDS;
+use records::is_onward;
 use records::word;
 use vocabulary::is_class;
 use vocabulary::is_feature;
@@ -13,25 +16,18 @@ use words::has;
 use words::insert;
 ghost use mathlib.Core.Path.{_≡_};
 ghost use mathlib.Core.Bool.{cond, not};
-ghost use Prim.Native.Nat.{_≤_};
+ghost use Prim.Native.Nat.{_≤_, suc};
 ghost use lib.Dec.{eqb};
 ghost use lib.ListN.{length};
 ghost use Rattle.meaning.specs.Answers.{readingAnswer};
+ghost use Rattle.meaning.specs.Limits.{mostDepth, mostRecords};
 ghost use Rattle.meaning.specs.Operations.{inputRefusal, readPolicy, readSecondPolicy};
 ghost use Rattle.meaning.specs.Policy.{childOf, firstTerm, headedPolicy, hiOf, kindOf, loOf, nameOf, nextOf, policyRefusal};
-ghost use Rattle.meaning.specs.Policy.{recordFits, second, soundRecord};
+ghost use Rattle.meaning.specs.Policy.{recordFits, secondRefusal, soundRecord};
 ghost use Rattle.meaning.specs.Records.{lastOf, orElse};
 ghost use Rattle.meaning.specs.Vocabulary.{vocabularyRefusal};
 ghost use Rattle.policy.specs.Numbers.{numbered};
-ghost use Rattle.policy.specs.Trails.{Follows, faultAt, mostRecords};
-
-// The most records behind the header.
-const MOST_RECORDS: usize = 512;
-
-const MOST_WORDS: usize = 6 * (MOST_RECORDS + 1);
-
-// The deepest that a conjunct may stand.
-const DEEPEST: u32 = 16;
+ghost use Rattle.policy.specs.Trails.{Follows, faultAt};
 
 pub fn kind_of(p: &[u32], k: u32) -> u32
     ensures { λ r. ⌜ r ≡ kindOf (now (p .entry)) k ⌝ }
@@ -117,7 +113,8 @@ fn is_sound(v: &[u32], p: &[u32], depth: u32, k: u32) -> bool
     ensures { λ r. ⌜ r ≡ soundRecord (now (v .entry)) (now (p .entry)) depth k ⌝ }
 {
     let last = last_record(p);
-    is_fit(v, p, depth, k) & (links(last, k, child_of(p, k)) & links(last, k, next_of(p, k)))
+    is_fit(v, p, depth, k)
+        & (is_onward(last, k, child_of(p, k)) & is_onward(last, k, next_of(p, k)))
 }
 
 // Words with a bit for each record.
@@ -125,8 +122,8 @@ const MARKS: usize = MOST_RECORDS / 32;
 
 // The fault at record k, 0 for none, in the order 7, 6, 8.
 fn fault_at(v: &[u32], p: &[u32], depth: u32, k: u32, reached: bool) -> u32
-    requires { ⌜ (6 ≤ length (now p)) × (depth ≤ 17) ⌝ }
-    ensures { λ r. ⌜ r ≡ faultAt reached (soundRecord (now (v .entry)) (now (p .entry)) depth k) (eqb depth 17) ⌝ }
+    requires { ⌜ (6 ≤ length (now p)) × (depth ≤ suc mostDepth) ⌝ }
+    ensures { λ r. ⌜ r ≡ faultAt reached (soundRecord (now (v .entry)) (now (p .entry)) depth k) (eqb depth (suc mostDepth)) ⌝ }
 {
     let sound = is_sound(v, p, depth, k);
     if reached {
@@ -135,13 +132,13 @@ fn fault_at(v: &[u32], p: &[u32], depth: u32, k: u32, reached: bool) -> u32
     if !sound {
         return 6;
     }
-    if DEEPEST < depth { 8 } else { 0 }
+    if MOST_DEPTH < depth { 8 } else { 0 }
 }
 
 // The first fault of the walk from record k on, 0 for none; the records reached are marked. It ends, since the links of a sound record
 // rise.
 fn walk_from(v: &[u32], p: &[u32], depth: u32, k: u32, seen: &mut [u32]) -> u32
-    requires { ⌜ (6 ≤ length (now p)) × (lastOf 6 (now p) ≤ mostRecords) × (k ≤ lastOf 6 (now p)) × (depth ≤ 17) ⌝ }
+    requires { ⌜ (6 ≤ length (now p)) × (lastOf 6 (now p) ≤ mostRecords) × (k ≤ lastOf 6 (now p)) × (depth ≤ suc mostDepth) ⌝ }
     ensures { λ r. ⌜ Follows (now (v .entry)) (now (p .entry)) depth k (now (seen .entry)) (now (seen .exit)) r ⌝ }
 {
     if k == 0 {
@@ -174,7 +171,7 @@ fn is_headed(p: &[u32]) -> bool
 pub fn policy_refusal(v: &[u32], p: &[u32]) -> u32
     ensures { λ r. ⌜ r ≡ policyRefusal (now (v .entry)) (now (p .entry)) ⌝ }
 {
-    if !records::is_sized(6, MOST_WORDS, p.len()) {
+    if !records::is_sized(6, MOST_POLICY_WORDS, p.len()) {
         return 4;
     }
     if !is_headed(p) {
@@ -185,9 +182,9 @@ pub fn policy_refusal(v: &[u32], p: &[u32]) -> u32
 }
 
 // A second policy's refusals are 10 greater.
-fn second_number(refusal: u32) -> u32
+fn second_refusal(refusal: u32) -> u32
     requires { ⌜ refusal ≤ 8 ⌝ }
-    ensures { λ r. ⌜ r ≡ second refusal ⌝ }
+    ensures { λ r. ⌜ r ≡ secondRefusal refusal ⌝ }
 {
     if refusal == 0 { 0 } else { refusal + 10 }
 }
@@ -201,7 +198,7 @@ fn refusal_of(v: &[u32], p: &[u32], latter: bool) -> u32
         return refusal;
     }
     let own = policy_refusal(v, p);
-    if latter { second_number(own) } else { own }
+    if latter { second_refusal(own) } else { own }
 }
 
 // The first refusal of an operation on one policy: the vocabulary, then the policy.
@@ -231,5 +228,5 @@ pub fn input_refusal(v: &[u32], p: &[u32], q: &[u32]) -> u32
     if refusal != 0 {
         return refusal;
     }
-    second_number(policy_refusal(v, q))
+    second_refusal(policy_refusal(v, q))
 }

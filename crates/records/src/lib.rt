@@ -2,10 +2,10 @@
 use meaning::Reading;
 ghost use mathlib.Core.Path.{_≡_};
 ghost use Prim.Native.Nat.{_<_};
-ghost use lib.ListN.{getD, length};
-ghost use Rattle.meaning.specs.Records.{linked, named, sized};
-ghost use Rattle.meaning.specs.Answers.{readingAnswer, refused, accepted};
+ghost use lib.ListN.{getD};
+ghost use Rattle.meaning.specs.Answers.{accepted, readingAnswer, refused, result};
 ghost use Rattle.meaning.specs.Operations.{unless};
+ghost use Rattle.meaning.specs.Records.{isName, isOnward, isSized};
 
 // A word of a table. Past the end stands 0, so that reading asks nothing of the caller.
 pub fn word(l: &[u32], i: usize) -> u32
@@ -15,15 +15,15 @@ pub fn word(l: &[u32], i: usize) -> u32
 }
 
 // Names count from 1 in each series.
-pub fn within(count: u32, x: u32) -> bool
-    ensures { λ r. ⌜ r ≡ named count x ⌝ }
+pub fn is_name(count: u32, x: u32) -> bool
+    ensures { λ r. ⌜ r ≡ isName count x ⌝ }
 {
     1 <= x && x <= count
 }
 
 // A link only goes onward, so no chain comes back.
-pub fn links(last: usize, k: u32, next: u32) -> bool
-    ensures { λ r. ⌜ r ≡ linked last k next ⌝ }
+pub fn is_onward(last: usize, k: u32, next: u32) -> bool
+    ensures { λ r. ⌜ r ≡ isOnward last k next ⌝ }
 {
     next == 0 || k < next && next as usize <= last
 }
@@ -31,14 +31,14 @@ pub fn links(last: usize, k: u32, next: u32) -> bool
 // A header and records, of one width, and not too many.
 pub fn is_sized(width: usize, most: usize, n: usize) -> bool
     requires { ⌜ 0 < width ⌝ }
-    ensures { λ r. ⌜ r ≡ sized width most n ⌝ }
+    ensures { λ r. ⌜ r ≡ isSized width most n ⌝ }
 {
     n % width == 0 && (width <= n && n <= most)
 }
 
 // The answer of a reader whose first refusal has this number, 0 for none.
 pub fn reading(refusal: u32) -> Reading
-    ensures { λ r. ⌜ readingAnswer r ≡ unless refused refusal accepted ⌝ }
+    ensures { λ r. ⌜ readingAnswer r ≡ unless refused refusal (result accepted) ⌝ }
 {
     if refusal == 0 {
         Reading::Accepted

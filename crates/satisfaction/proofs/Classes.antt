@@ -8,13 +8,14 @@ use native.Mathlib.Omega.{arith}
 use borrow.Author.Tests.{eqb-false, eqb-true}
 use lib.Dec.{eqb}
 use lib.ListN.{getD, length}
-use Rattle.meaning.proofs.Links.{Name}
-use Rattle.meaning.specs.Countermodel.{Fact, edge, member, value}
+use Rattle.meaning.specs.Limits.{mostClasses, mostIndividuals, workSize}
 use Rattle.meaning.specs.Lists.{any}
-use Rattle.meaning.specs.ModelCheck.{factAt, factKind, factName, factOther, factOwner, factsOf, individualCount, isMember, isModel}
-use Rattle.meaning.specs.Operations.{workSize}
-use Rattle.meaning.specs.Vocabulary.{mostClasses, vocabularyOf}
-use Rattle.model.proofs.Chain.{Readable, Stated}
+use Rattle.meaning.specs.Model.{Fact, edge, factAt, factKind, factName, factOther, factOwner, factsOf, individualCount, member}
+use Rattle.meaning.specs.Model.{value}
+use Rattle.meaning.specs.ModelCheck.{isMember, isModel}
+use Rattle.meaning.specs.Records.{Name}
+use Rattle.meaning.specs.Vocabulary.{vocabularyOf}
+use Rattle.model.specs.Chain.{Readable, Stated}
 use Rattle.satisfaction.proofs.Rows.{none-in, put-in, put-only}
 use Rattle.satisfaction.specs.Classes.{Classed, Interpreted, Satisfied, entered}
 use Rattle.satisfaction.specs.Places.{classPlace, classesOf, classesSize, tablesEnd, tablesSize, valuesAt}
@@ -26,7 +27,7 @@ use Rattle.workspace.specs.Work.{Only}
 
 -- a class that a set has a bit for, of an individual that has a set
 abbrev Roomy : Fact → Type 0
-Roomy (member a i) = Name mostClasses a × Name 512 i
+Roomy (member a i) = Name mostClasses a × Name mostIndividuals i
 Roomy (edge r i j) = Unit {0}
 Roomy (value f i v) = Unit {0}
 
@@ -47,7 +48,7 @@ module _ (m : List ℕ) where
   abbrev pub Entering : List ℕ → List Fact → Type 0
   Entering w l = (i a : ℕ) → Name (individualCount m) i → inSet (classesOf w i) a || any (isMember a i) l ≡ any (isMember a i) (factsOf m)
 
-  pub entering-starts : (w : List ℕ) → individualCount m ≤ 512 → ((i : ℕ) → 0 ≤ i → i < classesSize → getD w i 0 ≡ 0) → Entering w (factsOf m)
+  pub entering-starts : (w : List ℕ) → individualCount m ≤ mostIndividuals → ((i : ℕ) → 0 ≤ i → i < classesSize → getD w i 0 ≡ 0) → Entering w (factsOf m)
   entering-starts w few z i a n = rw (none-in classWords w (classPlace i) (λ j p q. z j (omega arith) (omega arith)) a)
 
   pub entering-ends : {w : List ℕ} → Entering w [] → Classed m w

@@ -7,9 +7,9 @@ use native.Mathlib.Omega.{arith}
 use borrow.Author.Tests.{eq-eqb, eqb-false, eqb-true, ne-eqb, not-false, not-true}
 use lib.Dec.{eqb}
 use lib.ListN.{getD, set}
-use Rattle.meaning.specs.Countermodel.{Fact, edge, member, value}
-use Rattle.meaning.specs.ModelCheck.{factAt, factKind, factName, factOther, factOwner, onEdge}
-use Rattle.model.proofs.Chain.{Stated}
+use Rattle.meaning.specs.Model.{Fact, edge, factAt, factKind, factName, factOther, factOwner, member, value}
+use Rattle.meaning.specs.ModelCheck.{onEdge}
+use Rattle.model.specs.Chain.{Stated}
 use Rattle.satisfaction.specs.Classes.{entered, follows}
 use Rattle.satisfaction.specs.Links.{agrees, link, linkOf, none, noted}
 use Rattle.satisfaction.specs.Places.{classPlace, classesOf, flagOf, flagsAt, putIn, valuesAt}

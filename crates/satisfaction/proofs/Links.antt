@@ -9,11 +9,11 @@ use borrow.Author.Tests.{eqb-false, eqb-true, not-false, not-true}
 use lib.Dec.{T, eqb, eqb-refl, eqb→eq}
 use lib.ListN.{length, length-set, set}
 use lib.Seq.{getD-set-other, getD-set-same}
-use Rattle.meaning.proofs.Links.{Name}
 use Rattle.meaning.proofs.Rules.{all-at, all-in, all-of, all-out, eqb-of, isFalse, notTrue}
+use Rattle.meaning.specs.Limits.{mostIndividuals, workSize}
 use Rattle.meaning.specs.Lists.{_∈_, all, here, there}
-use Rattle.meaning.specs.Operations.{workSize}
-use Rattle.satisfaction.specs.Links.{Link, agrees, alike, link, none, noted, single}
+use Rattle.meaning.specs.Records.{Name}
+use Rattle.satisfaction.specs.Links.{Link, agrees, alike, isFunctional, link, none, noted}
 use Rattle.satisfaction.specs.Places.{flagOf, flagsAt, tablesSize, valueOf, valuesAt}
 use Rattle.workspace.proofs.Changes.{only-none, only-set}
 use Rattle.workspace.specs.Work.{Only}
@@ -31,9 +31,9 @@ imp-in : (s t : Bool) → (T s → T t) → T (not s || t)
 imp-in true t f = f tt
 imp-in false t f = tt
 
-pub single-iff : (l : List Link) → T (single l) ↔ Single l
-unfolding single
-single-iff l = (out, λ s. all-in (λ x. all (alike x) l) (all-of l (λ x mx. all-in (alike x) (all-of l (λ y my. back s x y mx my)))))
+pub isFunctional-iff : (l : List Link) → T (isFunctional l) ↔ Single l
+unfolding isFunctional
+isFunctional-iff l = (out, λ s. all-in (λ x. all (alike x) l) (all-of l (λ x mx. all-in (alike x) (all-of l (λ y my. back s x y mx my)))))
   where
     out : T (all (λ x. all (alike x) l) l) → Single l
     out t i j k a b = eqb→eq j k (imp-out (eqb i i) (eqb j k) (all-at (all-out (alike (link i j)) l (all-at (all-out (λ x. all (alike x) l) l t) a)) b) (eqb-refl i))
@@ -59,21 +59,21 @@ Agree w l = (i j : ℕ) → link i j ∈ l → (flagOf w i ≡ 0 → ⊥) → va
 pub record Holding (w : List ℕ) (L l : List Link) : Type 0 where
   pub down : Single L → Agree w l × Single l
   pub up : Agree w l → Single l → Single L
-  pub named : (i j : ℕ) → link i j ∈ l → Name 512 i
+  pub named : (i j : ℕ) → link i j ∈ l → Name mostIndividuals i
 
-pub holding-ends : {w : List ℕ} {L : List Link} → Holding w L [] → true ≡ single L
-holding-ends {w} {L} h = sym (go (single L) refl)
+pub holding-ends : {w : List ℕ} {L : List Link} → Holding w L [] → true ≡ isFunctional L
+holding-ends {w} {L} h = sym (go (isFunctional L) refl)
   where
     none-left : Single L
     none-left = h .up (λ i j m. elim m [ ]) (λ i j k m. elim m [ ])
 
-    go : (b : Bool) → single L ≡ b → b ≡ true
+    go : (b : Bool) → isFunctional L ≡ b → b ≡ true
     go true e = refl
-    go false e = absurd (notTrue e (single-iff L .1 none-left))
+    go false e = absurd (notTrue e (isFunctional-iff L .1 none-left))
 
 module _ {w : List ℕ} {L l : List Link} {x : Link} (h : Holding w L (x ∷ l)) where
-  clashing : agrees w x ≡ false → false ≡ single L
-  clashing e = sym (isFalse (single L) (λ t. go x (λ i j d. h .down (single-iff L .0 t) .0 i j (here d)) e))
+  clashing : agrees w x ≡ false → false ≡ isFunctional L
+  clashing e = sym (isFalse (isFunctional L) (λ t. go x (λ i j d. h .down (isFunctional-iff L .0 t) .0 i j (here d)) e))
     where
       go : (y : Link) → ((i j : ℕ) → link i j ≡ y → (flagOf w i ≡ 0 → ⊥) → valueOf w i ≡ j) → agrees w y ≡ false → ⊥
       go none f e = let z : _≡_ {A = ℕ} 0 1 = cc in omega arith
@@ -97,7 +97,7 @@ module _ {w : List ℕ} {L l : List Link} where
       past (there m) = m
 
   module _ {i j : ℕ} (h : Holding w L (link i j ∷ l)) where
-    first-named : Name 512 i
+    first-named : Name mostIndividuals i
     first-named = h .named i j (here refl)
 
     repeated : (flagOf w i ≡ 0 → ⊥) → valueOf w i ≡ j → Holding w L l
@@ -126,7 +126,7 @@ module _ {w : List ℕ} {L l : List Link} where
           let n = first-named in
           getD-set-same (set w (flagsAt + (i - 1)) 1) (valuesAt + (i - 1)) j 0 (omega (arith, length-set w (flagsAt + (i - 1)) 1))
 
-      module _ (a : ℕ) (na : Name 512 a) (other : a ≡ i → ⊥) where
+      module _ (a : ℕ) (na : Name mostIndividuals a) (other : a ≡ i → ⊥) where
         flag-there : flagOf w′ a ≡ flagOf w a
         flag-there =
             let n = first-named in
@@ -192,5 +192,5 @@ module _ {w : List ℕ} {L l : List Link} where
     pub holding-on : {b : Bool} → workSize ≤ length w → b ≡ agrees w x → not b ≡ false → Holding w′ L l
     holding-on {b} long d n = subst (λ (y : List ℕ). Holding y L l) (sym e) (one-noted x h long (sym d ∙ not-false b n))
 
-    pub holding-fails : {b : Bool} → b ≡ agrees w x → not b ≡ true → false ≡ single L
+    pub holding-fails : {b : Bool} → b ≡ agrees w x → not b ≡ true → false ≡ isFunctional L
     holding-fails {b} d n = clashing h (sym d ∙ not-true b n)

@@ -9,8 +9,7 @@ use borrow.Author.Tests.{eqb-true}
 use lib.Dec.{eqb}
 use lib.ListN.{List·getD-eq-default, drop, getD, length, length-take, take}
 use lib.Seq.{drop-drop, getD-drop, getD-take}
-use Rattle.meaning.proofs.Links.{Name}
-use Rattle.meaning.specs.Records.{named}
+use Rattle.meaning.specs.Records.{Name, isName}
 use Rattle.satisfaction.specs.Places.{putIn}
 use Rattle.words.proofs.Bits.{bit-none}
 use Rattle.words.proofs.Laws.{in-including, length-including, lt-or-ge, named-within}
@@ -69,6 +68,6 @@ module _ (n : ℕ) (w : List ℕ) (at x : ℕ) (fits : at + n ≤ length w) wher
       here : rowAt n (putIn n w at x) at ≡ including (rowAt n w at) x
       here = ap (λ (k : ℕ). rowAt k (putIn n w at x) at) (sym set-size) ∙ put-row w at (including (rowAt n w at) x) room
 
-      go : (b : Bool) → eqb d x ≡ b → cond b (named (32 * length (rowAt n w at)) d) (inSet (rowAt n w at) d) ≡ b || inSet (rowAt n w at) d
+      go : (b : Bool) → eqb d x ≡ b → cond b (isName (32 * length (rowAt n w at)) d) (inSet (rowAt n w at) d) ≡ b || inSet (rowAt n w at) d
       go true e = let z = eqb-true d x e in rw (length-row n w at fits) (named-within (32 * n) d (omega arith) (omega arith))
       go false e = refl

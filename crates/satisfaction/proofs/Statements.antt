@@ -7,15 +7,16 @@ use mathlib.Core.Path.{_∙_, _≡_, ap, refl, subst, sym}
 use native.Mathlib.Omega.{arith}
 use borrow.Author.Tests.{eqb-false, eqb-true, ne-eqb, not-false, not-true}
 use lib.Dec.{T, T-not, eqb, not-T}
-use Rattle.meaning.proofs.Links.{Name}
-use Rattle.meaning.proofs.ModelCheck.{is-member, member-is, model-iff}
-use Rattle.meaning.proofs.Rules.{T-and, and-T, any-in, any-mono, any-out, head, isTrue, same-test}
-use Rattle.meaning.specs.Countermodel.{Fact, edge, member, stands, value}
-use Rattle.meaning.specs.Interpretation.{Obeys}
-use Rattle.meaning.specs.Lists.{_∈_, all, any, cons, counting, here, nil, there}
-use Rattle.meaning.specs.ModelCheck.{factAt, factKind, factName, factOther, factOwner, factsOf, individualCount, isMember, isModel, obeys}
-use Rattle.meaning.specs.Vocabulary.{Axiom, Vocabulary, axiomAt, axiomKind, axiomLeft, axiomNext, axiomRight, below, disjoint, functionalFeature, functionalRole, range, vocabularyOf}
-use Rattle.model.proofs.Chain.{Lists, Readable, lists-more, lists-none}
+use Rattle.meaning.proofs.ModelCheck.{is-member, member-is, obeys-iff}
+use Rattle.meaning.proofs.Rules.{any-in, any-mono, any-out, isTrue, same-test}
+use Rattle.meaning.specs.Lists.{_∈_, all, any, counting, here, there}
+use Rattle.meaning.specs.Model.{Fact, edge, factAt, factKind, factName, factOther, factOwner, factsOf, individualCount, member}
+use Rattle.meaning.specs.Model.{value}
+use Rattle.meaning.specs.ModelCheck.{isMember, isModel, obeys}
+use Rattle.meaning.specs.Records.{Name}
+use Rattle.meaning.specs.Vocabulary.{Axiom, Vocabulary, axiomAt, axiomKind, axiomLeft, axiomNext, axiomRight, below, disjoint}
+use Rattle.meaning.specs.Vocabulary.{functionalFeature, functionalRole, range, vocabularyOf}
+use Rattle.model.specs.Chain.{Lists, Readable, lists-more, lists-none}
 use Rattle.satisfaction.specs.Classes.{Classed, follows, ownerOf}
 use Rattle.satisfaction.specs.Places.{classesOf}
 use Rattle.vocabulary.proofs.Chain.{Walking, walking-on}
@@ -83,12 +84,6 @@ owners-named {m} (lists-more {k = k} {F = F} s l) x i = go (λ j. owners-named l
 member-iff : (F : List Fact) (a i : ℕ) → T (any (isMember a i) F) ↔ (member a i ∈ F)
 member-iff F a i = (λ t. any-mono (λ x m. member-is a i x m) (any-out (isMember a i) F t), λ m. any-in (isMember a i) (any-mono (λ x e. is-member a i x e) m))
 
-pub obeys-iff : (F : List Fact) (x : Axiom) → T (obeys F x) ↔ Obeys (stands 0 F) x
-obeys-iff F x = (
-  λ t. head (model-iff F 0 (x ∷ []) .0 (and-T (obeys F x) true t tt)),
-  λ o. T-and (obeys F x) true (model-iff F 0 (x ∷ []) .1 (cons o nil)) .0,
-)
-
 -- ---- two classes
 
 -- by the sets of the work slice, which are right
@@ -130,10 +125,10 @@ module _ {m w : List ℕ} (r : Readable m) (c : Classed m w) (a b : ℕ) where
 
   module _ {t : Bool} {n : ℕ} (en : n ≡ individualCount m) where
     pub below-told : t ≡ all (follows w a b false) (counting 1 n) → t ≡ obeys F (below a b)
-    below-told e = e ∙ rw en (same-test _ (obeys F (below a b)) (λ h. obeys-iff F (below a b) .1 (λ i k. let n = named i a k in in-iff i b n .0 (pairs false .0 h i n k))) (λ h. pairs false .1 (λ i n k. in-iff i b n .1 (obeys-iff F (below a b) .0 h i k))))
+    below-told e = e ∙ rw en (same-test _ (obeys F (below a b)) (λ h. obeys-iff F 0 (below a b) .1 (λ i k. let n = named i a k in in-iff i b n .0 (pairs false .0 h i n k))) (λ h. pairs false .1 (λ i n k. in-iff i b n .1 (obeys-iff F 0 (below a b) .0 h i k))))
 
     pub disjoint-told : t ≡ all (follows w a b true) (counting 1 n) → t ≡ obeys F (disjoint a b)
-    disjoint-told e = e ∙ rw en (same-test _ (obeys F (disjoint a b)) (λ h. obeys-iff F (disjoint a b) .1 (λ i k l. let n = named i a k in T-not (inSet (classesOf w i) b) (pairs true .0 h i n k) (in-iff i b n .1 l))) (λ h. pairs true .1 (λ i n k. not-T (inSet (classesOf w i) b) (λ l. obeys-iff F (disjoint a b) .0 h i k (in-iff i b n .0 l)))))
+    disjoint-told e = e ∙ rw en (same-test _ (obeys F (disjoint a b)) (λ h. obeys-iff F 0 (disjoint a b) .1 (λ i k l. let n = named i a k in T-not (inSet (classesOf w i) b) (pairs true .0 h i n k) (in-iff i b n .1 l))) (λ h. pairs true .1 (λ i n k. not-T (inSet (classesOf w i) b) (λ l. obeys-iff F 0 (disjoint a b) .0 h i k (in-iff i b n .0 l)))))
 
 -- ---- what record k of the vocabulary states, by its kind
 
@@ -160,11 +155,11 @@ module _ (F : List Fact) where
   abbrev pub obeyed : Bool → Axiom → Bool
   obeyed b x = b && obeys F x
 
-  fold-false : (K : Vocabulary) → foldl obeyed false K ≡ false
+  fold-false : (K : List Axiom) → foldl obeyed false K ≡ false
   fold-false [] = refl
   fold-false (x ∷ K) = fold-false K
 
-  fold-true : (K : Vocabulary) → foldl obeyed true K ≡ isModel F K
+  fold-true : (K : List Axiom) → foldl obeyed true K ≡ all (obeys F) K
   fold-true [] = refl
   fold-true (x ∷ K) = go (obeys F x) (fold-true K)
     where
@@ -172,8 +167,8 @@ module _ (F : List Fact) where
       go true h = h
       go false h = fold-false K
 
-  pub model-told : (K : Vocabulary) {b : Bool} → b ≡ foldl obeyed true K → b ≡ isModel F K
-  model-told K e = e ∙ fold-true K
+  pub model-told : (K : Vocabulary) {b : Bool} → b ≡ foldl obeyed true (K .axioms) → b ≡ isModel F K
+  model-told K e = e ∙ fold-true (K .axioms)
 
   module _ {v : List ℕ} {k : ℕ} {b : Bool} (w : Walking v obeyed true k true) (n : k ≡ 0 → ⊥) (e : b ≡ obeys F (axiomAt v k)) where
     pub model-fails : not b ≡ true → false ≡ isModel F (vocabularyOf v)

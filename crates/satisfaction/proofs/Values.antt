@@ -8,17 +8,19 @@ use native.Mathlib.Omega.{arith}
 use borrow.Author.Tests.{eq-eqb, eqb-true}
 use lib.Dec.{eqb}
 use lib.ListN.{getD}
-use Rattle.meaning.proofs.Links.{Name}
+use Rattle.meaning.proofs.ModelCheck.{obeys-iff}
 use Rattle.meaning.proofs.Rules.{any-at, any-map, any-mono, same-test}
-use Rattle.meaning.specs.Countermodel.{Fact, edge, member, value}
+use Rattle.meaning.specs.Limits.{mostIndividuals}
 use Rattle.meaning.specs.Lists.{Any, _∈_, here, there}
-use Rattle.meaning.specs.ModelCheck.{factsOf, obeys}
+use Rattle.meaning.specs.Model.{Fact, edge, factsOf, member, value}
+use Rattle.meaning.specs.ModelCheck.{obeys}
+use Rattle.meaning.specs.Records.{Name}
 use Rattle.meaning.specs.Vocabulary.{functionalFeature, functionalRole}
-use Rattle.model.proofs.Chain.{Readable}
-use Rattle.satisfaction.proofs.Links.{Holding, single-iff}
-use Rattle.satisfaction.proofs.Statements.{obeys-iff, owners-named}
+use Rattle.model.specs.Chain.{Readable}
+use Rattle.satisfaction.proofs.Links.{Holding, isFunctional-iff}
+use Rattle.satisfaction.proofs.Statements.{owners-named}
 use Rattle.satisfaction.specs.Classes.{ownerOf}
-use Rattle.satisfaction.specs.Links.{link, linkOf, linksOf, none, single}
+use Rattle.satisfaction.specs.Links.{isFunctional, link, linkOf, linksOf, none}
 use Rattle.satisfaction.specs.Places.{flagsAt}
 
 module _ {A B : Type 0} {P : B → Type 0} (f : A → B) where
@@ -44,7 +46,7 @@ link-owner kind a i j (value f o v) e = go (eqb kind 3 && eqb a f) e
     go false d = absurd (let z : _≡_ {A = ℕ} 0 1 = cc in omega arith)
 
 module _ {m : List ℕ} (r : Readable m) (kind a : ℕ) where
-  links-named : (i j : ℕ) → link i j ∈ linksOf kind a (factsOf m) → Name 512 i
+  links-named : (i j : ℕ) → link i j ∈ linksOf kind a (factsOf m) → Name mostIndividuals i
   links-named i j l =
       let x = any-at (unmap (linkOf kind a) (factsOf m) l) in
       let n = owners-named (r .lists) (x .0) (x .1) in
@@ -52,7 +54,7 @@ module _ {m : List ℕ} (r : Readable m) (kind a : ℕ) where
       let k = r .individuals in
       omega arith
 
-  pub holding-starts : {w : List ℕ} → ((i : ℕ) → flagsAt ≤ i → i < flagsAt + 512 → getD w i 0 ≡ 0) → Holding w (linksOf kind a (factsOf m)) (linksOf kind a (factsOf m))
+  pub holding-starts : {w : List ℕ} → ((i : ℕ) → flagsAt ≤ i → i < flagsAt + mostIndividuals → getD w i 0 ≡ 0) → Holding w (linksOf kind a (factsOf m)) (linksOf kind a (factsOf m))
   holding-starts z = record {
     down = λ s. (λ i j l f. absurd (f (let n = links-named i j l in z (flagsAt + (i - 1)) (omega arith) (omega arith))), s);
     up = λ g s. s;
@@ -85,12 +87,12 @@ module _ (F : List Fact) (a : ℕ) where
           go true d h = let q = eqb-true a f d in cc
           go false d h = absurd (let z : _≡_ {A = ℕ} 0 1 = cc in omega arith)
 
-  pub role-told : {t : Bool} → t ≡ single (linksOf 2 a F) → t ≡ obeys F (functionalRole a)
-  role-told e = e ∙ same-test (single (linksOf 2 a F)) (obeys F (functionalRole a))
-      (λ h. obeys-iff F (functionalRole a) .1 (λ i j k x y. single-iff (linksOf 2 a F) .0 h i j k (edge-iff i j .1 x) (edge-iff i k .1 y)))
-      (λ h. single-iff (linksOf 2 a F) .1 (λ i j k x y. obeys-iff F (functionalRole a) .0 h i j k (edge-iff i j .0 x) (edge-iff i k .0 y)))
+  pub role-told : {t : Bool} → t ≡ isFunctional (linksOf 2 a F) → t ≡ obeys F (functionalRole a)
+  role-told e = e ∙ same-test (isFunctional (linksOf 2 a F)) (obeys F (functionalRole a))
+      (λ h. obeys-iff F 0 (functionalRole a) .1 (λ i j k x y. isFunctional-iff (linksOf 2 a F) .0 h i j k (edge-iff i j .1 x) (edge-iff i k .1 y)))
+      (λ h. isFunctional-iff (linksOf 2 a F) .1 (λ i j k x y. obeys-iff F 0 (functionalRole a) .0 h i j k (edge-iff i j .0 x) (edge-iff i k .0 y)))
 
-  pub feature-told : {t : Bool} → t ≡ single (linksOf 3 a F) → t ≡ obeys F (functionalFeature a)
-  feature-told e = e ∙ same-test (single (linksOf 3 a F)) (obeys F (functionalFeature a))
-      (λ h. obeys-iff F (functionalFeature a) .1 (λ i j k x y. single-iff (linksOf 3 a F) .0 h i j k (value-iff i j .1 x) (value-iff i k .1 y)))
-      (λ h. single-iff (linksOf 3 a F) .1 (λ i j k x y. obeys-iff F (functionalFeature a) .0 h i j k (value-iff i j .0 x) (value-iff i k .0 y)))
+  pub feature-told : {t : Bool} → t ≡ isFunctional (linksOf 3 a F) → t ≡ obeys F (functionalFeature a)
+  feature-told e = e ∙ same-test (isFunctional (linksOf 3 a F)) (obeys F (functionalFeature a))
+      (λ h. obeys-iff F 0 (functionalFeature a) .1 (λ i j k x y. isFunctional-iff (linksOf 3 a F) .0 h i j k (value-iff i j .1 x) (value-iff i k .1 y)))
+      (λ h. isFunctional-iff (linksOf 3 a F) .1 (λ i j k x y. obeys-iff F 0 (functionalFeature a) .0 h i j k (value-iff i j .0 x) (value-iff i k .0 y)))

@@ -4,13 +4,13 @@ use mathlib.Core.Bool.{Bool, _||_, cond, not}
 use mathlib.Core.List.{List}
 use mathlib.Core.Path.{_≡_}
 use lib.ListN.{length}
-use Rattle.meaning.proofs.Links.{Name}
-use Rattle.meaning.specs.Countermodel.{Fact, edge, member, value}
+use Rattle.meaning.specs.Limits.{workSize}
 use Rattle.meaning.specs.Lists.{any}
-use Rattle.meaning.specs.ModelCheck.{factsOf, individualCount, isMember, isModel}
-use Rattle.meaning.specs.Operations.{workSize}
+use Rattle.meaning.specs.Model.{Fact, edge, factsOf, individualCount, member, value}
+use Rattle.meaning.specs.ModelCheck.{isMember, isModel}
+use Rattle.meaning.specs.Records.{Name}
 use Rattle.meaning.specs.Vocabulary.{vocabularyOf}
-use Rattle.model.proofs.Chain.{Readable}
+use Rattle.model.specs.Chain.{Readable}
 use Rattle.satisfaction.specs.Places.{classPlace, classesOf, putIn, tablesEnd}
 use Rattle.words.specs.Rows.{classWords}
 use Rattle.words.specs.Sets.{inSet}

@@ -4,8 +4,8 @@ use mathlib.Core.Bool.{Bool, _&&_, _||_, cond, not, true}
 use mathlib.Core.List.{List, map}
 use lib.Dec.{eqb}
 use lib.ListN.{set}
-use Rattle.meaning.specs.Countermodel.{Fact, edge, member, value}
 use Rattle.meaning.specs.Lists.{all}
+use Rattle.meaning.specs.Model.{Fact, edge, member, value}
 use Rattle.satisfaction.specs.Places.{flagOf, flagsAt, valueOf, valuesAt}
 
 -- an individual and its value, or nothing of the name
@@ -25,8 +25,8 @@ alike none y = true
 alike (link i j) none = true
 alike (link i j) (link h k) = not (eqb i h) || eqb j k
 
-unfoldable pub single : List Link → Bool
-single l = all (λ x. all (alike x) l) l
+unfoldable pub isFunctional : List Link → Bool
+isFunctional l = all (λ x. all (alike x) l) l
 
 -- the values of one name
 abbrev pub linksOf : ℕ → ℕ → List Fact → List Link

@@ -2,12 +2,9 @@
 use Prim.Native.Nat.{_*_, _+_, _-_, ℕ}
 use mathlib.Core.List.{List}
 use lib.ListN.{getD}
+use Rattle.meaning.specs.Limits.{mostIndividuals}
 use Rattle.words.specs.Rows.{classWords, putAt, rowAt}
 use Rattle.words.specs.Sets.{including}
-
--- "individuals outside 1 to 512"
-abbrev pub mostIndividuals : ℕ
-mostIndividuals = 512
 
 -- a set of classes for each individual, from 1 on
 abbrev pub classPlace : ℕ → ℕ

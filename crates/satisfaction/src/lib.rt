@@ -2,6 +2,7 @@
 // In the work slice: a set of classes for each of 512 individuals, then the value first seen of each individual and whether one was,
 // 512 words each. With 8 words to a set of classes that is 4,096 + 1,024 = 5,120 words, and with 10 it is 6,144.
 use meaning::ClassNo;
+use meaning::limits::MOST_INDIVIDUALS;
 use model::fact_kind;
 use model::fact_name;
 use model::fact_next;
@@ -21,28 +22,28 @@ use workspace::clear;
 ghost use mathlib.Core.Path.{_≡_};
 ghost use Prim.Native.Nat.{_+_, _≤_};
 ghost use lib.ListN.{length};
-ghost use Rattle.meaning.proofs.Links.{Name};
+ghost use Rattle.meaning.specs.Limits.{mostIndividuals, workSize};
 ghost use Rattle.meaning.specs.Lists.{all, any, counting};
-ghost use Rattle.meaning.specs.ModelCheck.{factAt, factsOf, isMember, isModel, obeys, onEdge};
-ghost use Rattle.meaning.specs.Operations.{workSize};
+ghost use Rattle.meaning.specs.Model.{factAt, factsOf};
+ghost use Rattle.meaning.specs.ModelCheck.{isMember, isModel, obeys, onEdge};
+ghost use Rattle.meaning.specs.Records.{Name};
 ghost use Rattle.meaning.specs.Vocabulary.{axiomAt, range, vocabularyOf, vocabularyRefusal};
-ghost use Rattle.model.proofs.Chain.{Readable, Stated};
-ghost use Rattle.satisfaction.specs.Classes.{Classed, entered, follows, Interpreted, Satisfied};
-ghost use Rattle.satisfaction.specs.Links.{agrees, linkOf, linksOf, noted, single};
-ghost use Rattle.satisfaction.specs.Places.{classesOf, classesSize, classPlace, mostIndividuals, putIn, tablesSize, valuesAt};
+ghost use Rattle.model.specs.Chain.{Readable, Stated};
+ghost use Rattle.satisfaction.specs.Classes.{Classed, Interpreted, Satisfied, entered, follows};
+ghost use Rattle.satisfaction.specs.Links.{agrees, isFunctional, linkOf, linksOf, noted};
+ghost use Rattle.satisfaction.specs.Places.{classPlace, classesOf, classesSize, putIn, tablesSize, valuesAt};
 ghost use Rattle.words.specs.Sets.{inSet};
 ghost use Rattle.workspace.specs.Work.{Only};
 
-// The most individuals of a model.
-pub const MOST: usize = 512;
+const INDIVIDUALS: usize = MOST_INDIVIDUALS as usize;
 
-// The two tables stand behind the sets of classes.
-const VALUES: usize = MOST * ClassSet::WORDS;
+// The two tables stand after the sets of classes.
+const VALUES: usize = INDIVIDUALS * ClassSet::WORDS;
 
-const FLAGS: usize = VALUES + MOST;
+const FLAGS: usize = VALUES + INDIVIDUALS;
 
 // The words of the work slice from here on are left alone.
-pub const END: usize = FLAGS + MOST;
+pub const END: usize = FLAGS + INDIVIDUALS;
 
 // Puts x into the set of n words at a place.
 pub fn put(work: &mut [u32], at: usize, n: usize, x: u32)
@@ -172,12 +173,12 @@ fn note(m: &[u32], work: &mut [u32], f: u32, kind: u32, a: u32) -> bool
 }
 
 // Whether no individual has two values of name a, by one walk over the records.
-fn is_single(m: &[u32], work: &mut [u32], kind: u32, a: u32) -> bool
+fn is_functional(m: &[u32], work: &mut [u32], kind: u32, a: u32) -> bool
     requires { ⌜ Readable (now m) × (2 ≤ kind) × (workSize ≤ length (now work)) ⌝ }
-    ensures { λ r. ⌜ r ≡ single (linksOf kind a (factsOf (now (m .entry)))) ⌝ }
+    ensures { λ r. ⌜ r ≡ isFunctional (linksOf kind a (factsOf (now (m .entry)))) ⌝ }
     ensures { λ _. ⌜ Only valuesAt tablesSize (now (work .entry)) (now (work .exit)) ⌝ }
 {
-    clear(work, FLAGS, MOST);
+    clear(work, FLAGS, INDIVIDUALS);
     let mut f = first_fact(m);
     while f != 0 {
         if !note(m, work, f, kind, a) {
@@ -200,8 +201,8 @@ fn is_obeyed(v: &[u32], m: &[u32], work: &mut [u32], k: u32) -> bool
     match kind {
         1 => do_follow(work, individual_count(m), a, b, false),
         2 => do_follow(work, individual_count(m), a, b, true),
-        3 => is_single(m, work, 2, a),
-        4 => is_single(m, work, 3, a),
+        3 => is_functional(m, work, 2, a),
+        4 => is_functional(m, work, 3, a),
         _ => are_ranged(m, work, a, b),
     }
 }

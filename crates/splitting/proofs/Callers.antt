@@ -8,25 +8,27 @@ use native.Mathlib.Omega.{arith}
 use lib.Dec.{T, leb→le}
 use lib.ListN.{length}
 use Rattle.meaning.proofs.Rules.{T-and, isTrue}
-use Rattle.meaning.proofs.Wellformed.{Accepted}
+use Rattle.meaning.specs.Accepted.{Accepted}
+use Rattle.meaning.specs.Intervals.{Constraint}
+use Rattle.meaning.specs.Limits.{mostRecords}
 use Rattle.meaning.specs.Lists.{all, counting}
-use Rattle.meaning.specs.NormalForm.{Form, Interval}
+use Rattle.meaning.specs.NormalForm.{Form}
 use Rattle.meaning.specs.Policy.{Policy}
-use Rattle.meaning.specs.Splitting.{combinationCount, constraints, product}
+use Rattle.meaning.specs.Splitting.{combinationCount, constraintsOf, product}
 use Rattle.meaning.specs.Vocabulary.{Vocabulary}
 use Rattle.normal_form.proofs.Callers.{held-constraints, tabled-kept}
 use Rattle.normal_form.proofs.Cleanness.{clean-not}
 use Rattle.normal_form.proofs.Nodes.{held-in}
-use Rattle.normal_form.specs.Clean.{cleanForm, filledAt}
+use Rattle.normal_form.specs.Clean.{cleanForm, nonEmptyAt}
 use Rattle.normal_form.specs.Steps.{intervalOf}
-use Rattle.normal_form.specs.Tables.{Held, IntervalsStand, Tabled, heldIn, mostEntries}
+use Rattle.normal_form.specs.Tables.{Held, IntervalsStand, Tabled, heldIn}
 use Rattle.normal_form.specs.declared.Tables.{Tables}
 use Rattle.splitting.proofs.Storing.{full-kept}
+use Rattle.splitting.specs.Ends.{Collectable, endWords}
+use Rattle.splitting.specs.Odometer.{Full, Kept, Splittable, constraintAt, constraintsAt}
 pub use Rattle.splitting.proofs.Places.{stands-combination, stands-lt}
 pub use Rattle.splitting.proofs.Storing.{constraints-kept, kept-refl, kept-trans}
 pub use Rattle.splitting.proofs.Whole.{widened-form}
-use Rattle.splitting.specs.Ends.{Collectable, endWords}
-use Rattle.splitting.specs.Odometer.{Full, Kept, Splittable, constraintAt, constraintsAt}
 
 -- ---- before: a policy that the reader accepts
 
@@ -35,7 +37,7 @@ collectable a h = let b = a .few in let c = a .small in record { reads = a .read
 
 -- ---- the constraints
 
-interval-is : (s : Interval) {f lo hi : ℕ} → f ≡ s .feature → lo ≡ s .lo → hi ≡ s .hi → intervalOf f lo hi ≡ s
+interval-is : (s : Constraint) {f lo hi : ℕ} → f ≡ s .feature → lo ≡ s .lo → hi ≡ s .hi → intervalOf f lo hi ≡ s
 interval-is s p q r = rw (p, q, r)
 
 stand-at : (w : List ℕ) (m : ℕ) (l : List Held) → IntervalsStand w m l → map (constraintAt w) (counting m (length l)) ≡ map (λ h. h .constraint) l
@@ -43,37 +45,37 @@ unfolding constraintAt
 stand-at w m [] s = refl
 stand-at w m (h ∷ l) s = ap₂ (λ x k. x ∷ k) (interval-is (h .constraint) (s .0 .feature) (s .0 .lo) (s .0 .hi)) (stand-at w (suc m) l (s .1))
 
-pub full-filled : (w : List ℕ) (n : ℕ) → all (filledAt w) (counting 0 n) ≡ true → Full w n
+pub full-filled : (w : List ℕ) (n : ℕ) → all (nonEmptyAt w) (counting 0 n) ≡ true → Full w n
 unfolding constraintAt
 full-filled w n q m h = let z : 0 + m ≡ m = omega arith in leb→le _ _ (rw z at (each 0 n m (isTrue q) h))
   where
-    each : (o n m : ℕ) → T (all (filledAt w) (counting o n)) → m < n → T (filledAt w (o + m))
+    each : (o n m : ℕ) → T (all (nonEmptyAt w) (counting o n)) → m < n → T (nonEmptyAt w (o + m))
     each o zero m h b = absurd (omega arith)
-    each o (suc n) zero h b = let z : o ≡ o + 0 = omega arith in rw (← z) (T-and (filledAt w o) (all (filledAt w) (counting (suc o) n)) h .0)
+    each o (suc n) zero h b = let z : o ≡ o + 0 = omega arith in rw (← z) (T-and (nonEmptyAt w o) (all (nonEmptyAt w) (counting (suc o) n)) h .0)
     each o (suc n) (suc m) h b =
         let z : suc o + m ≡ o + suc m = omega arith in
-        rw (← z) (each (suc o) n m (T-and (filledAt w o) (all (filledAt w) (counting (suc o) n)) h .1) (omega arith))
+        rw (← z) (each (suc o) n m (T-and (nonEmptyAt w o) (all (nonEmptyAt w) (counting (suc o) n)) h .1) (omega arith))
 
 module _ {K : Vocabulary} {F : Form} {w : List ℕ} {t : Tables} (s : Tabled K F w t) where
-  pub constraints-at : constraintsAt w (t .intervals) ≡ constraints F
+  pub constraints-at : constraintsAt w (t .constraints) ≡ constraintsOf F
   constraints-at = ap (constraintsAt w) (s .top ∙ sym (held-in F)) ∙ (stand-at w 0 (heldIn F) (s .held) ∙ held-constraints F)
 
-  pub product-at : (Q : Policy) → product Q (constraintsAt w (t .intervals)) ≡ combinationCount Q F
+  pub product-at : (Q : Policy) → product Q (constraintsAt w (t .constraints)) ≡ combinationCount Q F
   unfolding combinationCount
   product-at Q = ap (product Q) constraints-at
 
   -- ---- none is empty
 
-  pub full-clean : cleanForm K F ≡ true → Full w (t .intervals)
-  full-clean e = full (all (filledAt w) (counting 0 (t .intervals))) refl
+  pub full-clean : cleanForm K F ≡ true → Full w (t .constraints)
+  full-clean e = full (all (nonEmptyAt w) (counting 0 (t .constraints))) refl
     where
-      full : (b : Bool) → all (filledAt w) (counting 0 (t .intervals)) ≡ b → Full w (t .intervals)
-      full true q = full-filled w (t .intervals) q
+      full : (b : Bool) → all (nonEmptyAt w) (counting 0 (t .constraints)) ≡ b → Full w (t .constraints)
+      full true q = full-filled w (t .constraints) q
       full false q = let z : _≡_ {A = Bool} false true = clean-not K w t (sym q) refl F s ∙ e in absurd (let y : _≡_ {A = ℕ} 0 1 = cc in omega arith)
 
   -- ---- the tables stay
 
-  pub tabled-turned : {n : ℕ} {w′ : List ℕ} → Kept n w w′ → (t .individuals ≤ mostEntries) × (t .intervals ≤ mostEntries) → Tabled K F w′ t
+  pub tabled-turned : {n : ℕ} {w′ : List ℕ} → Kept n w w′ → (t .individuals ≤ mostRecords) × (t .constraints ≤ mostRecords) → Tabled K F w′ t
   tabled-turned {n} {w′} k most =
       tabled-kept K F w w′ t most (k .same) (λ i a b. k .others i (λ m c. (λ z. omega arith, λ z. omega arith)))
       (λ m i a b c. k .others i (λ j d. (λ z. omega arith, λ z. omega arith))) s

@@ -8,7 +8,7 @@ use lib.Dec.{eqb}
 use lib.ListN.{drop, length, length-append, length-set, length-take, take}
 use lib.Seq.{sets-eq, take-at}
 use borrow.Author.Tests.{eq-eqb, eqb-false, eqb-true, ne-eqb}
-use Rattle.meaning.proofs.Terms.{Reads, count, reads-class, reads-end, reads-impossible, reads-interval, reads-some}
+use Rattle.meaning.specs.Accepted.{Reads, count, reads-class, reads-end, reads-impossible, reads-interval, reads-some}
 use Rattle.meaning.specs.Policy.{Chain, childOf, class, end, hiOf, impossible, interval, kindOf, loOf, nameOf, nextOf, some}
 use Rattle.meaning.specs.Splitting.{ends}
 use Rattle.normal_form.proofs.Chains.{chain-end, chain-is}

@@ -10,12 +10,11 @@ use native.Mathlib.Omega.{arith}
 use lib.Dec.{eqb, leb, ltb}
 use lib.ListN.{length}
 use Rattle.meaning.proofs.Count.{count-pieces}
-use Rattle.meaning.specs.Containment.{mostCombinations}
-use Rattle.meaning.specs.Counting.{wide, wideNeighbours}
+use Rattle.meaning.specs.Intervals.{Constraint}
+use Rattle.meaning.specs.Limits.{mostCombinations}
 use Rattle.meaning.specs.Lists.{filter, flatMap}
-use Rattle.meaning.specs.NormalForm.{Interval}
 use Rattle.meaning.specs.Policy.{Policy}
-use Rattle.meaning.specs.Splitting.{ends, insert, insertAll, pieces, points}
+use Rattle.meaning.specs.Splitting.{ends, insert, insertAll, pieces, points, wide, wideNeighbours}
 use Rattle.splitting.proofs.Ways.{ways, ways-product}
 use Rattle.splitting.specs.Ends.{Ends, endsIn}
 use Rattle.splitting.specs.Odometer.{Few, constraintAt}
@@ -44,7 +43,7 @@ filter-most p (x ∷ l) = go (p x) (filter-most p l)
     go true h = omega arith
     go false h = omega arith
 
-points-most : (Q : Policy) (s : Interval) → length (points Q s) ≤ length (flatMap (ends (s .feature)) Q) + 2
+points-most : (Q : Policy) (s : Constraint) → length (points Q s) ≤ length (flatMap (ends (s .feature)) Q) + 2
 points-most Q s =
     let p : ℕ → Bool = λ e. leb (s .lo) e && leb e (s .hi) in
     let l = flatMap (ends (s .feature)) Q in
@@ -64,7 +63,7 @@ neighbours-most : (X : List ℕ) → length X + wideNeighbours X ≤ 2 * length 
 neighbours-most [] = omega arith
 neighbours-most (x ∷ l) = omega (arith, gaps-most x l)
 
-pieces-most : (Q : Policy) (s : Interval) → length (pieces Q s) ≤ 2 * length (flatMap (ends (s .feature)) Q) + 3
+pieces-most : (Q : Policy) (s : Constraint) → length (pieces Q s) ≤ 2 * length (flatMap (ends (s .feature)) Q) + 3
 pieces-most Q s = omega (arith, count-pieces Q s, neighbours-most (points Q s), points-most Q s)
 
 -- ---- an end has two words
@@ -79,7 +78,7 @@ ends-half (g ∷ (x ∷ l)) f = go (eqb g f) (ends-half l f)
     go true h = omega arith
     go false h = omega arith
 
-pieces-within : (Q : Policy) (e : List ℕ) (s : Interval) → Ends Q e → length (pieces Q s) ≤ length e + 3
+pieces-within : (Q : Policy) (e : List ℕ) (s : Constraint) → Ends Q e → length (pieces Q s) ≤ length e + 3
 pieces-within Q e s n = omega (arith, pieces-most Q s, ends-half e (s .feature), ap length (n (s .feature)))
 
 -- ---- the loop's turns

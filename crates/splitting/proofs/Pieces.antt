@@ -9,12 +9,11 @@ use lib.Dec.{T, leb, leb→le, le→leb, ltb}
 use lib.ListN.{length}
 use borrow.Author.Tests.{ltb-false, ltb-true}
 use Rattle.meaning.proofs.Odometer.{at-lt}
-use Rattle.meaning.proofs.Points.{Rising, Sorted, above, insert-all, insert-here, insert-sorted, insert-there}
-use Rattle.meaning.proofs.Points.{inserts-all, inserts-here, inserts-sorted, inserts-there}
+use Rattle.meaning.proofs.Points.{Rising, Sorted, above, insert-all, insert-here, insert-sorted, insert-there, inserts-all}
+use Rattle.meaning.proofs.Points.{inserts-here, inserts-sorted, inserts-there}
 use Rattle.meaning.proofs.Rules.{T-and, all-at, all-mono, all-of, and-T, any-cases, any-none, head, in-filter, tail}
-use Rattle.meaning.specs.Counting.{At, atHere, atThere}
-use Rattle.meaning.specs.Lists.{All, _∈_, cons, filter, flatMap, here, nil}
-use Rattle.meaning.specs.NormalForm.{Interval}
+use Rattle.meaning.specs.Intervals.{Constraint}
+use Rattle.meaning.specs.Lists.{All, At, _∈_, atHere, atThere, cons, filter, flatMap, here, nil}
 use Rattle.meaning.specs.Policy.{Policy}
 use Rattle.meaning.specs.Splitting.{ends, gap, insert, insertAll, only, pieces, piecesAt, piecesFrom}
 use Rattle.normal_form.specs.Steps.{intervalOf}
@@ -24,11 +23,11 @@ use Rattle.splitting.specs.Ends.{Ends, endsIn, upper}
 -- ---- a run
 
 -- behind the piece s come the pieces of the list, and then no more
-abbrev Run : List ℕ → ℕ → ℕ → Interval → List Interval → Type 0
+abbrev Run : List ℕ → ℕ → ℕ → Constraint → List Constraint → Type 0
 Run E f h s [] = s .hi ≡ h
 Run E f h s (t ∷ l) = (s .hi < h) × (t ≡ intervalOf f (suc (s .hi)) (upper E h (s .hi))) × Run E f h t l
 
-abbrev restOf : ℕ → ℕ → List ℕ → List Interval
+abbrev restOf : ℕ → ℕ → List ℕ → List Constraint
 restOf f x [] = []
 restOf f x (y ∷ l) = gap f x y ++ piecesFrom f y l
 
@@ -95,17 +94,17 @@ module _ (E : List ℕ) (f h : ℕ) where
       let k = run-from y l (r .1) (tail g) (top-later x y l r (head g) i) (later x y l r (head g) a) in
       subst (λ m. Run E f h (only f x) (gap f x y ++ m)) (sym (whole-of f y l)) (next-run x y l r (head g) (at-next x y l r (head g) a) k)
 
-  run-next : {p : Interval} (s : Interval) (l : List Interval) {d : ℕ} → Run E f h s l → At p (s ∷ l) d → p .hi < h →
+  run-next : {p : Constraint} (s : Constraint) (l : List Constraint) {d : ℕ} → Run E f h s l → At p (s ∷ l) d → p .hi < h →
       At (intervalOf f (suc (p .hi)) (upper E h (p .hi))) (s ∷ l) (suc d)
-  run-next s [] r (atHere e) b = absurd (omega (arith, ap (λ (x : Interval). x .hi) e))
+  run-next s [] r (atHere e) b = absurd (omega (arith, ap (λ (x : Constraint). x .hi) e))
   run-next s [] r (atThere a) b = absurd (omega (arith, at-lt a))
-  run-next s (t ∷ l) r (atHere e) b = atThere (atHere (ap (λ (x : Interval). intervalOf f (suc (x .hi)) (upper E h (x .hi))) e ∙ sym (r .1)))
+  run-next s (t ∷ l) r (atHere e) b = atThere (atHere (ap (λ (x : Constraint). intervalOf f (suc (x .hi)) (upper E h (x .hi))) e ∙ sym (r .1)))
   run-next s (t ∷ l) r (atThere a) b = atThere (run-next t l (r .2) a b)
 
-  run-last : {p : Interval} (s : Interval) (l : List Interval) {d : ℕ} → Run E f h s l → At p (s ∷ l) d → h ≤ p .hi → suc d ≡ length (s ∷ l)
+  run-last : {p : Constraint} (s : Constraint) (l : List Constraint) {d : ℕ} → Run E f h s l → At p (s ∷ l) d → h ≤ p .hi → suc d ≡ length (s ∷ l)
   run-last s [] r (atHere e) b = refl
   run-last s [] r (atThere a) b = absurd (omega (arith, at-lt a))
-  run-last s (t ∷ l) r (atHere e) b = let k = r .0 in absurd (omega (arith, ap (λ (x : Interval). x .hi) e))
+  run-last s (t ∷ l) r (atHere e) b = let k = r .0 in absurd (omega (arith, ap (λ (x : Constraint). x .hi) e))
   run-last s (t ∷ l) r (atThere a) b = ap suc (run-last t l (r .2) a b)
 
 -- ---- X, and so the pieces
@@ -118,10 +117,10 @@ filtered {P} p (x ∷ l) h = go (p x) refl (filtered p l (tail h))
     go true e r = cons (subst T (sym e) tt, head h) r
     go false e r = r
 
-abbrev Pieces : List ℕ → Interval → List Interval → Type 0
-Pieces E s l = (rest : List Interval) × (l ≡ only (s .feature) (s .lo) ∷ rest) × Run E (s .feature) (s .hi) (only (s .feature) (s .lo)) rest
+abbrev Pieces : List ℕ → Constraint → List Constraint → Type 0
+Pieces E s l = (rest : List Constraint) × (l ≡ only (s .feature) (s .lo) ∷ rest) × Run E (s .feature) (s .hi) (only (s .feature) (s .lo)) rest
 
-module _ (E : List ℕ) (s : Interval) (a : s .lo ≤ s .hi) where
+module _ (E : List ℕ) (s : Constraint) (a : s .lo ≤ s .hi) where
   abbrev inside : ℕ → Bool
   inside e = leb (s .lo) e && leb e (s .hi)
 
@@ -185,26 +184,26 @@ module _ (E : List ℕ) (s : Interval) (a : s .lo ≤ s .hi) where
 
 -- ---- first, next, last
 
-pub piece-first : (Q : Policy) (s : Interval) → s .lo ≤ s .hi → At (only (s .feature) (s .lo)) (pieces Q s) 0
+pub piece-first : (Q : Policy) (s : Constraint) → s .lo ≤ s .hi → At (only (s .feature) (s .lo)) (pieces Q s) 0
 piece-first Q s a = let k = run-all (flatMap (ends (s .feature)) Q) s a in rw (k .1) (atHere refl)
 
-module _ (Q : Policy) (e : List ℕ) (s : Interval) (n : Ends Q e) (a : s .lo ≤ s .hi) where
+module _ (Q : Policy) (e : List ℕ) (s : Constraint) (n : Ends Q e) (a : s .lo ≤ s .hi) where
   abbrev E : List ℕ
   E = endsIn e (s .feature)
 
   run-of : Pieces E s (pieces Q s)
   run-of = subst (λ l. Pieces l s (pieces Q s)) (sym (n (s .feature))) (run-all (flatMap (ends (s .feature)) Q) s a)
 
-  pub piece-next : {p : Interval} {d : ℕ} → At p (pieces Q s) d → p .hi < s .hi →
+  pub piece-next : {p : Constraint} {d : ℕ} → At p (pieces Q s) d → p .hi < s .hi →
       At (intervalOf (s .feature) (suc (p .hi)) (upper E (s .hi) (p .hi))) (pieces Q s) (suc d)
   piece-next {p} {d} = let k = run-of in rw (k .1) (run-next E (s .feature) (s .hi) (only (s .feature) (s .lo)) (k .0) (k .2))
 
-  pub piece-last : {p : Interval} {d : ℕ} → At p (pieces Q s) d → s .hi ≤ p .hi → suc d ≡ length (pieces Q s)
+  pub piece-last : {p : Constraint} {d : ℕ} → At p (pieces Q s) d → s .hi ≤ p .hi → suc d ≡ length (pieces Q s)
   piece-last {p} {d} = let k = run-of in rw (k .1) (run-last E (s .feature) (s .hi) (only (s .feature) (s .lo)) (k .0) (k .2))
 
   -- the count c has come to a piece with upper end x
   abbrev pub Walked : ℕ → ℕ → Type 0
-  Walked c x = (d : ℕ) × (p : Interval) × (c ≡ suc d) × At p (pieces Q s) d × (p .hi ≡ x)
+  Walked c x = (d : ℕ) × (p : Constraint) × (c ≡ suc d) × At p (pieces Q s) d × (p .hi ≡ x)
 
   pub walk-starts : Walked 1 (s .lo)
   walk-starts = (0, only (s .feature) (s .lo), refl, piece-first Q s a, refl)

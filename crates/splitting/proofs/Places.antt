@@ -9,26 +9,27 @@ use lib.Dec.{eqb}
 use lib.ListN.{length}
 use borrow.Author.Tests.{eq-eqb, ne-eqb}
 use Rattle.combination.specs.Combination.{pieceAt}
+use Rattle.meaning.proofs.Filling.{Takes, fill, number}
 use Rattle.meaning.proofs.Odometer.{combination-at, number-append, number-lt}
-use Rattle.meaning.specs.Counting.{At, Takes, fill, number}
-use Rattle.meaning.specs.Lists.{counting}
-use Rattle.meaning.specs.NormalForm.{Form, Interval}
+use Rattle.meaning.specs.Intervals.{Constraint}
+use Rattle.meaning.specs.Lists.{At, counting}
+use Rattle.meaning.specs.NormalForm.{Form}
 use Rattle.meaning.specs.Policy.{Policy}
-use Rattle.meaning.specs.Splitting.{combinations, constraints, pieces, product}
+use Rattle.meaning.specs.Splitting.{combinations, constraintsOf, pieces, product}
 use Rattle.splitting.proofs.Ways.{counted-more}
 use Rattle.splitting.specs.Odometer.{Stands, constraintAt, constraintsAt, pieceCount}
 
 module _ (Q : Policy) (d c : ℕ → ℕ) where
-  takes-agree : (v : ℕ → Interval) (o : ℕ) (l : List Interval) → ((m : ℕ) → m < o + length l → c m ≡ d m) → Takes Q d v o l → Takes Q c v o l
+  takes-agree : (v : ℕ → Constraint) (o : ℕ) (l : List Constraint) → ((m : ℕ) → m < o + length l → c m ≡ d m) → Takes Q d v o l → Takes Q c v o l
   takes-agree v o [] h t = tt
   takes-agree v o (s ∷ l) h t =
       (subst (λ (x : ℕ). At (v o) (pieces Q s) x) (sym (h o (omega arith))) (t .0), takes-agree v (suc o) l (λ m b. h m (omega arith)) (t .1))
 
-  number-agree : (o : ℕ) (l : List Interval) → ((m : ℕ) → m < o + length l → c m ≡ d m) → number Q c o l ≡ number Q d o l
+  number-agree : (o : ℕ) (l : List Constraint) → ((m : ℕ) → m < o + length l → c m ≡ d m) → number Q c o l ≡ number Q d o l
   number-agree o [] h = refl
   number-agree o (s ∷ l) h = ap₂ (λ (x y : ℕ). x * product Q l + y) (h o (omega arith)) (number-agree (suc o) l (λ m b. h m (omega arith)))
 
-takes-more : (Q : Policy) (d : ℕ → ℕ) (v : ℕ → Interval) (o : ℕ) (l : List Interval) (s : Interval) (m : ℕ) → m ≡ o + length l →
+takes-more : (Q : Policy) (d : ℕ → ℕ) (v : ℕ → Constraint) (o : ℕ) (l : List Constraint) (s : Constraint) (m : ℕ) → m ≡ o + length l →
     Takes Q d v o l → At (v m) (pieces Q s) (d m) → Takes Q d v o (l ++ (s ∷ []))
 takes-more Q d v o [] s m e t a = let z : m ≡ o = omega arith in (subst (λ (x : ℕ). At (v x) (pieces Q s) (d x)) z a, tt)
 takes-more Q d v o (x ∷ l) s m e t a = (t .0, takes-more Q d v (suc o) l s m (omega arith) (t .1) a)
@@ -80,7 +81,7 @@ digits-of Q w (suc i) k h = go (digits-of Q w i (h .0) (h .4))
         }
 
 -- the form with the pieces of the tables is its combination k, counted from 0
-pub stands-combination : (Q : Policy) (F : Form) (w : List ℕ) (n k : ℕ) → constraints F ≡ constraintsAt w n → Stands Q w n k →
+pub stands-combination : (Q : Policy) (F : Form) (w : List ℕ) (n k : ℕ) → constraintsOf F ≡ constraintsAt w n → Stands Q w n k →
     At (fill (pieceAt w) F) (combinations Q F) k
 stands-combination Q F w n k e h =
     let r = digits-of Q w n k h in

@@ -4,11 +4,11 @@ use mathlib.Core.List.{List, [], _++_, _∷_, append-assoc, append-nil}
 use mathlib.Core.Path.{_∙_, _≡_, ap, refl, subst, sym}
 use native.Mathlib.Omega.{arith}
 use lib.ListN.{length, take}
-use Rattle.meaning.proofs.Links.{falling, falls}
-use Rattle.meaning.proofs.Terms.{Reads, ReadsTerms, reads-none, reads-term, total}
+use Rattle.meaning.proofs.Links.{falls}
+use Rattle.meaning.specs.Accepted.{Reads, ReadsTerms, reads-none, reads-term, total}
 use Rattle.meaning.specs.Lists.{flatMap}
 use Rattle.meaning.specs.Policy.{Policy, childOf, firstTerm, nextOf, policyOf}
-use Rattle.meaning.specs.Records.{lastOf}
+use Rattle.meaning.specs.Records.{falling, lastOf}
 use Rattle.meaning.specs.Splitting.{ends}
 use Rattle.normal_form.proofs.Chains.{chain-is}
 use Rattle.normal_form.specs.Parts.{chainAt}

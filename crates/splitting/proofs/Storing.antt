@@ -6,9 +6,8 @@ use native.Mathlib.Omega.{arith}
 use lib.ListN.{getD, length, length-set, set}
 use lib.Seq.{getD-set-other, getD-set-same}
 use Rattle.combination.specs.Combination.{pieceAt}
-use Rattle.meaning.specs.Counting.{At}
-use Rattle.meaning.specs.Lists.{counting}
-use Rattle.meaning.specs.NormalForm.{Interval}
+use Rattle.meaning.specs.Intervals.{Constraint}
+use Rattle.meaning.specs.Lists.{At, counting}
 use Rattle.meaning.specs.Policy.{Policy}
 use Rattle.meaning.specs.Splitting.{pieces}
 use Rattle.normal_form.specs.Steps.{intervalOf}
@@ -93,7 +92,7 @@ pub stands-at : (Q : Policy) (w v : List ℕ) (i j d k : ℕ) → constraintAt v
     k ≡ j * pieceCount Q w i + d → Stands Q v i j → Stands Q v (suc i) k
 stands-at Q w v i j d k same a e s = go (constraintAt v i) same
   where
-    go : (x : Interval) → x ≡ constraintAt w i →
+    go : (x : Constraint) → x ≡ constraintAt w i →
         (j : ℕ) × (d : ℕ) × (k ≡ j * length (pieces Q x) + d) × At (pieceAt v i) (pieces Q x) d × Stands Q v i j
     go x z = rw z (j, d, e, a, s)
 

@@ -14,11 +14,12 @@ use Rattle.meaning.specs.Policy.{Policy}
 use Rattle.meaning.specs.Splitting.{only}
 use Rattle.normal_form.specs.Tables.{intervalPlace}
 use Rattle.splitting.proofs.Pieces.{piece-first, piece-last, piece-next}
-use Rattle.splitting.proofs.Storing.{constraint-kept, full-kept, kept-more, kept-put, kept-refl, kept-trans, length-put, piece-here}
-use Rattle.splitting.proofs.Storing.{piece-kept, piece-other, stands-at, stands-frame}
+use Rattle.splitting.proofs.Storing.{constraint-kept, full-kept, kept-more, kept-put, kept-refl, kept-trans, length-put}
+use Rattle.splitting.proofs.Storing.{piece-here, piece-kept, piece-other, stands-at, stands-frame}
 use Rattle.splitting.proofs.Ways.{ways, ways-product, ways-same}
 use Rattle.splitting.specs.Ends.{Ends, endsIn, upper}
-use Rattle.splitting.specs.Odometer.{Full, Kept, Splittable, Stands, Started, Stepped, Turned, constraintAt, pieceCount, piecePut}
+use Rattle.splitting.specs.Odometer.{Full, Kept, Splittable, Stands, Started, Stepped, Turned, constraintAt, pieceCount}
+use Rattle.splitting.specs.Odometer.{piecePut}
 
 -- ---- the loops
 

@@ -7,9 +7,9 @@ use native.Mathlib.Numerals.{add-one}
 use native.Mathlib.Omega.{arith}
 use lib.ListN.{getD, length}
 use Rattle.meaning.proofs.Count.{pieces-some, product-append}
-use Rattle.meaning.specs.Containment.{mostCombinations}
+use Rattle.meaning.specs.Intervals.{Constraint}
+use Rattle.meaning.specs.Limits.{mostCombinations}
 use Rattle.meaning.specs.Lists.{counting}
-use Rattle.meaning.specs.NormalForm.{Interval}
 use Rattle.meaning.specs.Policy.{Policy}
 use Rattle.meaning.specs.Splitting.{pieces, product}
 use Rattle.normal_form.specs.Steps.{intervalOf}
@@ -23,7 +23,7 @@ ways Q w (suc i) = ways Q w i * pieceCount Q w i
 
 pub ways-same : (Q : Policy) (w v : List ℕ) (i : ℕ) → ((j : ℕ) → constraintAt v j ≡ constraintAt w j) → ways Q v i ≡ ways Q w i
 ways-same Q w v zero h = refl
-ways-same Q w v (suc i) h = ap₂ (λ (x : ℕ) (s : Interval). x * length (pieces Q s)) (ways-same Q w v i h) (h i)
+ways-same Q w v (suc i) h = ap₂ (λ (x : ℕ) (s : Constraint). x * length (pieces Q s)) (ways-same Q w v i h) (h i)
 
 -- one constraint more, behind the others
 pub counted-more : (w : List ℕ) (n : ℕ) → constraintsAt w (suc n) ≡ constraintsAt w n ++ (constraintAt w n ∷ [])
@@ -48,7 +48,7 @@ unfolding constraintAt
 full-at w n i f h = f i h
 
 -- constraint i as it is read
-abbrev wordsAt : List ℕ → ℕ → Interval
+abbrev wordsAt : List ℕ → ℕ → Constraint
 wordsAt w i = intervalOf (getD w (intervalPlace i + 1) 0) (getD w (intervalPlace i + 2) 0) (getD w (intervalPlace i + 3) 0)
 
 -- a product that was not too large, times the pieces of one constraint, fits

@@ -5,12 +5,12 @@ use mathlib.Core.List.{List, [], _++_, _∷_}
 use mathlib.Core.Path.{_≡_}
 use lib.Dec.{eqb, ltb}
 use lib.ListN.{length, set, take}
-use Rattle.meaning.proofs.Terms.{Reads, ReadsTerms, count, total}
+use Rattle.meaning.specs.Accepted.{Reads, ReadsTerms, count, total}
+use Rattle.meaning.specs.Limits.{mostRecords}
 use Rattle.meaning.specs.Lists.{flatMap}
 use Rattle.meaning.specs.Policy.{Chain, Policy, class, end, firstTerm, impossible, interval, policyOf, some}
 use Rattle.meaning.specs.Splitting.{ends}
 use Rattle.normal_form.specs.Parts.{chainAt}
-use Rattle.normal_form.specs.Tables.{mostEntries}
 
 -- ---- the ends
 
@@ -34,7 +34,7 @@ pairsOf (interval f lo hi next) = f ∷ (lo ∷ (f ∷ (hi ∷ pairsOf next)))
 
 -- room for the pairs of a policy: a constraint has four words, and a policy no more records
 abbrev pub endWords : ℕ
-endWords = 4 * mostEntries
+endWords = 4 * mostRecords
 
 -- the words from n on with two pairs of the feature f
 unfoldable pub pairsPut : List ℕ → ℕ → ℕ → ℕ → ℕ → List ℕ
@@ -53,7 +53,7 @@ pub record Paired (c : Chain) (n : ℕ) (e e′ : List ℕ) (r : ℕ) : Type 0 w
 -- what the reader tells of a policy, and room for its pairs
 pub record Collectable (q e : List ℕ) : Type 0 where
   pub reads : ReadsTerms q (firstTerm q) (policyOf q)
-  pub few : total (policyOf q) ≤ mostEntries
+  pub few : total (policyOf q) ≤ mostRecords
   pub room : endWords ≤ length e
 
 -- the first r words are the ends of the policy

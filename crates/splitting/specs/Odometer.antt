@@ -4,30 +4,29 @@ use mathlib.Core.List.{List, map}
 use mathlib.Core.Path.{_≡_}
 use lib.ListN.{getD, length, set}
 use Rattle.combination.specs.Combination.{pieceAt}
-use Rattle.meaning.specs.Containment.{mostCombinations}
-use Rattle.meaning.specs.Counting.{At}
-use Rattle.meaning.specs.Lists.{counting}
-use Rattle.meaning.specs.NormalForm.{Interval}
+use Rattle.meaning.specs.Intervals.{Constraint, NonEmpty}
+use Rattle.meaning.specs.Limits.{mostCombinations, mostRecords}
+use Rattle.meaning.specs.Lists.{At, counting}
 use Rattle.meaning.specs.Policy.{Policy}
 use Rattle.meaning.specs.Splitting.{pieces, product}
 use Rattle.normal_form.specs.Steps.{intervalOf}
-use Rattle.normal_form.specs.Tables.{intervalPlace, mostEntries, tablesEnd}
+use Rattle.normal_form.specs.Tables.{intervalPlace, tablesEnd}
 use Rattle.splitting.specs.Ends.{Ends}
 
 -- constraint m of the tables, counted from 0, and the first n
-unfoldable pub constraintAt : List ℕ → ℕ → Interval
+unfoldable pub constraintAt : List ℕ → ℕ → Constraint
 constraintAt w m = intervalOf (getD w (intervalPlace m + 1) 0) (getD w (intervalPlace m + 2) 0) (getD w (intervalPlace m + 3) 0)
 
-abbrev pub constraintsAt : List ℕ → ℕ → List Interval
+abbrev pub constraintsAt : List ℕ → ℕ → List Constraint
 constraintsAt w n = map (constraintAt w) (counting 0 n)
 
 -- none of the first n is empty
 abbrev pub Full : List ℕ → ℕ → Type 0
-Full w n = (m : ℕ) → m < n → constraintAt w m .lo ≤ constraintAt w m .hi
+Full w n = (m : ℕ) → m < n → NonEmpty (constraintAt w m .lo) (constraintAt w m .hi)
 
 -- what the odometer asks of the tables
 pub record Splittable (w : List ℕ) (n : ℕ) : Type 0 where
-  pub few : n ≤ mostEntries
+  pub few : n ≤ mostRecords
   pub long : tablesEnd ≤ length w
   pub full : Full w n
 

@@ -1,6 +1,7 @@
 // Splitting: the ends of the second policy, the pieces of a constraint between them, and the odometer over the combinations.
 // A piece needs no more than its two ends: the one behind it starts at the next number, and one look over the ends tells where it
 // stops.
+use meaning::limits::MOST_COMBINATIONS;
 use normal_form::INTERVAL;
 use normal_form::INTERVALS;
 use policy::child_of;
@@ -14,17 +15,14 @@ ghost use mathlib.Core.Bool.{false};
 ghost use mathlib.Core.Path.{_≡_};
 ghost use Prim.Native.Nat.{_+_, _<_, _≤_, min, suc};
 ghost use lib.ListN.{length};
-ghost use Rattle.meaning.specs.Containment.{mostCombinations};
+ghost use Rattle.meaning.specs.Limits.{mostCombinations, mostRecords};
 ghost use Rattle.meaning.specs.Policy.{Policy, policyOf};
 ghost use Rattle.meaning.specs.Splitting.{pieces, product};
 ghost use Rattle.normal_form.specs.Parts.{chainAt};
 ghost use Rattle.normal_form.specs.Steps.{intervalOf};
-ghost use Rattle.normal_form.specs.Tables.{mostEntries, tablesEnd};
+ghost use Rattle.normal_form.specs.Tables.{tablesEnd};
 ghost use Rattle.splitting.specs.Ends.{Chained, Collectable, Collected, Ends, Paired, endsIn, least, nearer, pairsPut, upper};
 ghost use Rattle.splitting.specs.Odometer.{Few, Splittable, Started, Stepped, Widened, constraintsAt, piecePut};
-
-// The most combinations that a call tries.
-const MOST: usize = 65536;
 
 // Two pairs of a feature and an end.
 fn put_pairs(ends: &mut [u32], n: usize, f: u32, lo: u32, hi: u32)
@@ -137,7 +135,7 @@ pub fn may_exceed(ends: &[u32], n: usize) -> bool
     ensures { λ r. ⌜ (r ≡ false → Few (now (ends .entry)) n) ⌝ }
 {
     let most = ends.len() + 3;
-    let room = MOST / most;
+    let room = MOST_COMBINATIONS / most;
     let mut all: usize = 1;
     for i in 0..n {
         if room < all {
@@ -157,8 +155,8 @@ pub fn combinations(ends: &[u32], work: &[u32], n: usize) -> usize
     for i in 0..n {
         let at = INTERVALS + INTERVAL * i;
         all = all * count(ends, work[at + 1], work[at + 2], work[at + 3]);
-        if MOST < all {
-            return MOST + 1;
+        if MOST_COMBINATIONS < all {
+            return MOST_COMBINATIONS + 1;
         }
     }
     all
@@ -166,7 +164,7 @@ pub fn combinations(ends: &[u32], work: &[u32], n: usize) -> usize
 
 // Constraint i's piece.
 fn put_piece(work: &mut [u32], i: usize, lo: u32, hi: u32)
-    requires { ⌜ (i < mostEntries) × (tablesEnd ≤ length (now work)) ⌝ }
+    requires { ⌜ (i < mostRecords) × (tablesEnd ≤ length (now work)) ⌝ }
     ensures { λ _. ⌜ now (work .exit) ≡ piecePut (now (work .entry)) i lo hi ⌝ }
 {
     let at = INTERVALS + INTERVAL * i;

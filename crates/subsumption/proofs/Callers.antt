@@ -9,11 +9,11 @@ use Rattle.meaning.specs.NormalForm.{Form}
 use Rattle.meaning.specs.Subsumption.{subsumed}
 use Rattle.meaning.specs.Vocabulary.{Vocabulary}
 use Rattle.normal_form.specs.declared.Tables.{Tables}
-use Rattle.subsumption.specs.Tests.{Tells, conjunctsAt}
+use Rattle.subsumption.specs.Tests.{DecidesAll, conjunctsAt}
 
 module _ {K : Vocabulary} {u : Form} {w : List ℕ} {t : Tables} (d : Combined K u w t) where
   -- the rows end behind all that is below the first individual
-  pub root-tells : (q : List ℕ) (k : ℕ) {b : Bool} → Tells q w t k 1 b → b ≡ subsumed K (conjunctsAt q k) (u .node) (u .successors)
+  pub root-tells : (q : List ℕ) (k : ℕ) {b : Bool} → DecidesAll q w t k 1 b → b ≡ subsumed K (conjunctsAt q k) (u .node) (u .successors)
   root-tells q k f =
       let e = d .count in
       f K 0 (u .node) (u .successors) refl (d .root) (record { below = d .below; fits = omega arith; ends = λ h. absurd (omega arith) })

@@ -14,7 +14,7 @@ use Rattle.meaning.specs.NormalForm.{Node, Successors, none, successor}
 use Rattle.meaning.specs.Subsumption.{anySuccessor, subsumed}
 use Rattle.meaning.specs.Vocabulary.{Vocabulary}
 use Rattle.normal_form.specs.declared.Tables.{Tables}
-use Rattle.subsumption.specs.Tests.{Tells, TellsSome, conjunctsAt}
+use Rattle.subsumption.specs.Tests.{DecidesAll, DecidesSome, conjunctsAt}
 
 -- the next successor stands no earlier than where it is sought
 pub next-least : (w : List ℕ) (x left j : ℕ) {l : ℕ} → l ≡ nextSuccessor w x left j → j ≤ l
@@ -31,7 +31,7 @@ TellsFrom q w t k x r j b =
     b ≡ anySuccessor r (subsumed K (conjunctsAt q k)) ks
 
 module _ (q w : List ℕ) (t : Tables) (k x r : ℕ) {n : ℕ} (en : n ≡ t .individuals) where
-  pub walk-starts : {i j : ℕ} {b : Bool} → i ≡ x → j ≡ nextSuccessor w x (n - i) i → TellsFrom q w t k x r j b → TellsSome q w t k x r b
+  pub walk-starts : {i j : ℕ} {b : Bool} → i ≡ x → j ≡ nextSuccessor w x (n - i) i → TellsFrom q w t k x r j b → DecidesSome q w t k x r b
   walk-starts ei ej f K under s = f K under x (omega arith) s (rw (en, ei) at ej)
 
   module _ {j : ℕ} where
@@ -43,19 +43,19 @@ module _ (q w : List ℕ) (t : Tables) (k x r : ℕ) {n : ℕ} (en : n ≡ t .in
     module _ {y : ℕ} (ey : y ≡ j + 1) (more : j < n) where
       -- what is told of the individual, where row j is the first successor's
       at-first : {K : Vocabulary} {p : ℕ} {m : Node} {under next : Successors} {i : ℕ} {b : Bool} → x ≤ i → Kin K w t x i (successor p m under next) →
-          j ≡ i → Tells q w t k y b → b ≡ subsumed K (conjunctsAt q k) m under
+          j ≡ i → DecidesAll q w t k y b → b ≡ subsumed K (conjunctsAt q k) m under
       at-first {K} {m = m} {under = under} {i = i} own s e f =
           let z : y ≡ suc i = omega arith in
           f K i m under z (kin-individual s) (subst (λ (l : ℕ). Kin K w t l l under) (sym z) (kin-child s own))
 
-      pub walk-found : roleAt w j ≡ r → Tells q w t k y true → TellsFrom q w t k x r j true
+      pub walk-found : roleAt w j ≡ r → DecidesAll q w t k y true → TellsFrom q w t k x r j true
       walk-found er f K none i own s e = absurd (omega (arith, kin-none s))
       walk-found er f K (successor p m under next) i own s e =
           let z : j ≡ i = e ∙ kin-first s in
           let ep : r ≡ p = sym er ∙ rw z (kin-role s) in
           rw (eq-eqb r p ep, ← at-first own s z f)
 
-      pub walk-on : {l : ℕ} {b : Bool} → (roleAt w j ≡ r → Tells q w t k y false) → l ≡ nextSuccessor w x (n - (j + 1)) (j + 1) →
+      pub walk-on : {l : ℕ} {b : Bool} → (roleAt w j ≡ r → DecidesAll q w t k y false) → l ≡ nextSuccessor w x (n - (j + 1)) (j + 1) →
           TellsFrom q w t k x r l b → TellsFrom q w t k x r j b
       walk-on f el g K none i own s e = absurd (omega (arith, kin-none s))
       walk-on {l} {b} f el g K (successor p m under next) i own s e =

@@ -5,12 +5,13 @@ use mathlib.Core.List.{List}
 use mathlib.Core.Path.{_≡_}
 use lib.ListN.{length}
 use Rattle.combination.specs.Combination.{Individual, Kin}
-use Rattle.meaning.proofs.Terms.{Reads}
+use Rattle.meaning.specs.Accepted.{Reads}
+use Rattle.meaning.specs.Limits.{mostRecords}
 use Rattle.meaning.specs.NormalForm.{Node, Successors}
 use Rattle.meaning.specs.Policy.{Chain, chainFrom, childOf, conjunctAt, end}
 use Rattle.meaning.specs.Subsumption.{anySuccessor, subsumed}
 use Rattle.meaning.specs.Vocabulary.{Vocabulary}
-use Rattle.normal_form.specs.Tables.{mostEntries, tablesEnd}
+use Rattle.normal_form.specs.Tables.{tablesEnd}
 use Rattle.normal_form.specs.declared.Tables.{Tables}
 
 -- the conjuncts from record k on
@@ -20,8 +21,8 @@ conjunctsAt q k = chainFrom (length q) q k
 -- the tables fit, and the records from k on are a chain
 pub record Testable (q w : List ℕ) (t : Tables) (k : ℕ) : Type 0 where
   pub long : tablesEnd ≤ length w
-  pub individuals : t .individuals ≤ mostEntries
-  pub intervals : t .intervals ≤ mostEntries
+  pub individuals : t .individuals ≤ mostRecords
+  pub constraints : t .constraints ≤ mostRecords
   pub reads : Reads q k (conjunctsAt q k)
 
 -- the conjunct at record k, with nothing behind it
@@ -31,18 +32,18 @@ conjunctOf q k = conjunctAt q k (conjunctsAt q (childOf q k)) end
 -- b is the answer for individual x and the conjuncts c: whatever the individual is and whatever is below it, by whatever vocabulary
 abbrev pub Answers : List ℕ → Tables → ℕ → Chain → Bool → Type 0
 Answers w t x c b =
-    (K : Vocabulary) (n : ℕ) (m : Node) (under : Successors) → x ≡ suc n → Individual K w (t .intervals) n m → Kin K w t x x under →
+    (K : Vocabulary) (n : ℕ) (m : Node) (under : Successors) → x ≡ suc n → Individual K w (t .constraints) n m → Kin K w t x x under →
     b ≡ subsumed K c m under
 
 -- for the conjuncts from record k on
-abbrev pub Tells : List ℕ → List ℕ → Tables → ℕ → ℕ → Bool → Type 0
-Tells q w t k x b = Answers w t x (conjunctsAt q k) b
+abbrev pub DecidesAll : List ℕ → List ℕ → Tables → ℕ → ℕ → Bool → Type 0
+DecidesAll q w t k x b = Answers w t x (conjunctsAt q k) b
 
 -- for record k's alone
-abbrev pub TellsOne : List ℕ → List ℕ → Tables → ℕ → ℕ → Bool → Type 0
-TellsOne q w t k x b = Answers w t x (conjunctOf q k) b
+abbrev pub DecidesOne : List ℕ → List ℕ → Tables → ℕ → ℕ → Bool → Type 0
+DecidesOne q w t k x b = Answers w t x (conjunctOf q k) b
 
 -- whether some successor of x by role r passes the conjuncts from record k on
-abbrev pub TellsSome : List ℕ → List ℕ → Tables → ℕ → ℕ → ℕ → Bool → Type 0
-TellsSome q w t k x r b =
+abbrev pub DecidesSome : List ℕ → List ℕ → Tables → ℕ → ℕ → ℕ → Bool → Type 0
+DecidesSome q w t k x r b =
     (K : Vocabulary) (under : Successors) → Kin K w t x x under → b ≡ anySuccessor r (subsumed K (conjunctsAt q k)) under

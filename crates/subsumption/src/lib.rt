@@ -20,16 +20,17 @@ ghost use Prim.Native.Nat.{_-_, _<_, _≤_};
 ghost use lib.Dec.{eqb};
 ghost use lib.ListN.{length};
 ghost use Rattle.combination.specs.Combination.{holderAt, pieceAt, piecesOf};
+ghost use Rattle.meaning.specs.Limits.{mostRecords};
 ghost use Rattle.meaning.specs.Lists.{any};
 ghost use Rattle.meaning.specs.Subsumption.{includes};
 ghost use Rattle.normal_form.specs.Clean.{setAt};
-ghost use Rattle.normal_form.specs.Tables.{mostEntries, tablesEnd};
-ghost use Rattle.subsumption.specs.Tests.{Tells, TellsOne, TellsSome, Testable};
+ghost use Rattle.normal_form.specs.Tables.{tablesEnd};
+ghost use Rattle.subsumption.specs.Tests.{DecidesAll, DecidesOne, DecidesSome, Testable};
 ghost use Rattle.words.specs.Sets.{inSet};
 
 // Line 3: the set of an individual is closed upward, so one bit tells.
 fn has_class(work: &[u32], x: u32, c: ClassNo) -> bool
-    requires { ⌜ (1 ≤ x) × (x ≤ mostEntries) × (tablesEnd ≤ length (now work)) ⌝ }
+    requires { ⌜ (1 ≤ x) × (x ≤ mostRecords) × (tablesEnd ≤ length (now work)) ⌝ }
     ensures { λ r. ⌜ r ≡ inSet (setAt (now (work .entry)) (x - 1)) (c .0) ⌝ }
 {
     ClassSet::has_at(work, ROWS + ROW * place(x - 1) + 2, c)
@@ -37,7 +38,7 @@ fn has_class(work: &[u32], x: u32, c: ClassNo) -> bool
 
 // Whether constraint m is of individual x and feature f and its piece lies from lo to hi.
 fn is_inside(work: &[u32], m: usize, x: u32, f: u32, lo: u32, hi: u32) -> bool
-    requires { ⌜ (m < mostEntries) × (tablesEnd ≤ length (now work)) ⌝ }
+    requires { ⌜ (m < mostRecords) × (tablesEnd ≤ length (now work)) ⌝ }
     ensures { λ r. ⌜ r ≡ (eqb (holderAt (now (work .entry)) m) x && includes f lo hi (pieceAt (now (work .entry)) m)) ⌝ }
 {
     let at = INTERVALS + INTERVAL * m;
@@ -52,7 +53,7 @@ fn is_inside(work: &[u32], m: usize, x: u32, f: u32, lo: u32, hi: u32) -> bool
 
 // Line 4: some piece of individual x, of n constraints.
 fn has_piece(work: &[u32], n: usize, x: u32, f: u32, lo: u32, hi: u32) -> bool
-    requires { ⌜ (n ≤ mostEntries) × (tablesEnd ≤ length (now work)) ⌝ }
+    requires { ⌜ (n ≤ mostRecords) × (tablesEnd ≤ length (now work)) ⌝ }
     ensures { λ r. ⌜ r ≡ any (includes f lo hi) (piecesOf (now (work .entry)) n x) ⌝ }
 {
     for m in 0..n {
@@ -66,7 +67,7 @@ fn has_piece(work: &[u32], n: usize, x: u32, f: u32, lo: u32, hi: u32) -> bool
 // Line 5: some successor of individual x by role r passes the conjuncts from record k on.
 fn has_successor(q: &[u32], work: &[u32], t: Tables, k: u32, x: u32, r: u32) -> bool
     requires { ⌜ Testable (now q) (now work) t k × (1 ≤ x) × (x ≤ t .individuals) ⌝ }
-    ensures { λ b. ⌜ TellsSome (now (q .entry)) (now (work .entry)) t k x r b ⌝ }
+    ensures { λ b. ⌜ DecidesSome (now (q .entry)) (now (work .entry)) t k x r b ⌝ }
 {
     let n = place(t.individuals);
     let mut j = next_successor(work, n, x, place(x));
@@ -86,7 +87,7 @@ fn has_successor(q: &[u32], work: &[u32], t: Tables, k: u32, x: u32, r: u32) -> 
 // One conjunct, record k, of individual x.
 fn has_conjunct(q: &[u32], work: &[u32], t: Tables, k: u32, x: u32) -> bool
     requires { ⌜ (k ≡ 0 → ⊥) × Testable (now q) (now work) t k × (1 ≤ x) × (x ≤ t .individuals) ⌝ }
-    ensures { λ b. ⌜ TellsOne (now (q .entry)) (now (work .entry)) t k x b ⌝ }
+    ensures { λ b. ⌜ DecidesOne (now (q .entry)) (now (work .entry)) t k x b ⌝ }
 {
     let kind = kind_of(q, k);
     let a = name_of(q, k);
@@ -94,14 +95,14 @@ fn has_conjunct(q: &[u32], work: &[u32], t: Tables, k: u32, x: u32) -> bool
         1 => has_class(work, x, ClassNo(a)),
         2 => false,
         3 => has_successor(q, work, t, child_of(q, k), x, a),
-        _ => has_piece(work, t.intervals, x, a, lo_of(q, k), hi_of(q, k)),
+        _ => has_piece(work, t.constraints, x, a, lo_of(q, k), hi_of(q, k)),
     }
 }
 
 // Whether individual x passes the conjuncts from record k on.
 pub fn is_subsumed(q: &[u32], work: &[u32], t: Tables, k: u32, x: u32) -> bool
     requires { ⌜ Testable (now q) (now work) t k × (1 ≤ x) × (x ≤ t .individuals) ⌝ }
-    ensures { λ b. ⌜ Tells (now (q .entry)) (now (work .entry)) t k x b ⌝ }
+    ensures { λ b. ⌜ DecidesAll (now (q .entry)) (now (work .entry)) t k x b ⌝ }
 {
     let mut at = k;
     while at != 0 {

@@ -7,27 +7,26 @@ use mathlib.Core.Path.{_∙_, _≡_, ap, refl, sym}
 use native.Mathlib.Nat.{add-comm}
 use native.Mathlib.Numerals.{add-one}
 use native.Mathlib.Omega.{arith}
+use Rattle.input.proofs.Words.{counted}
 use Rattle.meaning.proofs.ModelWords.{model-facts, model-length, stated}
-use Rattle.meaning.specs.Countermodel.{Fact, chainedWords, factWords, linkTo, modelWords}
+use Rattle.meaning.specs.Answers.{Answer, VerdictResult}
 use Rattle.meaning.specs.Lists.{counting, flatMap}
-use Rattle.meaning.specs.ModelCheck.{factAt, factKind, factName, factOther, factOwner, factsOf}
-use Rattle.meaning.specs.Answers.{Answer}
-use Rattle.meaning.specs.Operations.{says}
-use Rattle.meaning.specs.Program.{answerLine, edge-text, factLine, line, member-text, outside-text, printed, value-text}
+use Rattle.meaning.specs.Model.{Fact, chainedWords, factAt, factKind, factName, factOther, factOwner, factWords, factsOf, linkTo}
+use Rattle.meaning.specs.Model.{modelWords}
+use Rattle.meaning.specs.Program.{answerLine, bytes, factLine, line, printed}
 use Rattle.meaning.specs.declared.Verdict.the-variants.{Outside}
 use Rattle.text.proofs.Printing.{put-as, put-then}
-use Rattle.input.proofs.Words.{counted}
 use Rattle.text.specs.Text.{Model, Put, recordsTo, shown}
 
 -- the line of record k, of the words read
 module _ (m : List ℕ) (k : ℕ) {x a i j : ℕ} (kind : x ≡ factKind m k) (name : a ≡ factName m k) (owner : i ≡ factOwner m k) (other : j ≡ factOther m k) where
-  pub fact-member : x ≡ 1 → line member-text (a ∷ (i ∷ [])) ≡ factLine (factAt m k)
+  pub fact-member : x ≡ 1 → line (bytes "member") (a ∷ (i ∷ [])) ≡ factLine (factAt m k)
   fact-member h = rw (← kind, ← name, ← owner, eq-eqb x 1 h)
 
-  pub fact-edge : (x ≡ 1 → ⊥) → x ≡ 2 → line edge-text (a ∷ (i ∷ (j ∷ []))) ≡ factLine (factAt m k)
+  pub fact-edge : (x ≡ 1 → ⊥) → x ≡ 2 → line (bytes "edge") (a ∷ (i ∷ (j ∷ []))) ≡ factLine (factAt m k)
   fact-edge n h = rw (← kind, ← name, ← owner, ← other, ne-eqb x 1 n, eq-eqb x 2 h)
 
-  pub fact-value : (x ≡ 1 → ⊥) → (x ≡ 2 → ⊥) → line value-text (a ∷ (i ∷ (j ∷ []))) ≡ factLine (factAt m k)
+  pub fact-value : (x ≡ 1 → ⊥) → (x ≡ 2 → ⊥) → line (bytes "value") (a ∷ (i ∷ (j ∷ []))) ≡ factLine (factAt m k)
   fact-value n h = rw (← kind, ← name, ← owner, ← other, ne-eqb x 1 n, ne-eqb x 2 h)
 
 lines-more : (F : List Fact) (x : Fact) → flatMap factLine (F ++ (x ∷ [])) ≡ flatMap factLine F ++ factLine x
@@ -68,11 +67,11 @@ module _ (out : List ℕ) (n : ℕ) (m : Model out n) where
       rw few (records-read out (drop n out) 0 (m .facts) (ap (drop 5) all))
 
   -- the answer's line and the records' lines
-  pub model-printed : (s q : ℕ) → line outside-text (s ∷ (q ∷ [])) ++ flatMap factLine (recordsTo out (n / 5 - 1)) ≡ printed (shown (Outside s q n) out)
+  pub model-printed : (s q : ℕ) → line (bytes "outside") (s ∷ (q ∷ [])) ++ flatMap factLine (recordsTo out (n / 5 - 1)) ≡ printed (shown (Outside s q n) out)
   unfolding printed
   model-printed s q = rw (model-records, m .words, model-facts (m .individuals) (m .facts))
 
 -- where no words are reported, the answer's line is all
-pub line-printed : (a : Answer) → answerLine a ≡ printed (says a)
+pub line-printed : (a : Answer VerdictResult) → answerLine a ≡ printed (record { answer = a; words = [] })
 unfolding printed factsOf
 line-printed a = sym (append-nil (answerLine a))

@@ -3,14 +3,13 @@ use Prim.Native.Nat.{_*_, _+_, _≤_, ℕ}
 use mathlib.Core.List.{List, [], map}
 use mathlib.Core.Path.{_≡_}
 use lib.ListN.{length, take}
-use Rattle.meaning.specs.Answers.{verdictAnswer}
-use Rattle.meaning.specs.Countermodel.{Fact, modelWords}
+use Rattle.meaning.specs.Answers.{VerdictResult, verdictAnswer}
+use Rattle.meaning.specs.Limits.{outputSize}
 use Rattle.meaning.specs.Lists.{counting}
-use Rattle.meaning.specs.ModelCheck.{factAt}
+use Rattle.meaning.specs.Model.{Fact, factAt, modelWords}
 use Rattle.meaning.specs.Operations.{Outcome}
 use Rattle.meaning.specs.declared.Verdict.{Verdict}
 use Rattle.meaning.specs.declared.Verdict.the-variants.{Compliant, Outside, Refused}
-use Rattle.input.specs.Input.{outputSize}
 use Rattle.words.specs.Rows.{putAt}
 
 -- the most bytes of a line: a name of at most 7, three numbers of at most ten digits with a space each, a line feed
@@ -38,7 +37,7 @@ reportedWords (Outside s q n) out = take n out
 reportedWords (Refused n) out = []
 
 -- a verdict with the output as an outcome
-abbrev pub shown : Verdict → List ℕ → Outcome
+abbrev pub shown : Verdict → List ℕ → Outcome VerdictResult
 shown v out = record { answer = verdictAnswer v; words = reportedWords v out }
 
 -- n words of the output are those of a model
@@ -56,6 +55,6 @@ Reported (Outside s q n) out = Model out n
 Reported (Refused n) out = Unit {0}
 
 -- a verdict with the output shows an outcome, and can be printed
-pub record Shows (v : Verdict) (out : List ℕ) (r : Outcome) : Type 0 where
+pub record Shows (v : Verdict) (out : List ℕ) (r : Outcome VerdictResult) : Type 0 where
   pub outcome : shown v out ≡ r
   pub reported : Reported v out

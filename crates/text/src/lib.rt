@@ -3,11 +3,11 @@ use meaning::Verdict;
 use records::word;
 ghost use mathlib.Core.List.{[], _∷_};
 ghost use mathlib.Core.Path.{_≡_};
-ghost use Prim.Native.Nat.{_*_, _+_, _/_, _≤_, _<_};
+ghost use Prim.Native.Nat.{_*_, _+_, _/_, _<_, _≤_};
 ghost use lib.ListN.{length};
 ghost use Rattle.meaning.specs.Lists.{flatMap};
-ghost use Rattle.meaning.specs.ModelCheck.{factAt};
-ghost use Rattle.meaning.specs.Program.{compliant-text, decimal, factLine, line, printed, refused-text};
+ghost use Rattle.meaning.specs.Model.{factAt};
+ghost use Rattle.meaning.specs.Program.{bytes, decimal, factLine, line, printed};
 ghost use Rattle.text.specs.Text.{Put, Reported, mostLine, recordsTo, shown, textSize};
 
 // The bytes of a text that every answer fits in.
@@ -117,7 +117,7 @@ fn put_facts(text: &mut [u8], at: usize, out: &[u32], n: usize) -> usize
 
 fn put_compliant(text: &mut [u8]) -> usize
     requires { ⌜ mostLine ≤ length (now text) ⌝ }
-    ensures { λ r. ⌜ Put (now (text .entry)) 0 (line compliant-text []) (now (text .exit)) r ⌝ }
+    ensures { λ r. ⌜ Put (now (text .entry)) 0 (line (bytes "compliant") []) (now (text .exit)) r ⌝ }
 {
     let next = put_name(text, 0, b"compliant");
     put_byte(text, next, b'\n')
@@ -125,7 +125,7 @@ fn put_compliant(text: &mut [u8]) -> usize
 
 fn put_refused(text: &mut [u8], n: u32) -> usize
     requires { ⌜ mostLine ≤ length (now text) ⌝ }
-    ensures { λ r. ⌜ Put (now (text .entry)) 0 (line refused-text (n ∷ [])) (now (text .exit)) r ⌝ }
+    ensures { λ r. ⌜ Put (now (text .entry)) 0 (line (bytes "refused") (n ∷ [])) (now (text .exit)) r ⌝ }
 {
     let first = put_name(text, 0, b"refused");
     let second = put_number(text, first, n);

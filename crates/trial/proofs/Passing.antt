@@ -5,7 +5,7 @@ use mathlib.Core.List.{List, [], _∷_}
 use mathlib.Core.Path.{_∙_, _≡_, ap, refl, sym}
 use Rattle.combination.specs.Combination.{Combined}
 use Rattle.meaning.proofs.Rules.{all-of, any-in, at-any, head, isTrue, same-test, tail}
-use Rattle.meaning.proofs.Terms.{Reads}
+use Rattle.meaning.specs.Accepted.{Reads}
 use Rattle.meaning.specs.Containment.{passes}
 use Rattle.meaning.specs.Lists.{All, _∈_, any}
 use Rattle.meaning.specs.NormalForm.{Form}
@@ -15,7 +15,7 @@ use Rattle.meaning.specs.Vocabulary.{Vocabulary}
 use Rattle.normal_form.specs.Tables.{termAt}
 use Rattle.normal_form.specs.declared.Tables.{Tables}
 use Rattle.subsumption.proofs.Callers.{root-tells}
-use Rattle.subsumption.specs.Tests.{Tells, Testable, conjunctsAt}
+use Rattle.subsumption.specs.Tests.{DecidesAll, Testable, conjunctsAt}
 use Rattle.trial.specs.Trials.{Askable, Taker, Term}
 
 -- the rest are simple policies of q, and of whatever combination the tables hold, what the rest tells is what all tell
@@ -34,9 +34,9 @@ module _ (q w : List ℕ) (t : Tables) where
   -- the simple policy at record k
   module _ (k : ℕ) {j : ℕ} (e : j ≡ childOf q k) where
     pub testable-term : Askable q w t → Reads q (childOf q k) (termAt q k) → Testable q w t j
-    testable-term a r = record { long = a .long; individuals = a .individuals; intervals = a .intervals; reads = rw e r }
+    testable-term a r = record { long = a .long; individuals = a .individuals; constraints = a .constraints; reads = rw e r }
 
-    module _ {b : Bool} (f : Tells q w t j 1 b) where
+    module _ {b : Bool} (f : DecidesAll q w t j 1 b) where
       tells-term : (K : Vocabulary) (u : Form) → Combined K u w t → b ≡ subsumed K (termAt q k) (u .node) (u .successors)
       tells-term K u d = root-tells d q j f ∙ ap (λ (i : ℕ). subsumed K (conjunctsAt q i) (u .node) (u .successors)) e
 

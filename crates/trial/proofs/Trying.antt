@@ -8,19 +8,22 @@ use native.Mathlib.Omega.{arith}
 use Rattle.combination.proofs.Filling.{combined}
 use Rattle.combination.specs.Combination.{Combined, pieceAt}
 use Rattle.meaning.proofs.Count.{count-combinations}
-use Rattle.meaning.specs.Containment.{mostCombinations, passes}
-use Rattle.meaning.specs.Counting.{At, atHere, atThere, fill}
-use Rattle.meaning.specs.Lists.{firstFailing, found, nowhere}
+use Rattle.meaning.proofs.Filling.{fill}
+use Rattle.meaning.proofs.Picks.{AllNonEmpty}
+use Rattle.meaning.proofs.Whole.{whole-passes}
+use Rattle.meaning.specs.Containment.{passes}
+use Rattle.meaning.specs.Limits.{mostCombinations}
+use Rattle.meaning.specs.Lists.{At, atHere, atThere, firstFailing, found, nowhere}
 use Rattle.meaning.specs.NormalForm.{Form}
 use Rattle.meaning.specs.Policy.{Policy, policyOf}
-use Rattle.meaning.specs.Splitting.{combinationCount, combinations, constraints, product}
+use Rattle.meaning.specs.Splitting.{combinationCount, combinations, constraintsOf, product}
 use Rattle.meaning.specs.Vocabulary.{Vocabulary}
 use Rattle.normal_form.specs.Tables.{Tabled}
 use Rattle.normal_form.specs.declared.Tables.{Tables}
-use Rattle.splitting.proofs.Callers.{constraints-at, constraints-kept, kept-refl, kept-trans, splittable-kept}
-use Rattle.splitting.proofs.Callers.{stands-combination, stands-lt, tabled-turned, widened-form}
+use Rattle.splitting.proofs.Callers.{constraints-at, constraints-kept, kept-refl, kept-trans, splittable-kept, stands-combination}
+use Rattle.splitting.proofs.Callers.{stands-lt, tabled-turned, widened-form}
 use Rattle.splitting.specs.Odometer.{Kept, Splittable, Stands, Started, Stepped, Turned, Widened, constraintsAt}
-use Rattle.trial.proofs.Whole.{Filled, filled-at, whole-passes}
+use Rattle.trial.proofs.Whole.{constraints-nonEmpty}
 use Rattle.trial.specs.Trials.{Askable, Triable, Tried}
 
 -- ---- the list of combinations, from one place on
@@ -50,7 +53,7 @@ module _ (K : Vocabulary) (Q : Policy) (F u : Form) (k : ℕ) (a : At u (combina
   ends : passes K Q u ≡ true → suc k ≡ length (combinations Q F) → Going K Q F 0
   ends e h = goes e ∙ ap (firstFailing (passes K Q) (suc (suc k))) (drop-end a h)
 
-counted : (Q : Policy) (F : Form) → length (combinations Q F) ≡ product Q (constraints F)
+counted : (Q : Policy) (F : Form) → length (combinations Q F) ≡ product Q (constraintsOf F)
 unfolding combinationCount
 counted Q F = count-combinations Q F
 
@@ -63,7 +66,7 @@ askable-kept k a =
       long = let l = a .long in omega arith;
       some = a .some;
       individuals = a .individuals;
-      intervals = a .intervals;
+      constraints = a .constraints;
       vocabulary = a .vocabulary;
       accepted = a .accepted;
     }
@@ -80,8 +83,8 @@ left (suc k) = suc (mostCombinations - k)
 
 -- nothing but pieces has changed, and what was tried has passed, for whatever form the tables held at first
 pub record Trying (q w₀ w : List ℕ) (t : Tables) (c : ℕ) : Type 0 where
-  pub kept : Kept (t .intervals) w₀ w
-  pub standing : Standing (policyOf q) w (t .intervals) c
+  pub kept : Kept (t .constraints) w₀ w
+  pub standing : Standing (policyOf q) w (t .constraints) c
   pub going : (K : Vocabulary) (F : Form) → Tabled K F w₀ t → Going K (policyOf q) F c
 
 module _ {q e w₀ : List ℕ} {t : Tables} (r : Triable q e w₀ t) where
@@ -89,7 +92,7 @@ module _ {q e w₀ : List ℕ} {t : Tables} (r : Triable q e w₀ t) where
   Q = policyOf q
 
   abbrev n : ℕ
-  n = t .intervals
+  n = t .constraints
 
   pub trying-starts : {w : List ℕ} → Started n w w₀ → Trying q w₀ w₀ t 1
   trying-starts s = record { kept = kept-refl n w₀; standing = s .stands Q; going = λ K F h. refl }
@@ -104,12 +107,12 @@ module _ {q e w₀ : List ℕ} {t : Tables} (r : Triable q e w₀ t) where
     -- the form that the tables held at first, with the pieces that they hold now
     module _ (K : Vocabulary) (F : Form) (h : Tabled K F w₀ t) where
       now-tabled : Tabled K F w t
-      now-tabled = tabled-turned h (y .kept) (r .askable .individuals, r .askable .intervals)
+      now-tabled = tabled-turned h (y .kept) (r .askable .individuals, r .askable .constraints)
 
       now-combined : Combined K (fill (pieceAt w) F) w t
       now-combined = combined K F w t now-tabled
 
-      constraints-now : constraints F ≡ constraintsAt w n
+      constraints-now : constraintsOf F ≡ constraintsAt w n
       constraints-now = sym (constraints-at now-tabled)
 
     pub trying-ends : c ≡ 0 → Tried Q w₀ w t 0
@@ -190,29 +193,29 @@ module _ {q e w₀ : List ℕ} {t : Tables} (r : Triable q e w₀ t) where
 
 -- ---- before the first combination stands there
 
-module _ {q e w w₀ : List ℕ} {t : Tables} (r : Triable q e w t) (k : Kept (t .intervals) w w₀) where
+module _ {q e w w₀ : List ℕ} {t : Tables} (r : Triable q e w t) (k : Kept (t .constraints) w w₀) where
   pub kept-triable : Triable q e w₀ t
   kept-triable = record {
     askable = askable-kept k (r .askable);
     splittable = splittable-kept k (r .splittable);
     ends = r .ends;
-    few = rw (constraints-kept k (t .intervals)) (r .few);
+    few = rw (constraints-kept k (t .constraints)) (r .few);
   }
 
   pub kept-tried : {w′ : List ℕ} {c : ℕ} → Tried (policyOf q) w₀ w′ t c → Tried (policyOf q) w w′ t c
   kept-tried y = record {
-    told = λ K F h. y .told K F (tabled-turned h k (r .askable .individuals, r .askable .intervals));
+    told = λ K F h. y .told K F (tabled-turned h k (r .askable .individuals, r .askable .constraints));
     kept = kept-trans k (y .kept);
   }
 
 -- the constraints whole have passed
-pub whole-tried : {q e w w′ : List ℕ} {t : Tables} → Triable q e w t → (a : Widened (t .intervals) w w′) →
+pub whole-tried : {q e w w′ : List ℕ} {t : Tables} → Triable q e w t → (a : Widened (t .constraints) w w′) →
     ((K : Vocabulary) (u : Form) → Combined K u w′ t → passes K (policyOf q) u ≡ true) → Tried (policyOf q) w w′ t 0
 whole-tried {q} {w = w} {w′ = w′} {t = t} r a p = record {
   told = λ K F h.
-      let g : Tabled K F w′ t = tabled-turned h (a .kept) (r .askable .individuals, r .askable .intervals) in
+      let g : Tabled K F w′ t = tabled-turned h (a .kept) (r .askable .individuals, r .askable .constraints) in
       let e : fill (pieceAt w′) F ≡ F = widened-form a F (sym (constraints-at g)) in
-      whole-passes K (policyOf q) F (subst Filled (constraints-at h) (filled-at w (t .intervals) (r .splittable .full)))
+      whole-passes K (policyOf q) F (subst AllNonEmpty (constraints-at h) (constraints-nonEmpty w (t .constraints) (r .splittable .full)))
       (rw e at (p K (fill (pieceAt w′) F) (combined K F w′ t g)));
   kept = a .kept;
 }

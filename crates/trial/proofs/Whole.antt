@@ -1,136 +1,15 @@
--- Who takes the constraints whole takes every combination: a piece lies inside its constraint.
-use Prim.Native.Nat.{_+_, _<_, _≤_, suc, zero, ℕ}
-use mathlib.Core.Bool.{Bool, _&&_, _||_, not, true}
-use mathlib.Core.List.{List, [], _∷_, map}
-use mathlib.Core.Logic.{_⊎_, inl, inr}
-use mathlib.Core.Path.{_∙_, _≡_, refl, subst, sym}
+-- The constraints of the tables, none of them empty.
+use Prim.Native.Nat.{_+_, _<_, suc, zero, ℕ}
+use mathlib.Core.List.{List, map}
 use native.Mathlib.Omega.{arith}
-use lib.Dec.{T, eqb, eqb→eq, leb, leb→le, le→leb}
-use Rattle.meaning.proofs.Picks.{Parts, Picked, PickedForm, PickedNode, combinations-picked, no-parts, none-picked, parts, picked}
-use Rattle.meaning.proofs.Points.{Inside}
-use Rattle.meaning.proofs.Rules.{T-and, T-or, all-fst, all-in, all-mono, all-snd, and-T, any-in, any-mono, any-out, eqb-of, isTrue}
-use Rattle.meaning.proofs.Rules.{or-left, or-right, same-test}
-use Rattle.meaning.specs.Containment.{passes}
-use Rattle.meaning.specs.Lists.{All, all, any, cons, counting, firstFailing, nil, nowhere}
-use Rattle.meaning.specs.NormalForm.{Form, Interval, Node, Successors, clash, cleanNode, cleanSuccessors, compatible, filled}
-use Rattle.meaning.specs.NormalForm.{isBelow, none, successor}
-use Rattle.meaning.specs.Policy.{Chain, Policy, class, end, impossible, interval, some}
-use Rattle.meaning.specs.Splitting.{combinations, constraints, intervalsOf}
-use Rattle.meaning.specs.Subsumption.{anySuccessor, includes, subsumed}
-use Rattle.meaning.specs.Vocabulary.{Vocabulary}
+use Rattle.meaning.proofs.Picks.{AllNonEmpty}
+use Rattle.meaning.specs.Intervals.{NonEmpty}
+use Rattle.meaning.specs.Lists.{cons, counting, nil}
 use Rattle.splitting.specs.Odometer.{Full, constraintAt, constraintsAt}
 
--- ---- parts of what is taken are taken
-
-inside-includes : (f lo hi : ℕ) (s p : Interval) → Inside s p → T (includes f lo hi s) → T (includes f lo hi p)
-inside-includes f lo hi s p i t =
-    let a = T-and (eqb f (s .feature)) (leb lo (s .lo) && leb (s .hi) hi) t in
-    let b = T-and (leb lo (s .lo)) (leb (s .hi) hi) (a .1) in
-    let e = eqb→eq f (s .feature) (a .0) in
-    let x = leb→le lo (s .lo) (b .0) in
-    let y = leb→le (s .hi) hi (b .1) in
-    let l = i .low in
-    let h = i .high in
-    and-T (eqb f (p .feature)) (leb lo (p .lo) && leb (p .hi) hi) (eqb-of f (p .feature) (e ∙ sym (i .same)))
-    (and-T (leb lo (p .lo)) (leb (p .hi) hi) (le→leb lo (p .lo) (omega arith)) (le→leb (p .hi) hi (omega arith)))
-
-module _ {Q : Policy} where
-  parts-include : (f lo hi : ℕ) {l m : List Interval} → Parts Q l m → T (any (includes f lo hi) l) → T (any (includes f lo hi) m)
-  parts-include f lo hi no-parts t = t
-  parts-include f lo hi (parts {s = s} {p = p} {l = l} {m = m} a b) t =
-      go (λ u. parts-include f lo hi b u) (T-or (includes f lo hi s) (any (includes f lo hi) l) t)
-    where
-      go : (T (any (includes f lo hi) l) → T (any (includes f lo hi) m)) → T (includes f lo hi s) ⊎ T (any (includes f lo hi) l) →
-          T (includes f lo hi p || any (includes f lo hi) m)
-      go g (inl u) = or-left (includes f lo hi p) _ (inside-includes f lo hi s p (a .inside) u)
-      go g (inr u) = or-right (includes f lo hi p) _ (g u)
-
-  successor-picked : (r : ℕ) (f : Node → Successors → Bool) →
-      ((n m : Node) (under inner : Successors) → PickedNode Q n m → Picked Q under inner → T (f n under) → T (f m inner)) →
-      {under inner : Successors} → Picked Q under inner → T (anySuccessor r f under) → T (anySuccessor r f inner)
-  successor-picked r f h none-picked t = t
-  successor-picked r f h (picked {r = q} {n = n} {m = m} {under = under} {inner = inner} {next = next} {more = more} a b c) t =
-      go (λ u. successor-picked r f h c u) (T-or (eqb r q && f n under) (anySuccessor r f next) t)
-    where
-      go : (T (anySuccessor r f next) → T (anySuccessor r f more)) → T (eqb r q && f n under) ⊎ T (anySuccessor r f next) →
-          T ((eqb r q && f m inner) || anySuccessor r f more)
-      go g (inl u) =
-          let v = T-and (eqb r q) (f n under) u in
-          or-left (eqb r q && f m inner) _ (and-T (eqb r q) (f m inner) (v .0) (h n m under inner a b (v .1)))
-      go g (inr u) = or-right (eqb r q && f m inner) _ (g u)
-
-  module _ (K : Vocabulary) where
-    subsumed-picked : (q : Chain) (n m : Node) (under inner : Successors) → PickedNode Q n m → Picked Q under inner →
-        T (subsumed K q n under) → T (subsumed K q m inner)
-    subsumed-picked end n m under inner a b t = tt
-    subsumed-picked (class c next) n m under inner a b t =
-        let u = T-and (any (λ d. isBelow K d c) (n .classes)) (subsumed K next n under) t in
-        and-T (any (λ d. isBelow K d c) (m .classes)) (subsumed K next m inner)
-        (subst (λ (l : List ℕ). T (any (λ d. isBelow K d c) l)) (a .classes) (u .0)) (subsumed-picked next n m under inner a b (u .1))
-    subsumed-picked (impossible next) n m under inner a b t = t
-    subsumed-picked (some r child next) n m under inner a b t =
-        let u = T-and (anySuccessor r (subsumed K child) under) (subsumed K next n under) t in
-        and-T (anySuccessor r (subsumed K child) inner) (subsumed K next m inner)
-        (successor-picked r (subsumed K child) (λ x y xs ys c d v. subsumed-picked child x y xs ys c d v) b (u .0))
-        (subsumed-picked next n m under inner a b (u .1))
-    subsumed-picked (interval f lo hi next) n m under inner a b t =
-        let u = T-and (any (includes f lo hi) (n .intervals)) (subsumed K next n under) t in
-        and-T (any (includes f lo hi) (m .intervals)) (subsumed K next m inner)
-        (parts-include f lo hi (a .intervals) (u .0)) (subsumed-picked next n m under inner a b (u .1))
-
-    passes-picked : (P : Policy) (F u : Form) → PickedForm Q F u → T (passes K P F) → T (passes K P u)
-    unfolding passes
-    passes-picked P F u p t =
-        any-in (λ q. subsumed K q (u .node) (u .successors))
-        (any-mono (λ q v. subsumed-picked q (F .node) (u .node) (F .successors) (u .successors) (p .node) (p .successors) v)
-        (any-out (λ q. subsumed K q (F .node) (F .successors)) P t))
-
--- ---- every combination of a form without an empty constraint has parts of its constraints
-
-abbrev pub Filled : List Interval → Type 0
-Filled l = All (λ s. s .lo ≤ s .hi) l
-
-pub filled-at : (w : List ℕ) (n : ℕ) → Full w n → Filled (constraintsAt w n)
-filled-at w n f = go 0 n (λ m h. f m (omega arith))
+pub constraints-nonEmpty : (w : List ℕ) (n : ℕ) → Full w n → AllNonEmpty (constraintsAt w n)
+constraints-nonEmpty w n f = go 0 n (λ m h. f m (omega arith))
   where
-    go : (o n : ℕ) → ((m : ℕ) → m < o + n → constraintAt w m .lo ≤ constraintAt w m .hi) → Filled (map (constraintAt w) (counting o n))
+    go : (o n : ℕ) → ((m : ℕ) → m < o + n → NonEmpty (constraintAt w m .lo) (constraintAt w m .hi)) → AllNonEmpty (map (constraintAt w) (counting o n))
     go o zero f = nil
     go o (suc n) f = cons (f o (omega arith)) (go (suc o) n (λ m h. f m (omega arith)))
-
--- by the empty vocabulary no two classes are disjoint
-compatible-classes : (l k : List ℕ) → T (all (λ a. all (λ b. not (clash [] a b)) l) k)
-compatible-classes l [] = tt
-compatible-classes l (a ∷ k) = and-T (all (λ b. not (clash [] a b)) l) _ (go l) (compatible-classes l k)
-  where
-    go : (m : List ℕ) → T (all (λ b. not (clash [] a b)) m)
-    go [] = tt
-    go (b ∷ m) = go m
-
-clean-filled : (n : Node) → Filled (n .intervals) → T (cleanNode [] n)
-clean-filled n h =
-    and-T (filled (n .intervals)) (compatible [] (n .classes))
-    (all-in (λ s. leb (s .lo) (s .hi)) (all-mono (λ s l. le→leb (s .lo) (s .hi) l) h)) (compatible-classes (n .classes) (n .classes))
-
-clean-below : (ks : Successors) → Filled (intervalsOf ks) → T (cleanSuccessors [] ks)
-clean-below none h = tt
-clean-below (successor r n under next) h =
-    let a = all-snd (n .intervals) _ h in
-    and-T (cleanNode [] n) _ (clean-filled n (all-fst (n .intervals) _ h))
-    (and-T (cleanSuccessors [] under) _ (clean-below under (all-fst (intervalsOf under) _ a))
-    (clean-below next (all-snd (intervalsOf under) _ a)))
-
-filled-picked : (Q : Policy) (F : Form) → Filled (constraints F) → All (PickedForm Q F) (combinations Q F)
-filled-picked Q F h =
-    combinations-picked [] Q F (clean-filled (F .node) (all-fst (F .node .intervals) _ h))
-    (clean-below (F .successors) (all-snd (F .node .intervals) _ h))
-
--- ---- so none fails
-
-none-fails : {A : Type 0} (p : A → Bool) (k : ℕ) {l : List A} → All (λ x. T (p x)) l → firstFailing p k l ≡ nowhere
-none-fails p k nil = refl
-none-fails p k (cons {x = x} h t) = rw (← same-test true (p x) (λ u. h) (λ u. tt)) (none-fails p (suc k) t)
-
-pub whole-passes : (K : Vocabulary) (Q : Policy) (F : Form) → Filled (constraints F) → passes K Q F ≡ true →
-    firstFailing (passes K Q) 1 (combinations Q F) ≡ nowhere
-whole-passes K Q F h e =
-    none-fails (passes K Q) 1 (all-mono (λ u p. passes-picked K Q F u p (isTrue e)) (filled-picked Q F h))

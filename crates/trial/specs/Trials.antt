@@ -5,15 +5,16 @@ use mathlib.Core.List.{List}
 use mathlib.Core.Path.{_≡_}
 use lib.ListN.{length}
 use Rattle.combination.specs.Combination.{Combined}
-use Rattle.meaning.proofs.Terms.{Reads}
-use Rattle.meaning.specs.Containment.{mostCombinations, passes}
+use Rattle.meaning.specs.Accepted.{Reads}
+use Rattle.meaning.specs.Containment.{passes}
+use Rattle.meaning.specs.Limits.{mostCombinations, mostRecords}
 use Rattle.meaning.specs.Lists.{_∈_, firstFailing, found, nowhere}
 use Rattle.meaning.specs.NormalForm.{Form}
 use Rattle.meaning.specs.Policy.{Policy, childOf, policyOf, policyRefusal}
 use Rattle.meaning.specs.Splitting.{combinations, product}
 use Rattle.meaning.specs.Subsumption.{subsumed}
 use Rattle.meaning.specs.Vocabulary.{Vocabulary}
-use Rattle.normal_form.specs.Tables.{Tabled, mostEntries, tablesEnd, termAt}
+use Rattle.normal_form.specs.Tables.{Tabled, tablesEnd, termAt}
 use Rattle.normal_form.specs.declared.Tables.{Tables}
 use Rattle.splitting.specs.Ends.{Ends}
 use Rattle.splitting.specs.Odometer.{Kept, Splittable, constraintsAt}
@@ -22,8 +23,8 @@ use Rattle.splitting.specs.Odometer.{Kept, Splittable, constraintsAt}
 pub record Askable (q w : List ℕ) (t : Tables) : Type 0 where
   pub long : tablesEnd ≤ length w
   pub some : 1 ≤ t .individuals
-  pub individuals : t .individuals ≤ mostEntries
-  pub intervals : t .intervals ≤ mostEntries
+  pub individuals : t .individuals ≤ mostRecords
+  pub constraints : t .constraints ≤ mostRecords
   pub vocabulary : List ℕ
   pub accepted : policyRefusal vocabulary q ≡ 0
 
@@ -45,9 +46,9 @@ pub record Taker (q w : List ℕ) (t : Tables) (k : ℕ) : Type 0 where
 -- the tables are a simple policy's, with few enough combinations, and e has the ends of the other policy q
 pub record Triable (q e w : List ℕ) (t : Tables) : Type 0 where
   pub askable : Askable q w t
-  pub splittable : Splittable w (t .intervals)
+  pub splittable : Splittable w (t .constraints)
   pub ends : Ends (policyOf q) e
-  pub few : product (policyOf q) (constraintsAt w (t .intervals)) ≤ mostCombinations
+  pub few : product (policyOf q) (constraintsAt w (t .constraints)) ≤ mostCombinations
 
 -- the answer for a form's combinations: 0 where none fails; else the first to fail, counted from 1, which the tables hold
 abbrev pub Failure : Vocabulary → Policy → Form → List ℕ → Tables → ℕ → Type 0
@@ -57,4 +58,4 @@ Failure K Q F w t (suc k) = (u : Form) × (firstFailing (passes K Q) 1 (combinat
 -- so for whatever form the tables hold, by whatever vocabulary; nothing but pieces has changed
 pub record Tried (Q : Policy) (w w′ : List ℕ) (t : Tables) (r : ℕ) : Type 0 where
   pub told : (K : Vocabulary) (F : Form) → Tabled K F w t → Failure K Q F w′ t r
-  pub kept : Kept (t .intervals) w w′
+  pub kept : Kept (t .constraints) w w′

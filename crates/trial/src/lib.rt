@@ -45,11 +45,11 @@ pub fn first_failure(q: &[u32], work: &mut [u32], ends: &[u32], t: Tables) -> u3
     requires { ⌜ Triable (now q) (now ends) (now work) t ⌝ }
     ensures { λ r. ⌜ Tried (policyOf (now (q .entry))) (now (work .entry)) (now (work .exit)) t r ⌝ }
 {
-    widen(work, t.intervals);
+    widen(work, t.constraints);
     if first_taker(q, work, t) != 0 {
         return 0;
     }
-    start(work, t.intervals);
+    start(work, t.constraints);
     let mut c: u32 = 1;
     let mut k: u32 = 0;
     while c != 0 {
@@ -57,7 +57,7 @@ pub fn first_failure(q: &[u32], work: &mut [u32], ends: &[u32], t: Tables) -> u3
         if k == 0 {
             return c;
         }
-        c = step(ends, work, t.intervals, c);
+        c = step(ends, work, t.constraints, c);
     }
     0
 }

@@ -7,28 +7,30 @@ use lib.Dec.{eqb, leb}
 use lib.ListN.{length}
 use native.Mathlib.Omega.{arith}
 use borrow.Author.Tests.{le-leb, lt-leb, ne-eqb, not-false, not-true}
-use Rattle.meaning.proofs.Links.{Enough, Onward, bounds, enough-end, falling, falling-le, falls, onward-le, passed, tests}
-use Rattle.meaning.specs.Answers.{Answer, accepted, refused}
+use Rattle.meaning.proofs.Links.{bounds, enough-end, falling-le, falls, onward-le, passed, tests}
+use Rattle.meaning.specs.Answers.{Answer, ReadingResult, accepted, refused, result}
+use Rattle.meaning.specs.Limits.{mostClasses, mostFeatures, mostRoles, mostVocabularyWords}
 use Rattle.meaning.specs.Operations.{readVocabulary, unless}
-use Rattle.meaning.specs.Records.{lastOf, linked, named, sized}
-use Rattle.meaning.specs.Vocabulary.{axiomFits, axiomKind, axiomLeft, axiomNext, axiomRight, axiomsRefusal, classCount, featureCount, firstAxiom, headedVocabulary, mostClasses, roleCount, soundAxiom, vocabularyRefusal}
+use Rattle.meaning.specs.Records.{Enough, Onward, falling, isName, isOnward, isSized, lastOf}
+use Rattle.meaning.specs.Vocabulary.{axiomFits, axiomKind, axiomLeft, axiomNext, axiomRight, axiomsRefusal, classCount}
+use Rattle.meaning.specs.Vocabulary.{featureCount, firstAxiom, headedVocabulary, roleCount, soundAxiom, vocabularyRefusal}
 
 -- ---- the header: its four tests in order, each with those before it
 
-module _ (v : List ℕ) {N : ℕ} {t : Bool} (eN : N ≡ classCount v) (et : t ≡ named mostClasses N) where
+module _ (v : List ℕ) {N : ℕ} {t : Bool} (eN : N ≡ classCount v) (et : t ≡ isName mostClasses N) where
   pub header-classes : t ≡ false → t ≡ headedVocabulary v
   header-classes h = rw (sym eN, sym et, h)
 
   module _ {R : ℕ} (h : t ≡ true) (eR : R ≡ roleCount v) where
-    pub header-roles : 64 < R → leb R 64 ≡ headedVocabulary v
-    header-roles g = rw (sym eN, sym et, h, sym eR, lt-leb R 64 g)
+    pub header-roles : mostRoles < R → leb R mostRoles ≡ headedVocabulary v
+    header-roles g = rw (sym eN, sym et, h, sym eR, lt-leb R mostRoles g)
 
-    module _ {F : ℕ} (g : R ≤ 64) (eF : F ≡ featureCount v) where
-      pub header-features : 64 < F → leb F 64 ≡ headedVocabulary v
-      header-features f = rw (sym eN, sym et, h, sym eR, le-leb R 64 g, sym eF, lt-leb F 64 f)
+    module _ {F : ℕ} (g : R ≤ mostRoles) (eF : F ≡ featureCount v) where
+      pub header-features : mostFeatures < F → leb F mostFeatures ≡ headedVocabulary v
+      header-features f = rw (sym eN, sym et, h, sym eR, le-leb R mostRoles g, sym eF, lt-leb F mostFeatures f)
 
-      pub header-first : {x l : ℕ} → F ≤ 64 → x ≡ firstAxiom v → l ≡ lastOf 4 v → leb x l ≡ headedVocabulary v
-      header-first f ex el = rw (sym eN, sym et, h, sym eR, le-leb R 64 g, sym eF, le-leb F 64 f, ex, el)
+      pub header-first : {x l : ℕ} → F ≤ mostFeatures → x ≡ firstAxiom v → l ≡ lastOf 4 v → leb x l ≡ headedVocabulary v
+      header-first f ex el = rw (sym eN, sym et, h, sym eR, le-leb R mostRoles g, sym eF, le-leb F mostFeatures f, ex, el)
 
 -- ---- a record
 
@@ -37,8 +39,8 @@ abbrev Refuses : List ℕ → ℕ → ℕ → Type 0
 Refuses v k r = r ≡ cond (soundAxiom v k) 0 3
 
 -- t is the test of record k's link
-module _ (v : List ℕ) (k : ℕ) {l x : ℕ} {t : Bool} (p : l ≡ lastOf 4 v) (q : x ≡ axiomNext v k) (e : t ≡ linked l k x) where
-  link : t ≡ linked (lastOf 4 v) k (axiomNext v k)
+module _ (v : List ℕ) (k : ℕ) {l x : ℕ} {t : Bool} (p : l ≡ lastOf 4 v) (q : x ≡ axiomNext v k) (e : t ≡ isOnward l k x) where
+  link : t ≡ isOnward (lastOf 4 v) k (axiomNext v k)
   link = rw (sym p, sym q) e
 
   pub bad-link : not t ≡ true → Refuses v k 3
@@ -55,20 +57,20 @@ module _ (v : List ℕ) (k : ℕ) {l x : ℕ} {t : Bool} (p : l ≡ lastOf 4 v) 
     -- the two tests of a kind
     module _ {f : Bool} {r : ℕ} where
       module _ {g : Bool} (c : r ≡ cond (f && g) 0 3) where
-        pub below-fits : kind ≡ 1 → f ≡ named (classCount v) a → g ≡ named (classCount v) b → Refuses v k r
+        pub below-fits : kind ≡ 1 → f ≡ isName (classCount v) a → g ≡ isName (classCount v) b → Refuses v k r
         below-fits z m n = fitted (f && g) c (rw (sym ek ∙ z, sym ea, sym eb, m, n))
 
-        pub disjoint-fits : kind ≡ 2 → f ≡ named (classCount v) a → g ≡ named (classCount v) b → Refuses v k r
+        pub disjoint-fits : kind ≡ 2 → f ≡ isName (classCount v) a → g ≡ isName (classCount v) b → Refuses v k r
         disjoint-fits z m n = fitted (f && g) c (rw (sym ek ∙ z, sym ea, sym eb, m, n))
 
-        pub range-fits : kind ≡ 5 → f ≡ named (roleCount v) a → g ≡ named (classCount v) b → Refuses v k r
+        pub range-fits : kind ≡ 5 → f ≡ isName (roleCount v) a → g ≡ isName (classCount v) b → Refuses v k r
         range-fits z m n = fitted (f && g) c (rw (sym ek ∙ z, sym ea, sym eb, m, n))
 
       module _ (c : r ≡ cond (f && eqb b 0) 0 3) where
-        pub role-fits : kind ≡ 3 → f ≡ named (roleCount v) a → Refuses v k r
+        pub role-fits : kind ≡ 3 → f ≡ isName (roleCount v) a → Refuses v k r
         role-fits z m = fitted (f && eqb b 0) c (rw (sym ek ∙ z, sym ea, sym eb, m))
 
-        pub feature-fits : kind ≡ 4 → f ≡ named (featureCount v) a → Refuses v k r
+        pub feature-fits : kind ≡ 4 → f ≡ isName (featureCount v) a → Refuses v k r
         feature-fits z m = fitted (f && eqb b 0) c (rw (sym ek ∙ z, sym ea, sym eb, m))
 
 -- ---- the chain
@@ -127,13 +129,13 @@ module _ (v : List ℕ) {t : Bool} (e : t ≡ headedVocabulary v) (h : not t ≡
   pub first : firstAxiom v ≤ lastOf 4 v
   first = let u = simp bounds at right-header in u .1 .1 .1
 
-module _ (v : List ℕ) {t : Bool} (e : t ≡ sized 4 4100 (length v)) where
+module _ (v : List ℕ) {t : Bool} (e : t ≡ isSized 4 mostVocabularyWords (length v)) where
   pub wrong-size : not t ≡ true → 1 ≡ vocabularyRefusal v
   unfolding vocabularyRefusal
   wrong-size h = rw (sym e ∙ not-true t h)
 
   module _ (h : not t ≡ false) where
-    right-size : sized 4 4100 (length v) ≡ true
+    right-size : isSized 4 mostVocabularyWords (length v) ≡ true
     right-size = sym e ∙ not-false t h
 
     pub least : 4 ≤ length v
@@ -147,6 +149,6 @@ module _ (v : List ℕ) {t : Bool} (e : t ≡ sized 4 4100 (length v)) where
     unfolding vocabularyRefusal
     chained f g p = rw (right-size, right-header v f g) p
 
-pub told : (v : List ℕ) {r : ℕ} {a : Answer} → r ≡ vocabularyRefusal v → a ≡ unless refused r accepted → a ≡ readVocabulary v
+pub told : (v : List ℕ) {r : ℕ} {a : Answer ReadingResult} → r ≡ vocabularyRefusal v → a ≡ unless refused r (result accepted) → a ≡ readVocabulary v
 unfolding readVocabulary
-told v e h = h ∙ ap (λ (n : ℕ). unless refused n accepted) e
+told v e h = h ∙ ap (λ (n : ℕ). unless refused n (result accepted)) e

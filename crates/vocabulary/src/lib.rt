@@ -3,21 +3,22 @@ use meaning::ClassNo;
 use meaning::FeatureNo;
 use meaning::Reading;
 use meaning::RoleNo;
-use records::links;
-use records::within;
+use meaning::limits::MOST_CLASSES;
+use meaning::limits::MOST_FEATURES;
+use meaning::limits::MOST_ROLES;
+use meaning::limits::MOST_VOCABULARY_WORDS;
+use records::is_name;
+use records::is_onward;
 use records::word;
 ghost use mathlib.Core.Path.{_≡_};
 ghost use mathlib.Core.Bool.{_&&_, cond};
 ghost use Prim.Native.Nat.{_≤_};
 ghost use lib.ListN.{length};
-ghost use Rattle.meaning.specs.Records.{lastOf, named};
-ghost use Rattle.meaning.specs.Vocabulary.{axiomKind, axiomLeft, axiomNext, axiomRight, axiomsRefusal, classCount, featureCount};
-ghost use Rattle.meaning.specs.Vocabulary.{firstAxiom, headedVocabulary, roleCount, soundAxiom, vocabularyRefusal};
 ghost use Rattle.meaning.specs.Answers.{readingAnswer};
 ghost use Rattle.meaning.specs.Operations.{readVocabulary};
-
-// The most classes a vocabulary may count.
-const MOST_CLASSES: u32 = 256;
+ghost use Rattle.meaning.specs.Records.{isName, lastOf};
+ghost use Rattle.meaning.specs.Vocabulary.{axiomKind, axiomLeft, axiomNext, axiomRight, axiomsRefusal, classCount, featureCount};
+ghost use Rattle.meaning.specs.Vocabulary.{firstAxiom, headedVocabulary, roleCount, soundAxiom, vocabularyRefusal};
 
 pub fn class_count(v: &[u32]) -> u32
     ensures { λ r. ⌜ r ≡ classCount (now (v .entry)) ⌝ }
@@ -68,21 +69,21 @@ pub fn axiom_next(v: &[u32], k: u32) -> u32
 }
 
 pub fn is_class(v: &[u32], c: ClassNo) -> bool
-    ensures { λ r. ⌜ r ≡ named (classCount (now (v .entry))) (c .0) ⌝ }
+    ensures { λ r. ⌜ r ≡ isName (classCount (now (v .entry))) (c .0) ⌝ }
 {
-    within(class_count(v), c.0)
+    is_name(class_count(v), c.0)
 }
 
 pub fn is_role(v: &[u32], p: RoleNo) -> bool
-    ensures { λ r. ⌜ r ≡ named (roleCount (now (v .entry))) (p .0) ⌝ }
+    ensures { λ r. ⌜ r ≡ isName (roleCount (now (v .entry))) (p .0) ⌝ }
 {
-    within(role_count(v), p.0)
+    is_name(role_count(v), p.0)
 }
 
 pub fn is_feature(v: &[u32], f: FeatureNo) -> bool
-    ensures { λ r. ⌜ r ≡ named (featureCount (now (v .entry))) (f .0) ⌝ }
+    ensures { λ r. ⌜ r ≡ isName (featureCount (now (v .entry))) (f .0) ⌝ }
 {
-    within(feature_count(v), f.0)
+    is_name(feature_count(v), f.0)
 }
 
 // The header is record 0.
@@ -97,9 +98,9 @@ fn is_headed(v: &[u32]) -> bool
     requires { ⌜ 4 ≤ length (now v) ⌝ }
     ensures { λ r. ⌜ r ≡ headedVocabulary (now (v .entry)) ⌝ }
 {
-    within(MOST_CLASSES, class_count(v))
-        && (role_count(v) <= 64
-            && (feature_count(v) <= 64 && first_axiom(v) as usize <= last_axiom(v)))
+    is_name(MOST_CLASSES, class_count(v))
+        && (role_count(v) <= MOST_ROLES
+            && (feature_count(v) <= MOST_FEATURES && first_axiom(v) as usize <= last_axiom(v)))
 }
 
 // A record names two things, and both must be right.
@@ -114,7 +115,7 @@ fn axiom_refusal(v: &[u32], k: u32) -> u32
     requires { ⌜ 4 ≤ length (now v) ⌝ }
     ensures { λ r. ⌜ r ≡ cond (soundAxiom (now (v .entry)) k) 0 3 ⌝ }
 {
-    if !links(last_axiom(v), k, axiom_next(v, k)) {
+    if !is_onward(last_axiom(v), k, axiom_next(v, k)) {
         return 3;
     }
     let kind = axiom_kind(v, k);
@@ -150,7 +151,7 @@ fn axioms_refusal(v: &[u32]) -> u32
 pub fn vocabulary_refusal(v: &[u32]) -> u32
     ensures { λ r. ⌜ r ≡ vocabularyRefusal (now (v .entry)) ⌝ }
 {
-    if !records::is_sized(4, 4100, v.len()) {
+    if !records::is_sized(4, MOST_VOCABULARY_WORDS, v.len()) {
         return 1;
     }
     if !is_headed(v) {

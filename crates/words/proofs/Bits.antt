@@ -5,9 +5,9 @@ use lib.Count.{ones, ones-step, onesIn, trailingZeros, under}
 use lib.Dec.{eqb, eqb·suc-suc, eqb·suc-zero, eqb·zero-suc}
 use lib.Pow.{pow-mono, shr-shr}
 use mathlib.Core.Bool.{_||_, false, true}
-use mathlib.Core.Path.{_≡_, _∙_, ap, refl, subst, sym}
-use native.Mathlib.Nat.{div-div-eq-div-mul, div-eq-of-lt, div-lt-iff-lt-mul, div-one, lt-of-lt-of-le, mod-lt}
-use native.Mathlib.Nat.{mul-div-cancel, mul-mod-left, pow-suc, pow-succ', zero-lt-suc}
+use mathlib.Core.Path.{_∙_, _≡_, ap, refl, subst, sym}
+use native.Mathlib.Nat.{div-div-eq-div-mul, div-eq-of-lt, div-lt-iff-lt-mul, div-one, lt-of-lt-of-le, mod-lt, mul-div-cancel}
+use native.Mathlib.Nat.{mul-mod-left, pow-suc, pow-succ', zero-lt-suc}
 use native.Mathlib.Omega.{arith}
 use Rattle.words.specs.Sets.{testBit}
 

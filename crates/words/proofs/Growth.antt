@@ -7,16 +7,16 @@ use lib.Seq.{drop-drop, ext-getD}
 use mathlib.Core.Bool.{Bool, _&&_, true}
 use mathlib.Core.List.{List, [], _++_, _∷_}
 use mathlib.Core.Logic.{_↔_}
-use mathlib.Core.Path.{_≡_, _∙_, ap, ap₂, refl, subst, sym}
+use mathlib.Core.Path.{_∙_, _≡_, ap, ap₂, refl, subst, sym}
 use borrow.Author.Count.{below-more}
 use borrow.Author.Tests.{eq-eqb}
 use native.Mathlib.Nat.{suc-mul}
 use native.Mathlib.Omega.{arith}
 use Rattle.meaning.proofs.Links.{tests}
 use Rattle.meaning.proofs.Rules.{or-right}
+use Rattle.words.proofs.Laws.{in-union, length-union, union-at}
 use Rattle.words.specs.Rows.{putAt, rowAt}
 use Rattle.words.specs.Sets.{inSet, unionOf, wordSum}
-use Rattle.words.proofs.Laws.{in-union, length-union, union-at}
 
 or-grows : (d a b : ℕ) → a ≤ d → a ≤ bitOr a b
 or-grows zero a b h = omega arith

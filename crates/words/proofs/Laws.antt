@@ -8,16 +8,16 @@ use lib.Seq.{getD-set-other, getD-set-same, set-out}
 use mathlib.Core.Bool.{Bool, _&&_, _||_, cond, false, true, true≢false}
 use mathlib.Core.List.{List, [], _∷_}
 use mathlib.Core.Logic.{_⊎_, inl, inr, ⊎-elim}
-use mathlib.Core.Path.{_≡_, _∙_, ap, ap₂, refl, sym}
+use mathlib.Core.Path.{_∙_, _≡_, ap, ap₂, refl, sym}
 use native.Mathlib.Omega.{arith}
 use borrow.Author.Tests.{eq-eqb, eqb-false, eqb-true, le-leb, lt-leb, ltb-false, ltb-true, ne-eqb}
 use Rattle.meaning.specs.Lists.{_∈_, counting, filter}
-use Rattle.meaning.specs.Records.{named}
+use Rattle.meaning.specs.Records.{isName}
+use Rattle.words.proofs.Bits.{bit-none, bit-or, bit-pow}
+use Rattle.words.proofs.Lists.{Rising, filter-in, filter-within, in-counting, in-filter, rising-counting, rising-filter}
+use Rattle.words.proofs.Lists.{tally-add, tally-most, tally-ones, tally-shift}
 use Rattle.words.specs.Members.{members, setBits}
 use Rattle.words.specs.Sets.{capacity, inSet, including, testBit, unionOf}
-use Rattle.words.proofs.Bits.{bit-none, bit-or, bit-pow}
-use Rattle.words.proofs.Lists.{Rising, filter-in, filter-within, in-counting, in-filter}
-use Rattle.words.proofs.Lists.{rising-counting, rising-filter, tally-add, tally-most, tally-ones, tally-shift}
 
 pub lt-or-ge : (i n : ℕ) → (i < n) ⊎ (n ≤ i)
 lt-or-ge i n = go (ltb i n) refl
@@ -26,10 +26,10 @@ lt-or-ge i n = go (ltb i n) refl
     go true e = inl (ltb-true i n e)
     go false e = inr (ltb-false i n e)
 
-pub named-within : (n x : ℕ) → 0 < x → x ≤ n → named n x ≡ true
+pub named-within : (n x : ℕ) → 0 < x → x ≤ n → isName n x ≡ true
 named-within n x p h = rw (le-leb 1 x p, le-leb x n h)
 
-pub named-past : (n x : ℕ) → n < x → named n x ≡ false
+pub named-past : (n x : ℕ) → n < x → isName n x ≡ false
 named-past n x h = rw (le-leb 1 x (omega arith), lt-leb x n h)
 
 -- ---- what is in no set
@@ -78,7 +78,7 @@ unchanged x false n h = refl
 
 -- the bit of k, once the bit of i is set
 abbrev AfterBit : List ℕ → ℕ → ℕ → Type 0
-AfterBit ws i k = inSet (including ws (suc i)) (suc k) ≡ cond (eqb k i) (named (capacity ws) (suc k)) (inSet ws (suc k))
+AfterBit ws i k = inSet (including ws (suc i)) (suc k) ≡ cond (eqb k i) (isName (capacity ws) (suc k)) (inSet ws (suc k))
 
 module _ (ws : List ℕ) (i k : ℕ) where
   -- in the word of i
@@ -90,21 +90,21 @@ module _ (ws : List ℕ) (i k : ℕ) where
       ap (λ (x : ℕ). testBit x (k % 32)) (ap (λ (n : ℕ). getD (set ws (i / 32) w′) n 0) q ∙ getD-set-same ws (i / 32) w′ 0 h)
       ∙ bit-or w (2 ^ (i % 32)) (k % 32)
       ∙ ap₂ _||_ (ap (λ (n : ℕ). testBit (getD ws n 0) (k % 32)) (sym q)) (bit-pow (i % 32) (k % 32) ∙ same-place k i q)
-      ∙ or-cond (testBit (getD ws (k / 32) 0) (k % 32)) (eqb k i) (named (capacity ws) (suc k))
+      ∙ or-cond (testBit (getD ws (k / 32) 0) (k % 32)) (eqb k i) (isName (capacity ws) (suc k))
       (λ e. named-within (capacity ws) (suc k) (omega arith) (omega arith))
 
   other-word : (k / 32 ≡ i / 32 → ⊥) → AfterBit ws i k
   unfolding inSet including
   other-word n =
       ap (λ (x : ℕ). testBit x (k % 32)) (getD-set-other ws (i / 32) (k / 32) (bitOr (getD ws (i / 32) 0) (2 ^ (i % 32))) 0 n)
-      ∙ unchanged (testBit (getD ws (k / 32) 0) (k % 32)) (eqb k i) (named (capacity ws) (suc k))
+      ∙ unchanged (testBit (getD ws (k / 32) 0) (k % 32)) (eqb k i) (isName (capacity ws) (suc k))
       (λ e. absurd (n (ap (λ (x : ℕ). x / 32) (eqb-true k i e))))
 
   no-word : length ws ≤ i / 32 → AfterBit ws i k
   unfolding including
   no-word h =
       ap (λ (l : List ℕ). inSet l (suc k)) (set-out ws (i / 32) (bitOr (getD ws (i / 32) 0) (2 ^ (i % 32))) h)
-      ∙ unchanged (inSet ws (suc k)) (eqb k i) (named (capacity ws) (suc k))
+      ∙ unchanged (inSet ws (suc k)) (eqb k i) (isName (capacity ws) (suc k))
       (λ e. let q = eqb-true k i e in in-past ws (suc k) (omega arith) ∙ sym (named-past (capacity ws) (suc k) (omega arith)))
 
   after-bit : AfterBit ws i k
@@ -115,7 +115,7 @@ module _ (ws : List ℕ) (i k : ℕ) where
       go h false e = other-word (eqb-false (k / 32) (i / 32) e)
 
 -- c is in, where the words have a bit for it, and all else is as it was
-pub in-including : (ws : List ℕ) (c d : ℕ) → inSet (including ws c) d ≡ cond (eqb d c) (named (capacity ws) d) (inSet ws d)
+pub in-including : (ws : List ℕ) (c d : ℕ) → inSet (including ws c) d ≡ cond (eqb d c) (isName (capacity ws) d) (inSet ws d)
 unfolding inSet including
 in-including ws zero zero = refl
 in-including ws zero (suc k) = rw (eqb·suc-zero k)
@@ -172,7 +172,7 @@ in-listed ws c t =
     in-filter (inSet ws) c (counting 1 (capacity ws)) t (in-counting 1 (capacity ws) c (w .0) (omega (arith, w .1)))
 
 -- a set of numbers up to n that a test tells: those of 1 to n that pass it
-pub members-are : (ws : List ℕ) (p : ℕ → Bool) (n : ℕ) → n ≤ capacity ws → ((d : ℕ) → inSet ws d ≡ named n d && p d)
+pub members-are : (ws : List ℕ) (p : ℕ → Bool) (n : ℕ) → n ≤ capacity ws → ((d : ℕ) → inSet ws d ≡ isName n d && p d)
     → members ws ≡ filter p (counting 1 n)
 unfolding members
 members-are ws p n l h =

@@ -7,15 +7,15 @@ use lib.Pow.{shr-le}
 use mathlib.Core.Bool.{Bool, cond, false, true, true≢false}
 use mathlib.Core.List.{List, [], _∷_}
 use mathlib.Core.Logic.{⊎-elim}
-use mathlib.Core.Path.{_≡_, _∙_, ap, ap₂, refl, sym}
+use mathlib.Core.Path.{_∙_, _≡_, ap, ap₂, refl, sym}
 use native.Mathlib.Omega.{arith}
 use borrow.Author.Tests.{eqb-false, eqb-true, le-ltb, lt-ltb}
 use Rattle.meaning.specs.Lists.{counting, here}
-use Rattle.words.specs.Members.{listing, members, membersAbove, membersFrom, nextMember}
-use Rattle.words.specs.Sets.{capacity, inSet, testBit}
 use Rattle.words.proofs.Bits.{below-lowest, bit-none, bit-past, bit-shift, lowest-set}
 use Rattle.words.proofs.Laws.{in-listed, in-past, listed-in, lt-or-ge, members-rising}
 use Rattle.words.proofs.Lists.{above-all, above-first, above-least, above-rest, filter-from, filter-none, filter-same}
+use Rattle.words.specs.Members.{listing, members, membersAbove, membersFrom, nextMember}
+use Rattle.words.specs.Sets.{capacity, inSet, testBit}
 
 -- ---- what it is
 

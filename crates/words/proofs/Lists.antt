@@ -5,12 +5,12 @@ use lib.Dec.{eqb, ltb}
 use lib.ListN.{length}
 use mathlib.Core.Bool.{Bool, cond, false, true}
 use mathlib.Core.List.{List, [], _∷_}
-use mathlib.Core.Path.{_≡_, _∙_, ap, ap₂, refl, sym}
+use mathlib.Core.Path.{_∙_, _≡_, ap, ap₂, refl, sym}
 use native.Mathlib.Omega.{arith}
 use borrow.Author.Tests.{eqb-false, eqb-true, le-ltb, lt-ltb, ltb-false, ltb-true}
 use Rattle.meaning.specs.Lists.{_∈_, counting, filter, here, there}
-use Rattle.words.specs.Sets.{testBit}
 use Rattle.words.proofs.Bits.{bit-suc, bit-zero}
+use Rattle.words.specs.Sets.{testBit}
 
 -- all of the list is above k, and each element above the one before
 abbrev pub Rising : ℕ → List ℕ → Type 0

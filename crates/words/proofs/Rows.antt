@@ -3,7 +3,7 @@ use Prim.Native.Nat.{_+_, _-_, _≤_, suc, zero, ℕ}
 use lib.ListN.{drop, length, length-append, length-drop, length-take, take, take-append-drop}
 use lib.Seq.{drop-append-add, drop-at, drop-drop, length-take-le, take-append-le, take-at, take-take}
 use mathlib.Core.List.{List, [], _++_, _∷_}
-use mathlib.Core.Path.{_≡_, _∙_, ap, refl, sym}
+use mathlib.Core.Path.{_∙_, _≡_, ap, refl, sym}
 use native.Mathlib.Omega.{arith}
 use Rattle.words.specs.Rows.{putAt, rowAt}
 

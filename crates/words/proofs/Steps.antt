@@ -8,19 +8,19 @@ use lib.Pow.{shl-exact}
 use lib.Seq.{ext-getD, getD-drop, getD-set-other, getD-set-same, getD-take, paste, paste-suc, set-out, take-all, take-length}
 use mathlib.Core.Bool.{Bool, _||_, cond, false, true}
 use mathlib.Core.List.{List, append-assoc}
-use mathlib.Core.Path.{_≡_, _∙_, ap, refl, sym}
+use mathlib.Core.Path.{_∙_, _≡_, ap, refl, sym}
 use native.Mathlib.Nat.{one-mul}
 use native.Mathlib.Numerals.{add-one}
 use native.Mathlib.Omega.{arith}
 use borrow.Author.Tests.{eqb-false, eqb-true}
-use Rattle.meaning.specs.Records.{named}
-use Rattle.words.specs.Rows.{putAt, rowAt}
-use Rattle.words.specs.Members.{members, membersAbove, nextMember, setBits}
-use Rattle.words.specs.Sets.{capacity, inSet, including, testBit, unionOf}
+use Rattle.meaning.specs.Records.{isName}
 use Rattle.words.proofs.Bits.{bit-mask, ones-within}
 use Rattle.words.proofs.Laws.{bits-more, count-members, in-including, in-past, in-union, length-union, union-at}
 use Rattle.words.proofs.Listing.{above-past, rest-empty, rest-lowest, rest-within}
 use Rattle.words.proofs.Rows.{length-row}
+use Rattle.words.specs.Members.{members, membersAbove, nextMember, setBits}
+use Rattle.words.specs.Rows.{putAt, rowAt}
+use Rattle.words.specs.Sets.{capacity, inSet, including, testBit, unionOf}
 
 -- ---- `has` and `insert`: 0, a number past the words, a number with a bit in the word at
 
@@ -127,7 +127,7 @@ stored-all ws ts at vs i n e = rw (e, n, take-length vs, append-assoc)
 -- ---- the members of an answer
 
 pub members-with : (ws r : List ℕ) (c n : ℕ) → capacity ws ≡ n → r ≡ including ws c
-    → (d : ℕ) → inSet r d ≡ cond (eqb d c) (named n d) (inSet ws d)
+    → (d : ℕ) → inSet r d ≡ cond (eqb d c) (isName n d) (inSet ws d)
 members-with ws r c n m e d = rw (e, ← m) (in-including ws c d)
 
 pub members-union : (a b r : List ℕ) → length b ≤ length a → r ≡ unionOf a b → (d : ℕ) → inSet r d ≡ inSet a d || inSet b d

@@ -2,7 +2,7 @@
 use Prim.Native.Nat.{_+_, _/_, ℕ}
 use mathlib.Core.List.{List, _++_}
 use lib.ListN.{drop, length, take}
-use Rattle.meaning.specs.Vocabulary.{mostClasses}
+use Rattle.meaning.specs.Limits.{mostClasses}
 
 -- how many words a set of classes takes
 abbrev pub classWords : ℕ

@@ -1,17 +1,18 @@
 // Sets of numbers, from 1, in words of 32 bits: number x is bit (x - 1) % 32 of word (x - 1) / 32.
 // First sets in a slice of any number of words, then sets of classes.
 use meaning::ClassNo;
+use meaning::limits::MOST_CLASSES;
 ghost use mathlib.Core.Path.{_≡_};
-ghost use mathlib.Core.Bool.{true, false, _||_, cond};
+ghost use mathlib.Core.Bool.{_||_, cond, false, true};
 ghost use mathlib.Core.Logic.{_↔_};
-ghost use Prim.Native.Nat.{ℕ, _+_, _<_, _≤_, _^_};
+ghost use Prim.Native.Nat.{_+_, _<_, _^_, _≤_, ℕ};
 ghost use lib.Dec.{eqb};
 ghost use lib.ListN.{length, replicate};
-ghost use Rattle.meaning.specs.Records.{named};
-ghost use Rattle.meaning.specs.Vocabulary.{mostClasses};
+ghost use Rattle.meaning.specs.Limits.{mostClasses};
+ghost use Rattle.meaning.specs.Records.{isName};
 ghost use Rattle.words.specs.Members.{members, nextMember};
-ghost use Rattle.words.specs.Sets.{capacity, inSet, including, unionOf};
 ghost use Rattle.words.specs.Rows.{classWords, putAt, rowAt};
+ghost use Rattle.words.specs.Sets.{capacity, inSet, including, unionOf};
 
 // A number as a place in a slice: a cast of an element read asks that the element fits, and this call does not.
 pub fn place(x: u32) -> usize
@@ -82,11 +83,8 @@ pub struct ClassSet {
 }
 
 impl ClassSet {
-    // The one number that a wider set changes here; the definitions take theirs from the most classes of a vocabulary.
-    pub const WORDS: usize = 8;
-
-    // The greatest class that a set has a bit for.
-    pub const MOST: u32 = 32 * (ClassSet::WORDS as u32);
+    // A bit for each class that a vocabulary may count.
+    pub const WORDS: usize = MOST_CLASSES as usize / 32;
 
     pub const EMPTY: ClassSet = ClassSet {
         words: [0; ClassSet::WORDS],
@@ -110,7 +108,7 @@ impl ClassSet {
     // The set with class c.
     pub fn with(self, c: ClassNo) -> Self
         ensures { λ r. ⌜ r .words ≡ including (self .words) (c .0) ⌝ }
-        ensures { λ r. ⌜ ((d : ℕ) → inSet (r .words) d ≡ cond (eqb d (c .0)) (named mostClasses d) (inSet (self .words) d)) ⌝ }
+        ensures { λ r. ⌜ ((d : ℕ) → inSet (r .words) d ≡ cond (eqb d (c .0)) (isName mostClasses d) (inSet (self .words) d)) ⌝ }
     {
         let mut words = self.words;
         insert(&mut words, c.0);

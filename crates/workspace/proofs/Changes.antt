@@ -7,10 +7,12 @@ use mathlib.Core.Path.{_∙_, _≡_, ap, refl, sym}
 use native.Mathlib.Omega.{arith}
 use borrow.Author.Tests.{eqb-false, eqb-true}
 use lib.Dec.{eqb}
-use lib.ListN.{List·getD-append, drop, getD, getD-replicate, length, length-append, length-drop, length-replicate, length-set, replicate, set}
+use lib.ListN.{List·getD-append, drop, getD, getD-replicate, length, length-append, length-drop, length-replicate, length-set}
+use lib.ListN.{replicate, set}
 use lib.Seq.{ext-getD, getD-append-add, getD-drop, getD-set-other, getD-set-same}
 use Rattle.meaning.proofs.Rules.{order}
-use Rattle.meaning.specs.Operations.{workSize, zeroed}
+use Rattle.meaning.specs.Limits.{workSize}
+use Rattle.meaning.specs.Operations.{zeroed}
 use Rattle.normal_form.proofs.Laws.{row-kept}
 use Rattle.words.specs.Rows.{rowAt}
 use Rattle.workspace.specs.Work.{Beyond, Cleared, Only}

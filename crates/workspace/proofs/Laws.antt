@@ -15,17 +15,18 @@ use Rattle.hierarchy.specs.Singles.{Singles}
 use Rattle.hierarchy.specs.declared.Functional.{Functional}
 use Rattle.meaning.proofs.Refusals.{cond-all, or-few, or-first, or-zero, policy-few, vocabulary-few}
 use Rattle.meaning.proofs.Rules.{order}
-use Rattle.meaning.proofs.Terms.{ChainOf}
 use Rattle.meaning.proofs.Wellformed.{accepted-counts}
+use Rattle.meaning.specs.Accepted.{ChainOf}
+use Rattle.meaning.specs.Limits.{workSize}
 use Rattle.meaning.specs.Lists.{all, counting}
 use Rattle.meaning.specs.NormalForm.{Form, normalForm, possible}
-use Rattle.meaning.specs.Operations.{inputRefusal, workRefusal, workSize}
-use Rattle.meaning.specs.Policy.{Chain, policyRefusal, second}
+use Rattle.meaning.specs.Operations.{inputRefusal, workRefusal}
+use Rattle.meaning.specs.Policy.{Chain, policyRefusal, secondRefusal}
 use Rattle.meaning.specs.Records.{orElse}
 use Rattle.meaning.specs.Vocabulary.{Vocabulary, classCount, roleCount, vocabularyOf, vocabularyRefusal}
 use Rattle.normal_form.proofs.Cleanness.{clean-not}
 use Rattle.normal_form.proofs.Groups.{closed-kept, prepared-same, ranged-kept}
-use Rattle.normal_form.specs.Clean.{TellsClean, filledAt}
+use Rattle.normal_form.specs.Clean.{DecidesClean, nonEmptyAt}
 use Rattle.normal_form.specs.Tables.{Normalised, Prepared, Tabled}
 use Rattle.normal_form.specs.declared.Tables.{Tables}
 use Rattle.words.specs.Rows.{classWords}
@@ -58,10 +59,10 @@ module _ (n w : ℕ) where
 pub input-few : (v p q : List ℕ) → inputRefusal v p q ≤ 18
 unfolding inputRefusal
 input-few v p q =
-    or-few 18 (vocabularyRefusal v) (orElse (policyRefusal v p) (second (policyRefusal v q))) (let a = vocabulary-few v in omega arith)
-    (or-few 18 (policyRefusal v p) (second (policyRefusal v q)) (let a = policy-few v p in omega arith) (go (policyRefusal v q) (policy-few v q)))
+    or-few 18 (vocabularyRefusal v) (orElse (policyRefusal v p) (secondRefusal (policyRefusal v q))) (let a = vocabulary-few v in omega arith)
+    (or-few 18 (policyRefusal v p) (secondRefusal (policyRefusal v q)) (let a = policy-few v p in omega arith) (go (policyRefusal v q) (policy-few v q)))
   where
-    go : (n : ℕ) → n ≤ 8 → second n ≤ 18
+    go : (n : ℕ) → n ≤ 8 → secondRefusal n ≤ 18
     go zero h = omega arith
     go (suc n) h = omega arith
 
@@ -117,20 +118,20 @@ module _ (v w : List ℕ) (a : vocabularyRefusal v ≡ 0) (full : workSize ≤ l
 -- ---- one simple policy
 
 -- with another flag
-flagged : {K : Vocabulary} {t : Form} {w : List ℕ} {r u : Tables} → u .individuals ≡ r .individuals → u .intervals ≡ r .intervals → Tabled K t w r → Tabled K t w u
+flagged : {K : Vocabulary} {t : Form} {w : List ℕ} {r u : Tables} → u .individuals ≡ r .individuals → u .constraints ≡ r .constraints → Tabled K t w r → Tabled K t w u
 flagged a b s = record { count = a ∙ s .count; top = b ∙ s .top; rows = s .rows; held = s .held }
 
 module _ {f : Functional} {d : Chain} {w w′ : List ℕ} {r : Tables} (full : workSize ≤ length w) (n : Normalised f d w w′ r) where
   abbrev barring : Bool → Tables
-  barring b = record { individuals = r .individuals; intervals = r .intervals; blocked = b }
+  barring b = record { individuals = r .individuals; constraints = r .constraints; impossible = b }
 
   shaped : (b : Bool) → ((v : List ℕ) → Prepared v w f → ChainOf v d → b ≡ true → possible (vocabularyOf v) d ≡ false) →
-      (b ≡ false → r .blocked ≡ false) → (b ≡ false → all (filledAt w′) (counting 0 (r .intervals)) ≡ true) → Shaped d f w w′ (barring b)
+      (b ≡ false → r .impossible ≡ false) → (b ≡ false → all (nonEmptyAt w′) (counting 0 (r .constraints)) ≡ true) → Shaped d f w w′ (barring b)
   unfolding possible
   shaped b bar out fill = record {
     tabled = λ v g o. flagged refl refl (n .tabled v g o);
-    barred = bar;
-    unbarred = λ v e. rw (sym (n .bars) ∙ out e);
+    bottomHere = bar;
+    unbarred = λ v e. rw (sym (n .bottom) ∙ out e);
     filled = fill;
     most = n .most;
     pairs = n .before pairsAt (omega arith);
@@ -138,30 +139,30 @@ module _ {f : Functional} {d : Chain} {w w′ : List ℕ} {r : Tables} (full : w
     beyond = record { size = n .same; rest = λ i h. n .behind i (omega arith) };
   }
 
-  pub shape-blocked : r .blocked ≡ true → Shaped d f w w′ r
+  pub shape-blocked : r .impossible ≡ true → Shaped d f w w′ r
   unfolding possible
   shape-blocked e =
       subst (λ (b : Bool). Shaped d f w w′ (barring b)) (sym e)
-      (shaped true (λ v g o h. rw (sym (n .bars) ∙ e)) (λ h. absurd (let z : _≡_ {A = ℕ} 0 1 = cc in omega arith)) (λ h. absurd (let z : _≡_ {A = ℕ} 0 1 = cc in omega arith)))
+      (shaped true (λ v g o h. rw (sym (n .bottom) ∙ e)) (λ h. absurd (let z : _≡_ {A = ℕ} 0 1 = cc in omega arith)) (λ h. absurd (let z : _≡_ {A = ℕ} 0 1 = cc in omega arith)))
 
-  pub shape-filled : {b : Bool} → r .blocked ≡ false → b ≡ all (filledAt w′) (counting 0 (r .intervals)) → Shaped d f w w′ (barring (not b))
+  pub shape-filled : {b : Bool} → r .impossible ≡ false → b ≡ all (nonEmptyAt w′) (counting 0 (r .constraints)) → Shaped d f w w′ (barring (not b))
   unfolding possible
   shape-filled {b} e h = go b h
     where
-      go : (b : Bool) → b ≡ all (filledAt w′) (counting 0 (r .intervals)) → Shaped d f w w′ (barring (not b))
+      go : (b : Bool) → b ≡ all (nonEmptyAt w′) (counting 0 (r .constraints)) → Shaped d f w w′ (barring (not b))
       go true h = shaped false (λ v g o y. absurd (let z : _≡_ {A = ℕ} 0 1 = cc in omega arith)) (λ y. e) (λ y. sym h)
-      go false h = shaped true (λ v g o y. rw (sym (n .bars) ∙ e) (sym (clean-not (vocabularyOf v) w′ r h refl (normalForm (vocabularyOf v) d) (n .tabled v g o)))) (λ y. absurd (let z : _≡_ {A = ℕ} 0 1 = cc in omega arith)) (λ y. absurd (let z : _≡_ {A = ℕ} 0 1 = cc in omega arith))
+      go false h = shaped true (λ v g o y. rw (sym (n .bottom) ∙ e) (sym (clean-not (vocabularyOf v) w′ r h refl (normalForm (vocabularyOf v) d) (n .tabled v g o)))) (λ y. absurd (let z : _≡_ {A = ℕ} 0 1 = cc in omega arith)) (λ y. absurd (let z : _≡_ {A = ℕ} 0 1 = cc in omega arith))
 
 module _ {f : Functional} {d : Chain} {w w′ : List ℕ} {r : Tables} (n : Shaped d f w w′ r) where
   told : (b : Bool) → ((v : List ℕ) → Prepared v w f → ChainOf v d → b ≡ not (possible (vocabularyOf v) d)) →
-      Tabulated d f w w′ (record { individuals = r .individuals; intervals = r .intervals; blocked = b })
+      Tabulated d f w w′ (record { individuals = r .individuals; constraints = r .constraints; impossible = b })
   told b e = record { impossible = e; tabled = λ v g o. flagged refl refl (n .tabled v g o); most = n .most; prepared = n .prepared; beyond = n .beyond }
 
-  pub term-blocked : r .blocked ≡ true → Tabulated d f w w′ r
+  pub term-blocked : r .impossible ≡ true → Tabulated d f w w′ r
   term-blocked e =
-      subst (λ (b : Bool). Tabulated d f w w′ (record { individuals = r .individuals; intervals = r .intervals; blocked = b })) (sym e)
-      (told true (λ v g o. ap not (sym (n .barred v g o e))))
+      subst (λ (b : Bool). Tabulated d f w w′ (record { individuals = r .individuals; constraints = r .constraints; impossible = b })) (sym e)
+      (told true (λ v g o. ap not (sym (n .bottomHere v g o e))))
 
-  pub term-clean : {b : Bool} → r .blocked ≡ false → TellsClean w′ r b →
-      Tabulated d f w w′ (record { individuals = r .individuals; intervals = r .intervals; blocked = not b })
+  pub term-clean : {b : Bool} → r .impossible ≡ false → DecidesClean w′ r b →
+      Tabulated d f w w′ (record { individuals = r .individuals; constraints = r .constraints; impossible = not b })
   term-clean {b} e h = told (not b) (λ v g o. ap not (h v (normalForm (vocabularyOf v) d) (n .prepared v g .paired) (n .tabled v g o) ∙ sym (n .unbarred v e)))

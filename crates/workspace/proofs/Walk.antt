@@ -4,17 +4,18 @@ use mathlib.Core.List.{List, [], _∷_}
 use mathlib.Core.Path.{_≡_, subst, sym}
 use lib.ListN.{length}
 use native.Mathlib.Omega.{arith}
-use Rattle.meaning.proofs.Links.{falling, falls}
+use Rattle.meaning.proofs.Links.{falls}
 use Rattle.meaning.proofs.Rules.{head, tail}
-use Rattle.meaning.proofs.Terms.{ChainOf, Here, Reads, ReadsTerms, chain-at, reads-none, reads-term, total}
+use Rattle.meaning.proofs.Terms.{chain-at}
 use Rattle.meaning.proofs.Wellformed.{accepted}
+use Rattle.meaning.specs.Accepted.{ChainOf, Here, Reads, ReadsTerms, reads-none, reads-term, total}
+use Rattle.meaning.specs.Limits.{mostRecords, workSize}
 use Rattle.meaning.specs.Lists.{All}
-use Rattle.meaning.specs.Operations.{workSize}
 use Rattle.meaning.specs.Policy.{Chain, Policy, childOf, firstTerm, nextOf, policyOf, policyRefusal}
-use Rattle.meaning.specs.Records.{lastOf}
+use Rattle.meaning.specs.Records.{falling, lastOf}
 use Rattle.meaning.specs.Vocabulary.{vocabularyRefusal}
 use Rattle.normal_form.proofs.Callers.{term-fits}
-use Rattle.normal_form.specs.Tables.{Fit, mostEntries, termAt}
+use Rattle.normal_form.specs.Tables.{Fit, termAt}
 
 -- the simple policies from record k on, the first of them at the place s, are still to be asked, and T holds of them
 pub record Asking (T : ℕ → Policy → Type 0) (v p : List ℕ) (s k : ℕ) : Type 0 where
@@ -22,7 +23,7 @@ pub record Asking (T : ℕ → Policy → Type 0) (v p : List ℕ) (s k : ℕ) :
   pub reads : ReadsTerms p k left
   pub named : All (ChainOf v) left
   pub from1 : 1 ≤ s
-  pub room : s + total left ≤ 513
+  pub room : s + total left ≤ suc mostRecords
   pub holds : T s left
 
 module _ {T : ℕ → Policy → Type 0} {v p : List ℕ} where
@@ -57,15 +58,15 @@ module _ {T : ℕ → Policy → Type 0} {v p : List ℕ} where
       reads : ReadsTerms p (nextOf p k) after
       first : ChainOf v (termAt p k)
       named : All (ChainOf v) after
-      few : total (termAt p k ∷ after) ≤ mostEntries
-      room : suc s + total after ≤ 513
+      few : total (termAt p k ∷ after) ≤ mostRecords
+      room : suc s + total after ≤ suc mostRecords
       holds : T s (termAt p k ∷ after)
 
     module _ (n : k ≡ 0 → ⊥) where
       next : Next
       next = go (t .reads) (t .named) (t .room) (t .holds)
         where
-          go : {l : Policy} → ReadsTerms p k l → All (ChainOf v) l → s + total l ≤ 513 → T s l → Next
+          go : {l : Policy} → ReadsTerms p k l → All (ChainOf v) l → s + total l ≤ suc mostRecords → T s l → Next
           go (reads-none e) a b q = absurd (n e)
           go (reads-term {c = c} {P = P} h e r m) a b q =
               let i : termAt p k ≡ c = chain-at r in
@@ -78,7 +79,7 @@ module _ {T : ℕ → Policy → Type 0} {v p : List ℕ} where
                 reads = m;
                 first = subst (ChainOf v) (sym i) (head a);
                 named = tail a;
-                few = subst (λ (x : Chain). total (x ∷ P) ≤ mostEntries) (sym i) (omega arith);
+                few = subst (λ (x : Chain). total (x ∷ P) ≤ mostRecords) (sym i) (omega arith);
                 room = omega arith;
                 holds = subst (λ (x : Chain). T s (x ∷ P)) (sym i) q;
               }
@@ -92,7 +93,7 @@ module _ {T : ℕ → Policy → Type 0} {v p : List ℕ} where
       pub asking-fits : {w : List ℕ} → vocabularyRefusal v ≡ 0 → workSize ≤ length w → Fit p w k
       asking-fits {w} a full = term-fits v w a (omega arith) (next .term) (next .first) (next .few)
 
-      pub asking-room : s + 1 ≤ 513
+      pub asking-room : s + 1 ≤ suc mostRecords
       asking-room = let r = next .room in omega arith
 
       -- what this one settles, whatever follows

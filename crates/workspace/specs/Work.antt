@@ -6,14 +6,14 @@ use mathlib.Core.Path.{_≡_}
 use lib.ListN.{getD, length}
 use Rattle.hierarchy.specs.Pairs.{pairCount}
 use Rattle.hierarchy.specs.declared.Functional.{Functional}
-use Rattle.meaning.proofs.Terms.{ChainOf}
+use Rattle.meaning.specs.Accepted.{ChainOf}
+use Rattle.meaning.specs.Limits.{mostRecords, workSize}
 use Rattle.meaning.specs.Lists.{all, counting}
 use Rattle.meaning.specs.NormalForm.{normalForm, possible}
-use Rattle.meaning.specs.Operations.{workSize}
 use Rattle.meaning.specs.Policy.{Chain, policyRefusal}
 use Rattle.meaning.specs.Vocabulary.{vocabularyOf}
-use Rattle.normal_form.specs.Clean.{cleanForm, filledAt}
-use Rattle.normal_form.specs.Tables.{Prepared, Tabled, mostEntries}
+use Rattle.normal_form.specs.Clean.{cleanForm, nonEmptyAt}
+use Rattle.normal_form.specs.Tables.{Prepared, Tabled}
 use Rattle.normal_form.specs.declared.Tables.{Tables}
 
 -- the words behind the first 16,384 are as they were
@@ -46,10 +46,10 @@ pub record Accepting (v p w : List ℕ) (f : Functional) : Type 0 where
 -- impossible, else each constraint has a value, and the term is possible where rules 3 and 7 find nothing
 pub record Shaped (c : Chain) (f : Functional) (w w′ : List ℕ) (r : Tables) : Type 0 where
   pub tabled : (v : List ℕ) → Prepared v w f → ChainOf v c → Tabled (vocabularyOf v) (normalForm (vocabularyOf v) c) w′ r
-  pub barred : (v : List ℕ) → Prepared v w f → ChainOf v c → r .blocked ≡ true → possible (vocabularyOf v) c ≡ false
-  pub unbarred : (v : List ℕ) → r .blocked ≡ false → possible (vocabularyOf v) c ≡ cleanForm (vocabularyOf v) (normalForm (vocabularyOf v) c)
-  pub filled : r .blocked ≡ false → all (filledAt w′) (counting 0 (r .intervals)) ≡ true
-  pub most : (r .individuals ≤ mostEntries) × (r .intervals ≤ mostEntries)
+  pub bottomHere : (v : List ℕ) → Prepared v w f → ChainOf v c → r .impossible ≡ true → possible (vocabularyOf v) c ≡ false
+  pub unbarred : (v : List ℕ) → r .impossible ≡ false → possible (vocabularyOf v) c ≡ cleanForm (vocabularyOf v) (normalForm (vocabularyOf v) c)
+  pub filled : r .impossible ≡ false → all (nonEmptyAt w′) (counting 0 (r .constraints)) ≡ true
+  pub most : (r .individuals ≤ mostRecords) × (r .constraints ≤ mostRecords)
   pub pairs : pairCount w′ ≡ pairCount w
   pub prepared : Stays f w w′
   pub beyond : Beyond w w′
@@ -57,8 +57,8 @@ pub record Shaped (c : Chain) (f : Functional) (w w′ : List ℕ) (r : Tables) 
 -- by whatever vocabulary is prepared and has the term's names, the tables hold the term's normal form, and the flag tells whether the term
 -- is impossible; what is prepared stays so
 pub record Tabulated (c : Chain) (f : Functional) (w w′ : List ℕ) (r : Tables) : Type 0 where
-  pub impossible : (v : List ℕ) → Prepared v w f → ChainOf v c → r .blocked ≡ not (possible (vocabularyOf v) c)
+  pub impossible : (v : List ℕ) → Prepared v w f → ChainOf v c → r .impossible ≡ not (possible (vocabularyOf v) c)
   pub tabled : (v : List ℕ) → Prepared v w f → ChainOf v c → Tabled (vocabularyOf v) (normalForm (vocabularyOf v) c) w′ r
-  pub most : (r .individuals ≤ mostEntries) × (r .intervals ≤ mostEntries)
+  pub most : (r .individuals ≤ mostRecords) × (r .constraints ≤ mostRecords)
   pub prepared : Stays f w w′
   pub beyond : Beyond w w′

@@ -1,21 +1,20 @@
 // The work slice through a call: what is prepared once, one simple policy's tables, and the words that are left 0.
 use hierarchy::Functional;
+use meaning::limits::WORK_SIZE;
 use normal_form::Tables;
-use normal_form::are_filled;
+use normal_form::are_nonempty;
 use normal_form::is_clean;
 use normal_form::normalise;
 ghost use mathlib.Core.Path.{_≡_};
 ghost use Prim.Native.Nat.{_+_, _≤_};
 ghost use lib.ListN.{length};
 ghost use Rattle.hierarchy.specs.Pairs.{mostPairs, pairCount};
-ghost use Rattle.meaning.specs.Operations.{workRefusal, workSize};
+ghost use Rattle.meaning.specs.Limits.{workSize};
+ghost use Rattle.meaning.specs.Operations.{workRefusal};
 ghost use Rattle.meaning.specs.Records.{orElse};
 ghost use Rattle.meaning.specs.Vocabulary.{vocabularyRefusal};
 ghost use Rattle.normal_form.specs.Tables.{Fit, Prepared, termAt};
 ghost use Rattle.workspace.specs.Work.{Beyond, Cleared, Shaped, Tabulated};
-
-// A work slice is full from so many words on.
-pub const WORK: usize = 16384;
 
 // The refusal before, else 21 where the work slice is not full; 0 for none.
 pub fn work_refusal(before: u32, work: &[u32]) -> u32
@@ -24,13 +23,13 @@ pub fn work_refusal(before: u32, work: &[u32]) -> u32
     if before != 0 {
         return before;
     }
-    if work.len() < WORK {
+    if work.len() < WORK_SIZE {
         return 21;
     }
     0
 }
 
-// The n words from a place on become 0: a table before it is filled, and all WORK words when an operation ends.
+// The n words from a place on become 0: a table before it is filled, and the first WORK_SIZE words when an operation ends.
 pub fn clear(work: &mut [u32], at: usize, n: usize)
     requires { ⌜ at + n ≤ length (now work) ⌝ }
     ensures { λ _. ⌜ Cleared at n (now (work .entry)) (now (work .exit)) ⌝ }
@@ -57,14 +56,14 @@ pub fn shape(p: &[u32], work: &mut [u32], f: Functional, k: u32) -> Tables
     ensures { λ r. ⌜ Shaped (termAt (now (p .entry)) k) f (now (work .entry)) (now (work .exit)) r ⌝ }
 {
     let t = normalise(p, work, f, k);
-    if t.blocked {
+    if t.impossible {
         return t;
     }
-    let filled = are_filled(work, t.intervals);
+    let filled = are_nonempty(work, t.constraints);
     Tables {
         individuals: t.individuals,
-        intervals: t.intervals,
-        blocked: !filled,
+        constraints: t.constraints,
+        impossible: !filled,
     }
 }
 
@@ -74,13 +73,13 @@ pub fn tabulate(p: &[u32], work: &mut [u32], f: Functional, k: u32) -> Tables
     ensures { λ r. ⌜ Tabulated (termAt (now (p .entry)) k) f (now (work .entry)) (now (work .exit)) r ⌝ }
 {
     let t = shape(p, work, f, k);
-    if t.blocked {
+    if t.impossible {
         return t;
     }
     let clean = is_clean(work, t);
     Tables {
         individuals: t.individuals,
-        intervals: t.intervals,
-        blocked: !clean,
+        constraints: t.constraints,
+        impossible: !clean,
     }
 }

@@ -5,8 +5,8 @@ use mathlib.Core.Path.{_∙_, _≡_, refl, sym}
 use native.Mathlib.Omega.{arith}
 use Rattle.combination.proofs.Laws.{next-behind, next-ends, next-here, next-on}
 use Rattle.combination.proofs.next_successor.Statement.{statement}
-use Rattle.combination.proofs.next_successor.Tie as tie
 use Rattle.combination.specs.Combination.{nextSuccessor}
+use Rattle.combination.proofs.next_successor.Tie as tie
 
 abbrev Inv-loop : tie.InvT-loop
 Inv-loop work n x j i₀ i = (i ≤ n) × (nextSuccessor work x (n - j) j ≡ nextSuccessor work x (n - i) i)

@@ -1,7 +1,8 @@
 use lib.ListN.{length}
 use native.Mathlib.Omega.{arith}
 use borrow.Author.Needs.{needs}
-use Rattle.containment.proofs.Complying.{complied-work, complies, complies-accepted, complies-few, complies-full, complies-ready, complies-refused, complies-right}
+use Rattle.containment.proofs.Complying.{complied-work, complies, complies-accepted, complies-few, complies-full}
+use Rattle.containment.proofs.Complying.{complies-ready, complies-refused, complies-right}
 use Rattle.containment.proofs.Laws.{early-work}
 use Rattle.containment.proofs.compliance.Statement.{statement}
 use Rattle.containment.proofs.compliance.Tie as tie
@@ -13,7 +14,7 @@ returns c =
     let e = c .before .before .before .input-refusal .ensures in
     let f = c .before .work-refusal .ensures in
     let d = complies-refused (a .v .now) (a .p .now) (a .q .now) w (a .out .now) e f (c .if1 .taken) in
-    record { answer = d .answer; output = d .output; work = early-work _ _ (complies-few (a .v .now) (a .p .now) (a .q .now) w (a .out .now) e f); right = tt }
+    record { answer = d .answer; output = d .output; work = early-work _ _ _ (complies-few (a .v .now) (a .p .now) (a .q .now) w (a .out .now) e f); right = tt }
 
 prepare-requires : tie.Need-prepare-requires
 prepare-requires c κs =
@@ -55,7 +56,7 @@ returns-2 c =
     record {
       answer = d .answer;
       output = d .output;
-      work = complied-work _ _ _ _ _ (g .1) (s .1 .0) (c .before .before .clear .ensures) (t .answer);
+      work = complied-work _ _ _ _ (g .1) (s .1 .0) (c .before .before .clear .ensures) (t .answer);
       right = complies-right (a .v .now) (a .p .now) (a .q .now) (a .out .now) _ w d;
     }
 

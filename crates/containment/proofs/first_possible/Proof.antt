@@ -2,21 +2,22 @@
 -- there. Some vocabulary is there, so that all is in place.
 use Prim.Native.Nat.{ℕ}
 use mathlib.Core.List.{List}
-use mathlib.Core.Path.{_∙_, _≡_, refl, sym}
+use mathlib.Core.Path.{_∙_, _≡_, ap, refl, sym}
 use native.Mathlib.Omega.{arith}
 use borrow.Author.Needs.{needs}
 use borrow.Author.Tests.{not-false, not-true}
 use Rattle.containment.proofs.Laws.{possible-found, possible-on}
 use Rattle.containment.proofs.first_possible.Statement.{statement}
-use Rattle.containment.proofs.first_possible.Tie as tie
-use Rattle.meaning.proofs.Links.{falling}
+use Rattle.meaning.specs.Answers.{result}
 use Rattle.meaning.specs.Operations.{possibleFrom}
 use Rattle.meaning.specs.Policy.{Policy, policyOf}
-use Rattle.meaning.specs.Records.{lastOf}
+use Rattle.meaning.specs.Records.{falling, lastOf}
 use Rattle.meaning.specs.Vocabulary.{vocabularyOf}
 use Rattle.workspace.proofs.Laws.{beyond-same, beyond-then}
-use Rattle.workspace.proofs.Walk.{Asking, asking-ends, asking-falls, asking-fits, asking-found, asking-named, asking-on, asking-room, asking-starts}
+use Rattle.workspace.proofs.Walk.{Asking, asking-ends, asking-falls, asking-fits, asking-found, asking-named, asking-on}
+use Rattle.workspace.proofs.Walk.{asking-room, asking-starts}
 use Rattle.workspace.specs.Work.{Accepting, Beyond, Stays}
+use Rattle.containment.proofs.first_possible.Tie as tie
 
 -- what the rest tells is what all tell
 abbrev Rest : List ℕ → List ℕ → ℕ → Policy → Type 0
@@ -43,7 +44,7 @@ returns c =
     let n = c .before .before .before .before .before .before .loop-test .taken in (
       λ v a.
           let x = i .0 v a in
-          asking-found x n (λ l e. sym (possible-found _ _ _ (t .impossible v (i .1 v (a .prepared)) (asking-named x n)) (not-true _ (c .if1 .taken)) l) ∙ e),
+          asking-found x n (λ l e. ap result (sym (possible-found _ _ _ (t .impossible v (i .1 v (a .prepared)) (asking-named x n)) (not-true _ (c .if1 .taken)) l) ∙ e)),
       beyond-then (i .2) (t .beyond),
     )
 
@@ -75,4 +76,4 @@ first-possible-spec =
     (λ c. asking-falls (c .before .before .before .before .before .before .before .before .loop .inv .0 (c .before .before .before .before .before .before .before .before .before .before .before .before .pre .1 .0) (c .before .before .before .before .before .before .before .before .before .before .before .before .pre .1 .1)) (c .before .before .before .before .before .before .before .loop-test .taken) (c .next-of .ensures))
     loop-again
     (λ c. c .before .loop .inv .2 .size)
-    (λ c. (λ v a. asking-ends (c .before .loop .inv .0 v a) (c .loop-test .left), c .before .loop .inv .2)))
+    (λ c. (λ v a. ap result (asking-ends (c .before .loop .inv .0 v a) (c .loop-test .left)), c .before .loop .inv .2)))

@@ -1,11 +1,12 @@
 use lib.ListN.{length}
 use native.Mathlib.Omega.{arith}
 use borrow.Author.Needs.{needs}
-use Rattle.containment.proofs.Laws.{accepting, answers, early-work, late-work, refuses, refuses-few, vocabulary-accepted, work-full}
+use Rattle.containment.proofs.Laws.{accepting, answers, early-work, late-work, refuses, refuses-few, vocabulary-accepted}
+use Rattle.containment.proofs.Laws.{work-full}
 use Rattle.containment.proofs.possible.Statement.{statement}
-use Rattle.containment.proofs.possible.Tie as tie
 use Rattle.meaning.specs.Policy.{policyOf}
 use Rattle.meaning.specs.Vocabulary.{vocabularyOf}
+use Rattle.containment.proofs.possible.Tie as tie
 
 returns : tie.Need-returns
 returns c =
@@ -13,7 +14,7 @@ returns c =
     let w = length (a .work .now) in
     let e = c .before .before .before .first-refusal .ensures in
     let f = c .before .work-refusal .ensures in
-    (refuses (a .v .now) (a .p .now) w e f (c .if1 .taken), early-work _ _ (refuses-few (a .v .now) (a .p .now) w e f))
+    record { answer = refuses (a .v .now) (a .p .now) w e f (c .if1 .taken); work = early-work _ _ _ (refuses-few (a .v .now) (a .p .now) w e f) }
 
 prepare-requires : tie.Need-prepare-requires
 prepare-requires c κs =
@@ -50,7 +51,7 @@ returns-2 c =
     let g = c .before .before .before .before .before .before .before .before .before .before .prepare .ensures in
     let t = c .before .before .before .before .before .before .first-possible .ensures in
     let all = t .0 (a .v .now) (accepting (a .v .now) (a .p .now) w e f n (g .0)) in
-    (answers (a .v .now) (a .p .now) w e f n all, late-work (vocabularyOf (a .v .now)) (policyOf (a .p .now)) (g .1) (t .1) (c .before .before .clear .ensures) all)
+    record { answer = answers (a .v .now) (a .p .now) w e f n all; work = late-work (vocabularyOf (a .v .now)) (policyOf (a .p .now)) (g .1) (t .1) (c .before .before .clear .ensures) all }
 
 pub possible-spec : {M : Type 1} → statement M
 possible-spec =

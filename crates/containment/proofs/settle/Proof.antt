@@ -5,10 +5,10 @@ use native.Mathlib.Omega.{arith}
 use borrow.Author.Needs.{needs}
 use Rattle.containment.proofs.Complying.{ready-accepts, ready-stays, settles, settles-22}
 use Rattle.containment.proofs.settle.Statement.{statement}
-use Rattle.containment.proofs.settle.Tie as tie
 use Rattle.meaning.proofs.Wellformed.{accepted}
 use Rattle.splitting.proofs.Callers.{collectable}
 use Rattle.workspace.proofs.Laws.{beyond-then}
+use Rattle.containment.proofs.settle.Tie as tie
 
 returns : tie.Need-returns
 returns c =

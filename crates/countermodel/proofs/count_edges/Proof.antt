@@ -7,8 +7,8 @@ use lib.ListN.{length}
 use Rattle.countermodel.proofs.Edges.{edges-end, edges-more, edges-start, edgesLeft}
 use Rattle.countermodel.proofs.Sizes.{edges-most}
 use Rattle.countermodel.proofs.count_edges.Statement.{statement}
-use Rattle.countermodel.proofs.count_edges.Tie as tie
 use Rattle.countermodel.specs.Facts.{edgeFacts}
+use Rattle.countermodel.proofs.count_edges.Tie as tie
 
 abbrev Inv-loop : tie.InvT-loop
 Inv-loop work n x found₀ j₀ found j = found + length (edgesLeft work x n j) ≡ length (edgeFacts work n x)

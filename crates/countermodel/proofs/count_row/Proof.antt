@@ -5,8 +5,8 @@ use native.Mathlib.Omega.{arith}
 use lib.ListN.{length}
 use Rattle.countermodel.proofs.Sizes.{row-counted, row-most}
 use Rattle.countermodel.proofs.count_row.Statement.{statement}
-use Rattle.countermodel.proofs.count_row.Tie as tie
 use Rattle.countermodel.specs.Facts.{factsAt}
+use Rattle.countermodel.proofs.count_row.Tie as tie
 
 returns : tie.Need-returns
 returns c =

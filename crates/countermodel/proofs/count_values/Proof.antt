@@ -7,8 +7,8 @@ use lib.ListN.{length}
 use Rattle.countermodel.proofs.Pairs.{values-end, values-more, values-start}
 use Rattle.countermodel.proofs.Sizes.{values-most}
 use Rattle.countermodel.proofs.count_values.Statement.{statement}
-use Rattle.countermodel.proofs.count_values.Tie as tie
 use Rattle.countermodel.specs.Facts.{valueFacts, valuesFrom}
+use Rattle.countermodel.proofs.count_values.Tie as tie
 
 abbrev Inv-loop : tie.InvT-loop
 Inv-loop work n x found₀ m₀ found m = found + length (valuesFrom work n x m) ≡ length (valueFacts work n x)

@@ -7,8 +7,8 @@ use lib.ListN.{length}
 use Rattle.countermodel.proofs.Model.{table-facts}
 use Rattle.countermodel.proofs.Sizes.{records-most, rows-end, rows-length}
 use Rattle.countermodel.proofs.size.Statement.{statement}
-use Rattle.countermodel.proofs.size.Tie as tie
 use Rattle.countermodel.specs.Facts.{factsFrom, recordCount}
+use Rattle.countermodel.proofs.size.Tie as tie
 
 abbrev Inv-loop : tie.InvT-loop
 Inv-loop work t n records₀ i₀ records i = (i ≤ n) × (records + length (factsFrom work t (n - i) i) ≡ recordCount work t)
@@ -53,7 +53,7 @@ returns c =
     let l = c .before .loop in
     let all : l .records ≡ recordCount (s .args .work .now) (s .args .t) =
     omega (arith, l .inv .1, ap length (rows-end (s .args .work .now) (s .args .t) (s .args .t .individuals) (l .i) (c .loop-test .left))) in
-    (all, λ N K u few bounded neat combined. all ∙ ap length (table-facts N K few bounded (s .args .work .now) (s .args .t) (s .pre) u neat combined))
+    (all, λ K u m. all ∙ ap length (table-facts (s .pre) m))
 
 pub size-spec : {M : Type 1} → statement M
 size-spec =

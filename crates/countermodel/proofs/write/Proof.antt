@@ -8,8 +8,8 @@ use Rattle.countermodel.proofs.Model.{table-words}
 use Rattle.countermodel.proofs.Output.{model-length, model-written}
 use Rattle.countermodel.proofs.Sizes.{records-most}
 use Rattle.countermodel.proofs.write.Statement.{statement}
-use Rattle.countermodel.proofs.write.Tie as tie
 use Rattle.meaning.specs.Operations.{outputAfter}
+use Rattle.countermodel.proofs.write.Tie as tie
 
 link-requires : tie.Need-link-requires
 link-requires c κs =
@@ -35,8 +35,8 @@ returns c =
     let rows = c .before .before .write-rows .ensures in
     let o = s .args .out .now in (
       model-length _ _ _ _ o _ (s .pre .1) (s .pre .2) rows,
-      λ N K u few bounded neat combined. model-written _ _ _ _ o _ (s .pre .1) (s .pre .2) rows (c .before .before .before .before .link .ensures)
-          ∙ ap (λ (ws : List ℕ). outputAfter ws o) (table-words N K few bounded (s .args .work .now) (s .args .t) (s .pre .0) u neat combined),
+      λ K u m. model-written _ _ _ _ o _ (s .pre .1) (s .pre .2) rows (c .before .before .before .before .link .ensures)
+          ∙ ap (λ (ws : List ℕ). outputAfter ws o) (table-words (s .pre .0) m),
     )
 
 pub write-spec : {M : Type 1} → statement M

@@ -6,9 +6,9 @@ use lib.ListN.{length}
 use Rattle.countermodel.proofs.Members.{members-end, members-more, members-start, membersLeft}
 use Rattle.countermodel.proofs.Output.{Left, left-end, left-start, turn-less, turn-more, turn-room}
 use Rattle.countermodel.proofs.write_classes.Statement.{statement}
-use Rattle.countermodel.proofs.write_classes.Tie as tie
 use Rattle.countermodel.specs.Facts.{memberFacts}
 use Rattle.normal_form.specs.Clean.{setAt}
+use Rattle.countermodel.proofs.write_classes.Tie as tie
 
 abbrev Inv-loop : tie.InvT-loop
 Inv-loop work i out₀ k last classes at₀ c₀ out at c = Left last k (memberFacts work i) out₀ at (membersLeft work i (c .0)) out

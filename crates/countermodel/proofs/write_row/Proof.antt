@@ -4,8 +4,8 @@ use native.Mathlib.Omega.{arith}
 use Rattle.countermodel.proofs.Output.{three-written}
 use Rattle.countermodel.proofs.Sizes.{row-length}
 use Rattle.countermodel.proofs.write_row.Statement.{statement}
-use Rattle.countermodel.proofs.write_row.Tie as tie
 use Rattle.countermodel.specs.Facts.{factsAt}
+use Rattle.countermodel.proofs.write_row.Tie as tie
 
 write-classes-requires : tie.Need-write-classes-requires
 write-classes-requires c κs =

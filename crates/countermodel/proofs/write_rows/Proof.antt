@@ -6,8 +6,8 @@ use native.Mathlib.Omega.{arith}
 use Rattle.countermodel.proofs.Output.{Left, left-end, left-more, left-start}
 use Rattle.countermodel.proofs.Sizes.{rows-end, rows-length, rows-more}
 use Rattle.countermodel.proofs.write_rows.Statement.{statement}
-use Rattle.countermodel.proofs.write_rows.Tie as tie
 use Rattle.countermodel.specs.Facts.{factsFrom, tableFacts}
+use Rattle.countermodel.proofs.write_rows.Tie as tie
 
 abbrev Inv-loop : tie.InvT-loop
 Inv-loop work t last out₀ n k₀ i₀ out k i = (i ≤ n) × Left last 1 (tableFacts work t) out₀ k (factsFrom work t (n - i) i) out

@@ -6,9 +6,9 @@ use Rattle.combination.specs.Combination.{pieceAt}
 use Rattle.countermodel.proofs.Output.{Left, left-end, left-start, turn-less, turn-more, turn-room}
 use Rattle.countermodel.proofs.Pairs.{values-end, values-here, values-more, values-start}
 use Rattle.countermodel.proofs.write_values.Statement.{statement}
-use Rattle.countermodel.proofs.write_values.Tie as tie
 use Rattle.countermodel.specs.Facts.{valueFacts, valuesFrom}
-use Rattle.meaning.specs.Splitting.{valueOf}
+use Rattle.meaning.specs.Intervals.{valueOf}
+use Rattle.countermodel.proofs.write_values.Tie as tie
 
 abbrev Inv-loop : tie.InvT-loop
 Inv-loop work n x out₀ k last at₀ m₀ out at m = Left last k (valueFacts work n x) out₀ at (valuesFrom work n x m) out

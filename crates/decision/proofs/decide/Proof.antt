@@ -6,16 +6,15 @@ use mathlib.Core.Path.{_∙_, _≡_, ap, refl}
 use lib.ListN.{length}
 use native.Mathlib.Omega.{arith}
 use borrow.Author.Needs.{needs}
-use Rattle.decision.proofs.Deciding.{Undecided, delivers-compliant, term-beyond, term-fails, term-few, term-passes, term-standing}
-use Rattle.decision.proofs.Deciding.{term-stays, term-triable, undecided-starts}
+use Rattle.decision.proofs.Deciding.{Undecided, delivers-compliant, term-beyond, term-fails, term-few, term-passes}
+use Rattle.decision.proofs.Deciding.{term-standing, term-stays, term-triable, undecided-starts}
 use Rattle.decision.proofs.decide.Statement.{statement}
-use Rattle.decision.proofs.decide.Tie as tie
 use Rattle.decision.specs.Decisions.{Countable}
-use Rattle.meaning.proofs.Links.{falling}
-use Rattle.meaning.specs.Records.{lastOf}
+use Rattle.meaning.specs.Records.{falling, lastOf}
 use Rattle.workspace.proofs.Laws.{beyond-same, beyond-then}
 use Rattle.workspace.proofs.Walk.{Asking, asking-ends, asking-falls, asking-fits, asking-named, asking-room, asking-starts}
 use Rattle.workspace.specs.Work.{Beyond, Stays}
+use Rattle.decision.proofs.decide.Tie as tie
 
 abbrev Inv-loop : tie.InvT-loop
 Inv-loop p q work₀ f ends out₀ s₀ k₀ work out s k =
@@ -76,7 +75,7 @@ loop-again c =
 returns-2 : tie.Need-returns-2 Inv-loop μ-loop
 returns-2 c =
     let i = c .before .loop .inv in
-    (λ v a. delivers-compliant _ _ _ _ _ (i .3) (asking-ends (i .0 v a) (c .loop-test .left) .0), ((i .1, i .2), ap length (i .3)))
+    (λ v a. delivers-compliant _ _ _ _ (i .3) (asking-ends (i .0 v a) (c .loop-test .left) .0), ((i .1, i .2), ap length (i .3)))
 
 pub decide-spec : {M : Type 1} → statement M
 decide-spec =

@@ -7,12 +7,12 @@ use native.Mathlib.Omega.{arith}
 use borrow.Author.Needs.{needs}
 use Rattle.decision.proofs.Deciding.{Uncounted, uncounted-ends, uncounted-found, uncounted-on, uncounted-starts}
 use Rattle.decision.proofs.has_too_many.Statement.{statement}
-use Rattle.decision.proofs.has_too_many.Tie as tie
-use Rattle.meaning.proofs.Links.{falling}
-use Rattle.meaning.specs.Records.{lastOf}
+use Rattle.meaning.specs.Records.{falling, lastOf}
 use Rattle.workspace.proofs.Laws.{beyond-same, beyond-then}
-use Rattle.workspace.proofs.Walk.{Asking, asking-ends, asking-falls, asking-fits, asking-found, asking-named, asking-on, asking-starts}
+use Rattle.workspace.proofs.Walk.{Asking, asking-ends, asking-falls, asking-fits, asking-found, asking-named, asking-on}
+use Rattle.workspace.proofs.Walk.{asking-starts}
 use Rattle.workspace.specs.Work.{Accepting, Beyond, Stays}
+use Rattle.decision.proofs.has_too_many.Tie as tie
 
 abbrev Inv-loop : tie.InvT-loop
 Inv-loop p work₀ f ends first k₀ work k =

@@ -1,8 +1,8 @@
 -- `answer`: what is decided, printed.
 use borrow.Author.Needs.{needs}
+use Rattle.desk.proofs.answer.Statement.{statement}
 use Rattle.text.proofs.Outcomes.{answer-printed}
 use Rattle.text.proofs.Printing.{put-within}
-use Rattle.desk.proofs.answer.Statement.{statement}
 use Rattle.desk.proofs.answer.Tie as tie
 
 pub answer-spec : {M : Type 1} → statement M

@@ -5,10 +5,10 @@ use lib.ListN.{length}
 use lib.Seq.{length-take-le}
 use mathlib.Core.Path.{_∙_, sym}
 use native.Mathlib.Omega.{arith}
-use Rattle.text.proofs.Outcomes.{decided-long, input-shown, refusal-shown}
 use Rattle.desk.proofs.decide_input.Statement.{statement}
+use Rattle.meaning.specs.Limits.{mostBytes}
+use Rattle.text.proofs.Outcomes.{decided-long, input-shown, refusal-shown}
 use Rattle.desk.proofs.decide_input.Tie as tie
-use Rattle.input.specs.Input.{mostBytes}
 
 pub decide-input-spec : {M : Type 1} → statement M
 decide-input-spec =

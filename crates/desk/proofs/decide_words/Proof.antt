@@ -2,8 +2,8 @@
 use borrow.Author.Needs.{needs}
 use borrow.Author.Tests.{not-false, not-true}
 use mathlib.Core.Path.{_∙_, sym}
-use Rattle.text.proofs.Outcomes.{first-stands, refusal-shown, second-stands, third-stands, words-inexact, words-shown}
 use Rattle.desk.proofs.decide_words.Statement.{statement}
+use Rattle.text.proofs.Outcomes.{first-stands, refusal-shown, second-stands, third-stands, words-inexact, words-shown}
 use Rattle.desk.proofs.decide_words.Tie as tie
 
 pub decide-words-spec : {M : Type 1} → statement M

@@ -3,13 +3,13 @@ use mathlib.Core.Path.{_∙_, refl, sym}
 use lib.Seq.{length-take-le}
 use native.Mathlib.Omega.{arith}
 use borrow.Author.Needs.{needs}
-use Rattle.equality.proofs.Comparing.{compares-22, compares-both, compares-none}
 use Rattle.containment.proofs.Complying.{ready-accepts, ready-back, ready-stays}
+use Rattle.equality.proofs.Comparing.{compares-22, compares-both, compares-none}
 use Rattle.equality.proofs.compare.Statement.{statement}
-use Rattle.equality.proofs.compare.Tie as tie
 use Rattle.meaning.proofs.Wellformed.{accepted}
 use Rattle.splitting.proofs.Callers.{collectable}
 use Rattle.workspace.proofs.Laws.{beyond-then}
+use Rattle.equality.proofs.compare.Tie as tie
 
 has-too-many-requires-2 : tie.Need-has-too-many-requires-2
 has-too-many-requires-2 c κs =

@@ -3,8 +3,8 @@ use mathlib.Core.Path.{_∙_}
 use borrow.Author.Needs.{needs}
 use Rattle.equality.proofs.Comparing.{countable-back, countable-forth, differs-back, differs-outside, differs-refused}
 use Rattle.equality.proofs.differ.Statement.{statement}
-use Rattle.equality.proofs.differ.Tie as tie
 use Rattle.workspace.proofs.Laws.{beyond-then}
+use Rattle.equality.proofs.differ.Tie as tie
 
 decide-requires-2 : tie.Need-decide-requires-2
 decide-requires-2 c κs =

@@ -1,9 +1,9 @@
 use lib.ListN.{length}
 use native.Mathlib.Omega.{arith}
 use borrow.Author.Needs.{needs}
-use Rattle.equality.proofs.Comparing.{compared-work, compares, compares-refused, compares-right}
 use Rattle.containment.proofs.Complying.{complies-accepted, complies-few, complies-full, complies-ready}
 use Rattle.containment.proofs.Laws.{early-work}
+use Rattle.equality.proofs.Comparing.{compared-work, compares, compares-refused, compares-right}
 use Rattle.equality.proofs.equality.Statement.{statement}
 use Rattle.equality.proofs.equality.Tie as tie
 
@@ -14,7 +14,7 @@ returns c =
     let e = c .before .before .before .input-refusal .ensures in
     let f = c .before .work-refusal .ensures in
     let d = compares-refused (a .v .now) (a .p .now) (a .q .now) w (a .out .now) e f (c .if1 .taken) in
-    record { answer = d .answer; output = d .output; work = early-work _ _ (complies-few (a .v .now) (a .p .now) (a .q .now) w (a .out .now) e f); right = tt }
+    record { answer = d .answer; output = d .output; work = early-work _ _ _ (complies-few (a .v .now) (a .p .now) (a .q .now) w (a .out .now) e f); right = tt }
 
 prepare-requires : tie.Need-prepare-requires
 prepare-requires c κs =
@@ -56,7 +56,7 @@ returns-2 c =
     record {
       answer = d .answer;
       output = d .output;
-      work = compared-work _ _ _ _ _ (g .1) (s .1 .0) (c .before .before .clear .ensures) (t .answer);
+      work = compared-work _ _ _ _ (g .1) (s .1 .0) (c .before .before .clear .ensures) (t .answer);
       right = compares-right (a .v .now) (a .p .now) (a .q .now) (a .out .now) _ w d;
     }
 

@@ -1,10 +1,10 @@
 use mathlib.Core.Path.{ap, sym}
 use borrow.Author.Needs.{needs}
 use Rattle.equality.proofs.sided.Statement.{statement}
-use Rattle.equality.proofs.sided.Tie as tie
 use Rattle.equality.specs.Comparisons.{sidedAnswer}
 use Rattle.meaning.specs.Answers.{verdictAnswer}
 use Rattle.meaning.specs.declared.Verdict.{Verdict}
+use Rattle.equality.proofs.sided.Tie as tie
 
 pub sided-spec : {M : Type 1} → statement M
 sided-spec =

@@ -3,19 +3,18 @@ use borrow.Author.Needs.{needs}
 use Prim.Native.Nat.{_<_, ℕ}
 use mathlib.Core.Path.{subst}
 use borrow.Fn.Kinds.{In}
-use borrow.Fn.PlainCycle.{Measures, is, falls, and}
-use Rattle.meaning.proofs.Links.{falling}
-use Rattle.meaning.specs.Records.{lastOf}
+use borrow.Fn.PlainCycle.{Measures, and, falls, is}
+use Rattle.extension.proofs.+settle_all.{statement}
+use Rattle.extension.proofs.+settle_all.Tie.{close}
 use Rattle.extension.proofs.Conjuncts.{child-charted, child-falls, next-charted, next-falls}
 use Rattle.extension.proofs.Settling.{filled-none, filled-placed, filled-ready, filled-then}
+use Rattle.meaning.specs.Records.{falling, lastOf}
 use Rattle.extension.proofs.settle_all.Reads as settle-all
 use Rattle.extension.proofs.settle_all.Kinds as settle-all-kinds
 use Rattle.extension.proofs.+settle_all.Lts-settle_all as settle-all-lts
 use Rattle.extension.proofs.child_at.Reads as child-at-reads
 use Rattle.extension.proofs.settle.Reads as settle-reads
 use Rattle.policy.proofs.next_of.Reads as next-of-reads
-use Rattle.extension.proofs.+settle_all.{statement}
-use Rattle.extension.proofs.+settle_all.Tie.{close}
 
 abbrev μ-settle-all : Measures 3 settle-all-kinds.ps ℕ
 μ-settle-all κs a = falling (lastOf 6 (a .0 .now)) (a .1 .1 .1 .0)

@@ -1,16 +1,16 @@
-use Prim.Native.Nat.{_+_, _-_, ℕ, _≤_}
+use Prim.Native.Nat.{_+_, _-_, _≤_, ℕ}
 use mathlib.Core.Bool.{true}
 use mathlib.Core.Path.{_≡_}
 use native.Mathlib.Omega.{arith}
 use borrow.Author.Needs.{needs}
 use Rattle.extension.proofs.Sets.{everyone-more}
 use Rattle.extension.proofs.include_all.Statement.{statement}
-use Rattle.extension.proofs.include_all.Tie as tie
 use Rattle.extension.specs.Places.{individualWords, setOf, setsAt, setsSize}
 use Rattle.satisfaction.proofs.Rows.{put-inside}
 use Rattle.words.specs.Sets.{inSet}
 use Rattle.workspace.proofs.Changes.{only-none}
 use Rattle.workspace.specs.Work.{Only}
+use Rattle.extension.proofs.include_all.Tie as tie
 
 abbrev Inv-loop : tie.InvT-loop
 Inv-loop m work₀ n i₀ work i = (i ≤ n) × ((d : ℕ) → 1 ≤ d → d ≤ i → inSet (setOf work 0) d ≡ true) × Only setsAt setsSize work₀ work

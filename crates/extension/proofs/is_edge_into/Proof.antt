@@ -1,9 +1,9 @@
 use borrow.Author.Needs.{needs}
 use Rattle.extension.proofs.Facts.{edge-into, edge-other, no-edge}
 use Rattle.extension.proofs.is_edge_into.Statement.{statement}
-use Rattle.extension.proofs.is_edge_into.Tie as tie
 use Rattle.extension.specs.Places.{setOf}
 use Rattle.words.specs.Sets.{inSet}
+use Rattle.extension.proofs.is_edge_into.Tie as tie
 
 returns : tie.Need-returns
 returns c =

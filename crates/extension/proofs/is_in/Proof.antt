@@ -1,13 +1,13 @@
 use Prim.Native.Nat.{ℕ}
 use mathlib.Core.List.{List}
-use mathlib.Core.Path.{ap, _∙_}
+use mathlib.Core.Path.{_∙_, ap}
 use borrow.Author.Needs.{needs}
 use Rattle.extension.proofs.is_in.Statement.{statement}
-use Rattle.extension.proofs.is_in.Tie as tie
 use Rattle.extension.specs.Places.{individualWords}
 use Rattle.words.proofs.Rows.{row-part}
 use Rattle.words.specs.Rows.{rowAt}
 use Rattle.words.specs.Sets.{inSet}
+use Rattle.extension.proofs.is_in.Tie as tie
 
 returns : tie.Need-returns
 returns c =

@@ -1,20 +1,20 @@
 use Prim.Native.Nat.{_+_, ℕ}
 use mathlib.Core.List.{List}
-use mathlib.Core.Path.{refl, _∙_, _≡_}
+use mathlib.Core.Path.{_∙_, _≡_, refl}
 use borrow.Author.Needs.{needs}
-use Rattle.meaning.proofs.Links.{falling}
-use Rattle.meaning.specs.ModelCheck.{factsOf, isIn}
-use Rattle.meaning.specs.Policy.{Policy, policyOf}
-use Rattle.meaning.specs.Records.{lastOf}
 use Rattle.extension.proofs.Policies.{first-in, first-out, term-charted, term-inside}
 use Rattle.extension.proofs.Settling.{filled-ready}
 use Rattle.extension.proofs.is_in_some.Statement.{statement}
-use Rattle.extension.proofs.is_in_some.Tie as tie
 use Rattle.extension.specs.Places.{setsAt, setsSize}
 use Rattle.extension.specs.Sets.{Ready}
+use Rattle.meaning.specs.Model.{factsOf}
+use Rattle.meaning.specs.ModelCheck.{isIn}
+use Rattle.meaning.specs.Policy.{Policy, policyOf}
+use Rattle.meaning.specs.Records.{falling, lastOf}
 use Rattle.workspace.proofs.Changes.{only-none, only-then}
 use Rattle.workspace.proofs.Walk.{Asking, asking-conjuncts, asking-ends, asking-falls, asking-found, asking-on, asking-starts}
 use Rattle.workspace.specs.Work.{Only}
+use Rattle.extension.proofs.is_in_some.Tie as tie
 
 -- what the rest tells is what all tell
 abbrev Rest : List ℕ → List ℕ → ℕ → Policy → Type 0

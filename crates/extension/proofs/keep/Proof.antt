@@ -2,9 +2,9 @@ use mathlib.Core.Path.{_∙_}
 use native.Mathlib.Omega.{arith}
 use borrow.Author.Needs.{needs}
 use Rattle.extension.proofs.keep.Statement.{statement}
-use Rattle.extension.proofs.keep.Tie as tie
 use Rattle.extension.specs.Places.{individualWords}
 use Rattle.satisfaction.proofs.Rows.{put-size}
+use Rattle.extension.proofs.keep.Tie as tie
 
 same-length : tie.Need-same-length
 same-length c =

@@ -4,10 +4,10 @@ use borrow.Author.Needs.{needs}
 use Rattle.extension.proofs.Marking.{Telling, telling-ends, telling-on, telling-only, telling-starts}
 use Rattle.extension.proofs.Sets.{ready-kept}
 use Rattle.extension.proofs.mark_all_members.Statement.{statement}
-use Rattle.extension.proofs.mark_all_members.Tie as tie
 use Rattle.extension.specs.Places.{individualWords, setPlace}
 use Rattle.workspace.proofs.Changes.{only-none}
 use Rattle.workspace.specs.Work.{Only}
+use Rattle.extension.proofs.mark_all_members.Tie as tie
 
 abbrev Inv-loop : tie.InvT-loop
 Inv-loop p m work₀ k n i₀ work i = (i ≤ n) × Telling p m k work₀ work i × Only (setPlace k) individualWords work₀ work

@@ -1,15 +1,14 @@
 use native.Mathlib.Omega.{arith}
 use borrow.Author.Needs.{needs}
-use Rattle.meaning.proofs.Links.{falling}
-use Rattle.meaning.specs.Records.{lastOf}
-use Rattle.model.proofs.Chain.{Scanning, scanning-ends, scanning-falls, scanning-on, scanning-starts, scanning-stated}
 use Rattle.extension.proofs.Marking.{Marking, marking-ends, marking-on, marking-only, marking-starts}
 use Rattle.extension.proofs.Sets.{placed-kept}
 use Rattle.extension.proofs.mark_all_shown.Statement.{statement}
-use Rattle.extension.proofs.mark_all_shown.Tie as tie
 use Rattle.extension.specs.Places.{individualWords, setPlace}
+use Rattle.meaning.specs.Records.{falling, lastOf}
+use Rattle.model.proofs.Chain.{Scanning, scanning-ends, scanning-falls, scanning-on, scanning-starts, scanning-stated}
 use Rattle.workspace.proofs.Changes.{only-none}
 use Rattle.workspace.specs.Work.{Only}
+use Rattle.extension.proofs.mark_all_shown.Tie as tie
 
 abbrev Inv-loop : tie.InvT-loop
 Inv-loop p m work₀ k f₀ work f = Scanning (Marking p m k work₀ work) m f × Only (setPlace k) individualWords work₀ work

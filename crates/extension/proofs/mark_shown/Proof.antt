@@ -1,12 +1,12 @@
-use mathlib.Core.Path.{sym, _∙_}
+use mathlib.Core.Path.{_∙_, sym}
 use native.Mathlib.Omega.{arith}
 use borrow.Author.Needs.{needs}
-use Rattle.meaning.specs.ModelCheck.{factAt, factsOf}
 use Rattle.extension.proofs.Marking.{marked-one, unmarked}
 use Rattle.extension.proofs.Sets.{kept-size}
 use Rattle.extension.proofs.mark_shown.Statement.{statement}
-use Rattle.extension.proofs.mark_shown.Tie as tie
+use Rattle.meaning.specs.Model.{factAt, factsOf}
 use Rattle.satisfaction.proofs.Statements.{owner-at}
+use Rattle.extension.proofs.mark_shown.Tie as tie
 
 does-show-requires : tie.Need-does-show-requires
 does-show-requires c κs =

@@ -1,19 +1,19 @@
 use borrow.Author.Needs.{needs}
-use Prim.Native.Nat.{ℕ, _<_}
+use Prim.Native.Nat.{_<_, ℕ}
 use native.Mathlib.Omega.{arith}
-use Rattle.words.specs.Sets.{wordSum}
-use Rattle.hierarchy.proofs.Raising.{Raising, raising-call, raising-ends, raising-falls, raising-fits, raising-length, raising-less}
-use Rattle.hierarchy.proofs.Raising.{raising-on, raising-starts, raising-within}
 use borrow.Fn.Kinds.{In}
-use borrow.Fn.PlainCycle.{Measures, is, falls, and}
+use borrow.Fn.PlainCycle.{Measures, and, falls, is}
+use Rattle.hierarchy.proofs.+raise.{statement}
+use Rattle.hierarchy.proofs.+raise.Tie.{close}
+use Rattle.hierarchy.proofs.Raising.{Raising, raising-call, raising-ends, raising-falls, raising-fits, raising-length}
+use Rattle.hierarchy.proofs.Raising.{raising-less, raising-on, raising-starts, raising-within}
+use Rattle.words.specs.Sets.{wordSum}
 use Rattle.hierarchy.proofs.raise.Reads as raise
 use Rattle.hierarchy.proofs.raise.Kinds as raise-kinds
 use Rattle.hierarchy.proofs.+raise.Lts-raise as raise-lts
 use Rattle.hierarchy.proofs.lift.Reads as lift-reads
 use Rattle.vocabulary.proofs.axiom_right.Reads as axiom-right-reads
 use Rattle.words.proofs.place.Reads as place-reads
-use Rattle.hierarchy.proofs.+raise.{statement}
-use Rattle.hierarchy.proofs.+raise.Tie.{close}
 
 -- each call takes a head
 abbrev μ-raise : Measures 4 raise-kinds.ps ℕ

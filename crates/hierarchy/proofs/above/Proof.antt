@@ -2,8 +2,8 @@ use borrow.Author.Needs.{needs}
 use Prim.Native.Nat.{ℕ}
 use mathlib.Core.List.{List}
 use mathlib.Core.Path.{_∙_, ap}
-use Rattle.words.specs.Sets.{inSet}
 use Rattle.hierarchy.proofs.above.Statement.{statement}
+use Rattle.words.specs.Sets.{inSet}
 use Rattle.hierarchy.proofs.above.Tie as tie
 
 returns : tie.Need-returns

@@ -2,13 +2,13 @@ use Prim.Native.Nat.{_+_, _-_, _≤_, ℕ}
 use borrow.Author.Needs.{needs}
 use lib.ListN.{length}
 use mathlib.Core.List.{List}
-use mathlib.Core.Path.{_≡_, _∙_, ap, refl}
+use mathlib.Core.Path.{_∙_, _≡_, ap, refl}
 use native.Mathlib.Omega.{arith}
-use Rattle.words.specs.Sets.{including}
-use Rattle.hierarchy.specs.Rows.{begun, empty}
 use Rattle.hierarchy.proofs.Passes.{begun-length}
 use Rattle.hierarchy.proofs.Steps.{filled-more, filled-none}
 use Rattle.hierarchy.proofs.begin.Statement.{statement}
+use Rattle.hierarchy.specs.Rows.{begun, empty}
+use Rattle.words.specs.Sets.{including}
 use Rattle.hierarchy.proofs.begin.Tie as tie
 
 abbrev Inv-loop : tie.InvT-loop

@@ -2,7 +2,8 @@ use borrow.Author.Needs.{needs}
 use lib.ListN.{length}
 use native.Mathlib.Omega.{arith}
 use Rattle.hierarchy.proofs.Passes.{Held}
-use Rattle.hierarchy.proofs.Raising.{close-begun, close-ends, close-fits, close-length, close-less, close-on, close-starts, slack}
+use Rattle.hierarchy.proofs.Raising.{close-begun, close-ends, close-fits, close-length, close-less, close-on, close-starts}
+use Rattle.hierarchy.proofs.Raising.{slack}
 use Rattle.hierarchy.proofs.close.Statement.{statement}
 use Rattle.hierarchy.proofs.close.Tie as tie
 

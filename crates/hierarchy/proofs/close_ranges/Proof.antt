@@ -1,16 +1,15 @@
 use borrow.Author.Needs.{needs}
 use lib.ListN.{length}
-use mathlib.Core.Path.{_≡_, _∙_, ap, refl}
+use mathlib.Core.Path.{_∙_, _≡_, ap, refl}
 use native.Mathlib.Omega.{arith}
-use Rattle.meaning.proofs.Links.{falling}
-use Rattle.meaning.proofs.Wellformed.{accepted-counts, axiom-named}
-use Rattle.meaning.specs.Records.{lastOf}
-use Rattle.meaning.specs.Vocabulary.{axiomAt}
-use Rattle.vocabulary.proofs.Chain.{Walking, walking-ends, walking-falls, walking-fits, walking-on, walking-starts}
-use Rattle.hierarchy.specs.Rows.{widened}
 use Rattle.hierarchy.proofs.Ranges.{ranged-all}
 use Rattle.hierarchy.proofs.Steps.{empties, empties-length, widened-length}
 use Rattle.hierarchy.proofs.close_ranges.Statement.{statement}
+use Rattle.hierarchy.specs.Rows.{widened}
+use Rattle.meaning.proofs.Wellformed.{accepted-counts, axiom-named}
+use Rattle.meaning.specs.Records.{falling, lastOf}
+use Rattle.meaning.specs.Vocabulary.{axiomAt}
+use Rattle.vocabulary.proofs.Chain.{Walking, walking-ends, walking-falls, walking-fits, walking-on, walking-starts}
 use Rattle.hierarchy.proofs.close_ranges.Tie as tie
 
 abbrev Inv-loop : tie.InvT-loop

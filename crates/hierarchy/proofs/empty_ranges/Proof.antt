@@ -1,13 +1,13 @@
 use Prim.Native.Nat.{_+_, _-_, _≤_}
 use borrow.Author.Needs.{needs}
 use lib.ListN.{length}
-use mathlib.Core.Path.{_≡_, _∙_, ap, refl}
+use mathlib.Core.Path.{_∙_, _≡_, ap, refl}
 use native.Mathlib.Omega.{arith}
-use Rattle.meaning.specs.Vocabulary.{mostClasses}
-use Rattle.hierarchy.specs.Rows.{empty, emptied}
 use Rattle.hierarchy.proofs.Rows.{filled-length}
 use Rattle.hierarchy.proofs.Steps.{filled-more, filled-none}
 use Rattle.hierarchy.proofs.empty_ranges.Statement.{statement}
+use Rattle.hierarchy.specs.Rows.{emptied, empty}
+use Rattle.meaning.specs.Limits.{mostClasses}
 use Rattle.hierarchy.proofs.empty_ranges.Tie as tie
 
 abbrev Inv-loop : tie.InvT-loop

@@ -1,8 +1,7 @@
 use borrow.Author.Needs.{needs}
-use Rattle.meaning.proofs.Links.{falling}
-use Rattle.meaning.specs.Records.{lastOf}
 use Rattle.hierarchy.proofs.Raising.{Indexing, indexing-ends, indexing-falls, indexing-met, indexing-on, indexing-starts}
 use Rattle.hierarchy.proofs.index.Statement.{statement}
+use Rattle.meaning.specs.Records.{falling, lastOf}
 use Rattle.hierarchy.proofs.index.Tie as tie
 
 abbrev Inv-loop : tie.InvT-loop

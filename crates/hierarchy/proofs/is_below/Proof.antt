@@ -2,9 +2,9 @@ use Prim.Native.Nat.{ℕ}
 use borrow.Author.Needs.{needs}
 use mathlib.Core.Path.{_∙_, ap}
 use native.Mathlib.Omega.{arith}
+use Rattle.hierarchy.proofs.is_below.Statement.{statement}
 use Rattle.words.specs.Rows.{classWords, rowAt}
 use Rattle.words.specs.Sets.{inSet}
-use Rattle.hierarchy.proofs.is_below.Statement.{statement}
 use Rattle.hierarchy.proofs.is_below.Tie as tie
 
 returns : tie.Need-returns

@@ -3,11 +3,10 @@ use borrow.Author.Needs.{needs}
 use mathlib.Core.Path.{_∙_}
 use lib.ListN.{length-set}
 use native.Mathlib.Omega.{arith}
-use Rattle.meaning.proofs.Links.{falling}
-use Rattle.meaning.specs.Records.{lastOf}
-use Rattle.vocabulary.proofs.Chain.{walking-falls}
 use Rattle.hierarchy.proofs.Pairs.{Listing, listing-ends, listing-on, listing-room, listing-starts}
 use Rattle.hierarchy.proofs.list_pairs.Statement.{statement}
+use Rattle.meaning.specs.Records.{falling, lastOf}
+use Rattle.vocabulary.proofs.Chain.{walking-falls}
 use Rattle.hierarchy.proofs.list_pairs.Tie as tie
 
 abbrev Inv-loop : tie.InvT-loop

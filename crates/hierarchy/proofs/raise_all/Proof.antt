@@ -2,10 +2,10 @@ use Prim.Native.Nat.{_-_, _≤_}
 use borrow.Author.Needs.{needs}
 use mathlib.Core.Path.{refl}
 use native.Mathlib.Omega.{arith}
-use Rattle.meaning.proofs.Wellformed.{accepted-counts}
-use Rattle.hierarchy.specs.Index.{Heads, Raised, raised-none, records}
 use Rattle.hierarchy.proofs.Raising.{heads-none, nexts-none, raised-length, raised-then}
 use Rattle.hierarchy.proofs.raise_all.Statement.{statement}
+use Rattle.hierarchy.specs.Index.{Heads, Raised, raised-none, records}
+use Rattle.meaning.proofs.Wellformed.{accepted-counts}
 use Rattle.hierarchy.proofs.raise_all.Tie as tie
 
 abbrev Inv-loop : tie.InvT-loop

@@ -2,8 +2,8 @@ use Prim.Native.Nat.{ℕ}
 use borrow.Author.Needs.{needs}
 use mathlib.Core.List.{List}
 use mathlib.Core.Path.{_∙_, ap}
-use Rattle.words.specs.Sets.{inSet}
 use Rattle.hierarchy.proofs.range_above.Statement.{statement}
+use Rattle.words.specs.Sets.{inSet}
 use Rattle.hierarchy.proofs.range_above.Tie as tie
 
 returns : tie.Need-returns

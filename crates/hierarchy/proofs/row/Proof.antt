@@ -2,8 +2,8 @@ use Prim.Native.Nat.{ℕ}
 use borrow.Author.Needs.{needs}
 use mathlib.Core.Path.{_∙_, ap}
 use native.Mathlib.Omega.{arith}
-use Rattle.words.specs.Rows.{classWords, rowAt}
 use Rattle.hierarchy.proofs.row.Statement.{statement}
+use Rattle.words.specs.Rows.{classWords, rowAt}
 use Rattle.hierarchy.proofs.row.Tie as tie
 
 returns : tie.Need-returns

@@ -5,10 +5,10 @@ use mathlib.Core.List.{map}
 use mathlib.Core.Path.{_∙_, _≡_, ap, refl}
 use lib.ListN.{length, length-set, set, take}
 use native.Mathlib.Omega.{arith}
-use Rattle.meaning.specs.Lists.{counting}
-use Rattle.meaning.specs.Program.{wordAt}
 use Rattle.input.proofs.Words.{decode-more}
 use Rattle.input.proofs.decode.Statement.{statement}
+use Rattle.meaning.specs.Lists.{counting}
+use Rattle.meaning.specs.Program.{wordAt}
 use Rattle.input.proofs.decode.Tie as tie
 
 abbrev Inv-loop : tie.InvT-loop

@@ -1,6 +1,5 @@
 use borrow.Author.Needs.{needs}
-use Rattle.meaning.proofs.Links.{falling}
-use Rattle.meaning.specs.Records.{lastOf}
+use Rattle.meaning.specs.Records.{falling, lastOf}
 use Rattle.model.proofs.Laws.{Walking, walking-ends, walking-falls, walking-on, walking-starts, walking-stops}
 use Rattle.model.proofs.facts_refusal.Statement.{statement}
 use Rattle.model.proofs.facts_refusal.Tie as tie

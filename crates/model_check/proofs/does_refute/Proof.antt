@@ -1,5 +1,5 @@
 use borrow.Author.Needs.{needs}
-use Rattle.meaning.specs.ModelCheck.{factsOf}
+use Rattle.meaning.specs.Model.{factsOf}
 use Rattle.meaning.specs.Policy.{policyOf}
 use Rattle.meaning.specs.Vocabulary.{vocabularyOf}
 use Rattle.model.proofs.Chain.{readable}

@@ -3,9 +3,11 @@ use Prim.Native.Nat.{_-_, _<_, ℕ}
 use lib.ListN.{length}
 use mathlib.Core.Path.{_∙_, ap, refl}
 use native.Mathlib.Omega.{arith}
-use Rattle.normal_form.proofs.Laws.{placed-here, placed-last, placed-on, put-length}
 use borrow.Fn.Kinds.{In}
-use borrow.Fn.PlainCycle.{Measures, is, falls, and}
+use borrow.Fn.PlainCycle.{Measures, and, falls, is}
+use Rattle.normal_form.proofs.+add_interval.{statement}
+use Rattle.normal_form.proofs.+add_interval.Tie.{close}
+use Rattle.normal_form.proofs.Laws.{placed-here, placed-last, placed-on, put-length}
 use Rattle.normal_form.proofs.add_interval.Reads as add-interval
 use Rattle.normal_form.proofs.add_interval.Kinds as add-interval-kinds
 use Rattle.normal_form.proofs.+add_interval.Lts-add_interval as add-interval-lts
@@ -13,8 +15,6 @@ use Rattle.normal_form.proofs.both.Reads as both-reads
 use Rattle.normal_form.proofs.larger.Reads as larger-reads
 use Rattle.normal_form.proofs.put_interval.Reads as put-interval-reads
 use Rattle.normal_form.proofs.smaller.Reads as smaller-reads
-use Rattle.normal_form.proofs.+add_interval.{statement}
-use Rattle.normal_form.proofs.+add_interval.Tie.{close}
 
 abbrev μ-add-interval : Measures 1 add-interval-kinds.ps ℕ
 μ-add-interval κs a = a .1 .1 .1 .1 .0 - a .1 .1 .1 .0

@@ -1,18 +1,18 @@
 use borrow.Author.Needs.{needs}
 use Prim.Native.Nat.{_<_, ℕ}
 use mathlib.Core.Path.{_∙_}
-use Rattle.normal_form.specs.Parts.{chainAt, conjuncts}
-use Rattle.normal_form.proofs.Chains.{chain-done, chain-step, next-falls, next-good, next-ready}
-use Rattle.words.specs.Sets.{inSet}
 use borrow.Fn.Kinds.{In}
-use borrow.Fn.PlainCycle.{Measures, is, falls, and}
+use borrow.Fn.PlainCycle.{Measures, and, falls, is}
+use Rattle.normal_form.proofs.+chain.{statement}
+use Rattle.normal_form.proofs.+chain.Tie.{close}
+use Rattle.normal_form.proofs.Chains.{chain-done, chain-step, next-falls, next-good, next-ready}
+use Rattle.normal_form.specs.Parts.{chainAt, conjuncts}
+use Rattle.words.specs.Sets.{inSet}
 use Rattle.normal_form.proofs.chain.Reads as chain
 use Rattle.normal_form.proofs.chain.Kinds as chain-kinds
 use Rattle.normal_form.proofs.+chain.Lts-chain as chain-lts
 use Rattle.normal_form.proofs.conjunct.Reads as conjunct-reads
 use Rattle.policy.proofs.next_of.Reads as next-of-reads
-use Rattle.normal_form.proofs.+chain.{statement}
-use Rattle.normal_form.proofs.+chain.Tie.{close}
 
 abbrev μ-chain : Measures 2 chain-kinds.ps ℕ
 μ-chain κs a = conjuncts (chainAt (a .0 .now) (a .1 .1 .1 .0))

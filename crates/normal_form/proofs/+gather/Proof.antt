@@ -3,18 +3,18 @@ use Prim.Native.Nat.{_-_, _<_, ℕ}
 use mathlib.Core.Path.{_∙_, refl, sym}
 use native.Mathlib.Omega.{arith}
 use lib.ListN.{length-set}
+use borrow.Fn.Kinds.{In}
+use borrow.Fn.PlainCycle.{Measures, and, falls, is}
+use Rattle.normal_form.proofs.+gather.{statement}
+use Rattle.normal_form.proofs.+gather.Tie.{close}
 use Rattle.normal_form.proofs.Joining.{gather-end, pass-can, pass-done, skip-can, skip-done, take-can, take-chain, take-done}
 use Rattle.words.specs.Sets.{inSet}
-use borrow.Fn.Kinds.{In}
-use borrow.Fn.PlainCycle.{Measures, is, falls, and}
 use Rattle.normal_form.proofs.gather.Reads as gather
 use Rattle.normal_form.proofs.gather.Kinds as gather-kinds
 use Rattle.normal_form.proofs.+gather.Lts-gather as gather-lts
 use Rattle.normal_form.proofs.chain.Reads as chain-reads
 use Rattle.normal_form.proofs.does_join.Reads as does-join-reads
 use Rattle.policy.proofs.child_of.Reads as child-of-reads
-use Rattle.normal_form.proofs.+gather.{statement}
-use Rattle.normal_form.proofs.+gather.Tie.{close}
 
 abbrev μ-gather : Measures 2 gather-kinds.ps ℕ
 μ-gather κs a = a .1 .1 .1 .1 .1 .0 - a .1 .1 .1 .1 .0

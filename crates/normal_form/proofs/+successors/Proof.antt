@@ -1,15 +1,16 @@
 use Prim.Native.Nat.{_<_, ℕ}
 use mathlib.Core.Path.{_∙_, refl}
 use native.Mathlib.Omega.{arith}
-use Rattle.normal_form.proofs.Nodes.{built-end, child-falls, child-room, few, less, next-falls, next-room, node-built, skip-built, skip-falls, skip-room, undone}
 use borrow.Fn.Kinds.{In}
-use borrow.Fn.PlainCycle.{Measures, is, falls, and}
+use borrow.Fn.PlainCycle.{Measures, and, falls, is}
+use Rattle.normal_form.proofs.+successors.{statement}
+use Rattle.normal_form.proofs.+successors.Tie.{close}
+use Rattle.normal_form.proofs.Nodes.{built-end, child-falls, child-room, few, less, next-falls, next-room, node-built}
+use Rattle.normal_form.proofs.Nodes.{skip-built, skip-falls, skip-room, undone}
 use Rattle.normal_form.proofs.successors.Reads as successors
 use Rattle.normal_form.proofs.successors.Kinds as successors-kinds
 use Rattle.normal_form.proofs.+successors.Lts-successors as successors-lts
 use Rattle.normal_form.proofs.node.Reads as node-reads
-use Rattle.normal_form.proofs.+successors.{statement}
-use Rattle.normal_form.proofs.+successors.Tie.{close}
 
 abbrev μ-successors : Measures 2 successors-kinds.ps ℕ
 μ-successors κs a = undone (a .0 .now) (a .1 .0 .now) (a .1 .1 .1 .0) (a .1 .1 .1 .1 .0)

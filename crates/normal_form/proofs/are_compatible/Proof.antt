@@ -3,9 +3,9 @@ use borrow.Author.Tests.{not-false, not-true}
 use Prim.Native.Nat.{_-_, _≤_}
 use mathlib.Core.Path.{_∙_, _≡_}
 use Rattle.meaning.specs.Lists.{all, counting}
-use Rattle.normal_form.specs.Clean.{agreeIn, setAt}
 use Rattle.normal_form.proofs.Cleanness.{row-agrees, test-ends, test-fails, test-on, test-starts}
 use Rattle.normal_form.proofs.are_compatible.Statement.{statement}
+use Rattle.normal_form.specs.Clean.{agreeIn, setAt}
 use Rattle.normal_form.proofs.are_compatible.Tie as tie
 
 abbrev Inv-loop : tie.InvT-loop

@@ -3,8 +3,8 @@ use mathlib.Core.Path.{refl}
 use native.Mathlib.Omega.{arith}
 use Rattle.normal_form.proofs.Chains.{class-place, conj-bar, conj-class, conj-interval, conj-role, interval-room, role-room}
 use Rattle.normal_form.proofs.conjunct.Statement.{statement}
-use Rattle.normal_form.proofs.conjunct.Tie as tie
 use Rattle.words.specs.Sets.{inSet}
+use Rattle.normal_form.proofs.conjunct.Tie as tie
 
 above-requires : tie.Need-above-requires
 above-requires c κs =

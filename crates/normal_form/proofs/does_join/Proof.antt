@@ -1,8 +1,8 @@
 use borrow.Author.Needs.{needs}
 use Rattle.normal_form.proofs.Chains.{join-told}
 use Rattle.normal_form.proofs.does_join.Statement.{statement}
-use Rattle.normal_form.proofs.does_join.Tie as tie
 use Rattle.words.specs.Sets.{inSet}
+use Rattle.normal_form.proofs.does_join.Tie as tie
 
 returns : tie.Need-returns
 returns c =

@@ -9,5 +9,5 @@ is-clean-spec =
     (tie.spec
     (λ c κs. search needs)
     (λ c κs. search needs)
-    (λ c. clean-listed _ _ (c .before .before .are-filled .ensures) (c .before .if1 .taken) (c .are-compatible .ensures))
-    (λ c. clean-empty _ _ (c .before .are-filled .ensures) (c .if1 .left)))
+    (λ c. clean-listed _ _ (c .before .before .are-nonempty .ensures) (c .before .if1 .taken) (c .are-compatible .ensures))
+    (λ c. clean-empty _ _ (c .before .are-nonempty .ensures) (c .if1 .left)))

@@ -3,14 +3,14 @@ use mathlib.Core.Path.{refl}
 use native.Mathlib.Omega.{arith}
 use Rattle.normal_form.proofs.Nodes.{gather-can, noded, number, own-ready, role-small, row-long}
 use Rattle.normal_form.proofs.node.Statement.{statement}
-use Rattle.normal_form.proofs.node.Tie as tie
 use Rattle.words.specs.Sets.{inSet}
+use Rattle.normal_form.proofs.node.Tie as tie
 
 start-classes-requires : tie.Need-start-classes-requires
 start-classes-requires c κs =
     let a = c .before .before .before .before .before .before .args in
     let q = c .before .before .before .before .before .before .pre in
-    let r = role-small (inSet (a .f .roles)) (inSet (a .f .features)) (a .p .now) (a .work .now) (a .j) (a .stop) (a .t .individuals) (a .t .intervals) (a .k) (q .0) (q .1) (q .2) (q .3) in
+    let r = role-small (inSet (a .f .roles)) (inSet (a .f .features)) (a .p .now) (a .work .now) (a .j) (a .stop) (a .t .individuals) (a .t .constraints) (a .k) (q .0) (q .1) (q .2) (q .3) in
     let e = c .before .before .before .name-of .ensures in
     (omega arith, q .3 .long)
 
@@ -18,25 +18,25 @@ chain-requires : tie.Need-chain-requires
 chain-requires c κs =
     let a = c .before .before .before .before .before .before .before .before .args in
     let q = c .before .before .before .before .before .before .before .before .pre in
-    own-ready (inSet (a .f .roles)) (inSet (a .f .features)) (a .p .now) (a .work .now) (a .j) (a .stop) (a .t .individuals) (a .t .intervals) (a .k) (q .0) (q .1) (q .2) (q .3) refl refl (c .before .before .before .before .child-of .ensures)
+    own-ready (inSet (a .f .roles)) (inSet (a .f .features)) (a .p .now) (a .work .now) (a .j) (a .stop) (a .t .individuals) (a .t .constraints) (a .k) (q .0) (q .1) (q .2) (q .3) refl refl (c .before .before .before .before .child-of .ensures)
 
 gather-requires : tie.Need-gather-requires
 gather-requires c κs =
     let a = c .before .before .before .before .before .before .before .before .before .before .before .before .args in
     let q = c .before .before .before .before .before .before .before .before .before .before .before .before .pre in
-    gather-can (inSet (a .f .roles)) (inSet (a .f .features)) (a .p .now) (a .work .now) (a .j) (a .stop) (a .t .individuals) (a .t .intervals) (a .k) (q .0) (q .1) (q .2) (q .3) refl refl (c .before .before .before .before .before .before .before .before .child-of .ensures) (c .before .before .before .chain .ensures)
+    gather-can (inSet (a .f .roles)) (inSet (a .f .features)) (a .p .now) (a .work .now) (a .j) (a .stop) (a .t .individuals) (a .t .constraints) (a .k) (q .0) (q .1) (q .2) (q .3) refl refl (c .before .before .before .before .before .before .before .before .child-of .ensures) (c .before .before .before .chain .ensures)
 
 put-row-requires : tie.Need-put-row-requires
 put-row-requires c κs =
     let a = c .before .before .before .before .before .before .before .before .before .before .before .before .before .before .before .before .before .args in
     let q = c .before .before .before .before .before .before .before .before .before .before .before .before .before .before .before .before .before .pre in
-    (number (inSet (a .f .roles)) (inSet (a .f .features)) (a .p .now) (a .work .now) (a .j) (a .stop) (a .t .individuals) (a .t .intervals) (a .k) (q .0) (q .1) (q .2) (q .3), row-long (inSet (a .f .roles)) (inSet (a .f .features)) (a .p .now) (a .work .now) (a .j) (a .stop) (a .t .individuals) (a .t .intervals) (a .k) (q .0) (q .1) (q .2) (q .3) refl refl (c .before .before .before .before .before .before .before .before .before .before .before .before .before .child-of .ensures) (c .before .before .before .before .before .before .before .before .chain .ensures) (c .before .before .before .before .before .before .before .before .before .before .before .before .before .before .name-of .ensures) (c .before .before .before .before .gather .ensures))
+    (number (inSet (a .f .roles)) (inSet (a .f .features)) (a .p .now) (a .work .now) (a .j) (a .stop) (a .t .individuals) (a .t .constraints) (a .k) (q .0) (q .1) (q .2) (q .3), row-long (inSet (a .f .roles)) (inSet (a .f .features)) (a .p .now) (a .work .now) (a .j) (a .stop) (a .t .individuals) (a .t .constraints) (a .k) (q .0) (q .1) (q .2) (q .3) refl refl (c .before .before .before .before .before .before .before .before .before .before .before .before .before .child-of .ensures) (c .before .before .before .before .before .before .before .before .chain .ensures) (c .before .before .before .before .before .before .before .before .before .before .before .before .before .before .name-of .ensures) (c .before .before .before .before .gather .ensures))
 
 returns : tie.Need-returns
 returns c =
     let a = c .before .before .before .before .before .before .before .before .before .before .before .before .before .before .before .before .before .before .before .before .args in
     let q = c .before .before .before .before .before .before .before .before .before .before .before .before .before .before .before .before .before .before .before .before .pre in
-    noded (inSet (a .f .roles)) (inSet (a .f .features)) (a .p .now) (a .work .now) (a .j) (a .stop) (a .t .individuals) (a .t .intervals) (a .k) (q .0) (q .1) (q .2) (q .3) refl refl (c .before .before .before .before .before .before .before .before .before .before .before .before .before .before .before .before .child-of .ensures) (c .before .before .before .before .before .before .before .before .before .before .before .chain .ensures) (c .before .before .before .before .before .before .before .before .before .before .before .before .before .before .before .before .before .name-of .ensures) (c .before .before .before .before .before .before .before .gather .ensures) refl (c .before .before .before .before .before .before .before .before .before .before .before .before .before .start-classes .ensures) refl (c .before .before .put-row .ensures)
+    noded (inSet (a .f .roles)) (inSet (a .f .features)) (a .p .now) (a .work .now) (a .j) (a .stop) (a .t .individuals) (a .t .constraints) (a .k) (q .0) (q .1) (q .2) (q .3) refl refl (c .before .before .before .before .before .before .before .before .before .before .before .before .before .before .before .before .child-of .ensures) (c .before .before .before .before .before .before .before .before .before .before .before .chain .ensures) (c .before .before .before .before .before .before .before .before .before .before .before .before .before .before .before .before .before .name-of .ensures) (c .before .before .before .before .before .before .before .gather .ensures) refl (c .before .before .before .before .before .before .before .before .before .before .before .before .before .start-classes .ensures) refl (c .before .before .put-row .ensures)
 
 pub node-spec : {M : Type 1} → statement M
 node-spec =

@@ -2,8 +2,8 @@ use borrow.Author.Needs.{needs}
 use mathlib.Core.Path.{refl}
 use native.Mathlib.Omega.{arith}
 use lib.ListN.{length-set}
-use Rattle.normal_form.specs.Steps.{intervalPut}
 use Rattle.normal_form.proofs.put_interval.Statement.{statement}
+use Rattle.normal_form.specs.Steps.{intervalPut}
 use Rattle.normal_form.proofs.put_interval.Tie as tie
 
 returns : tie.Need-returns

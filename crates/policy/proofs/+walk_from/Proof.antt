@@ -1,10 +1,11 @@
 -- `walk_from`: a fault at the record, no record left, or the child chain and then the next. The records left fall.
 use borrow.Author.Needs.{needs}
-use Prim.Native.Nat.{ℕ, _<_}
+use Prim.Native.Nat.{_<_, ℕ}
 use borrow.Fn.Kinds.{In}
-use borrow.Fn.PlainCycle.{Measures, is, falls, and}
-use Rattle.meaning.proofs.Links.{falling}
-use Rattle.meaning.specs.Records.{lastOf}
+use borrow.Fn.PlainCycle.{Measures, and, falls, is}
+use Rattle.meaning.specs.Records.{falling, lastOf}
+use Rattle.policy.proofs.+walk_from.{statement}
+use Rattle.policy.proofs.+walk_from.Tie.{close}
 use Rattle.policy.proofs.Laws.{deeper, fewer, inside, walk-ends, walk-faults, walk-on, walk-stops}
 use Rattle.policy.proofs.walk_from.Reads as walk-from
 use Rattle.policy.proofs.walk_from.Kinds as walk-from-kinds
@@ -14,8 +15,6 @@ use Rattle.policy.proofs.fault_at.Reads as fault-at-reads
 use Rattle.policy.proofs.next_of.Reads as next-of-reads
 use Rattle.words.proofs.has.Reads as has-reads
 use Rattle.words.proofs.insert.Reads as insert-reads
-use Rattle.policy.proofs.+walk_from.{statement}
-use Rattle.policy.proofs.+walk_from.Tie.{close}
 
 abbrev μ-walk-from : Measures 3 walk-from-kinds.ps ℕ
 μ-walk-from κs a = falling (lastOf 6 (a .1 .0 .now)) (a .1 .1 .1 .0)

@@ -1,4 +1,4 @@
-use Prim.Native.Nat.{_≤_, _<_, _-_}
+use Prim.Native.Nat.{_-_, _<_, _≤_}
 use borrow.Author.Needs.{needs}
 use Rattle.readers.proofs.vocabularies.Statement.{statement}
 use Rattle.readers.proofs.vocabularies.Tie as tie

@@ -2,18 +2,17 @@ use mathlib.Core.Bool.{true}
 use mathlib.Core.Path.{_∙_}
 use native.Mathlib.Omega.{arith}
 use borrow.Author.Needs.{needs}
-use Rattle.meaning.proofs.Links.{falling}
-use Rattle.meaning.specs.ModelCheck.{factsOf}
-use Rattle.meaning.specs.Records.{lastOf}
+use Rattle.meaning.specs.Model.{factsOf}
+use Rattle.meaning.specs.Records.{falling, lastOf}
 use Rattle.meaning.specs.Vocabulary.{vocabularyOf}
 use Rattle.satisfaction.proofs.Classes.{interpreted-kept}
 use Rattle.satisfaction.proofs.Statements.{model-fails, model-on, model-told, obeyed}
 use Rattle.satisfaction.proofs.are_obeyed.Statement.{statement}
-use Rattle.satisfaction.proofs.are_obeyed.Tie as tie
 use Rattle.satisfaction.specs.Places.{tablesSize, valuesAt}
 use Rattle.vocabulary.proofs.Chain.{Walking, walking-ends, walking-falls, walking-starts}
 use Rattle.workspace.proofs.Changes.{only-none, only-then}
 use Rattle.workspace.specs.Work.{Only}
+use Rattle.satisfaction.proofs.are_obeyed.Tie as tie
 
 abbrev Inv-loop : tie.InvT-loop
 Inv-loop v m work₀ k₀ work k = Walking v (obeyed (factsOf m)) true k true × Only valuesAt tablesSize work₀ work

@@ -1,10 +1,11 @@
-use mathlib.Core.Path.{refl, sym, _≡_}
+use mathlib.Core.Path.{_≡_, refl, sym}
 use borrow.Author.Needs.{needs}
-use Rattle.meaning.proofs.Links.{falling}
 use Rattle.meaning.specs.Lists.{all, any}
-use Rattle.meaning.specs.ModelCheck.{factAt, factsOf, isMember, onEdge}
-use Rattle.meaning.specs.Records.{lastOf}
-use Rattle.model.proofs.Chain.{Scanning, scanning-ends, scanning-falls, scanning-found, scanning-on, scanning-starts, scanning-stated}
+use Rattle.meaning.specs.Model.{factAt, factsOf}
+use Rattle.meaning.specs.ModelCheck.{isMember, onEdge}
+use Rattle.meaning.specs.Records.{falling, lastOf}
+use Rattle.model.proofs.Chain.{Scanning, scanning-ends, scanning-falls, scanning-found, scanning-on, scanning-starts}
+use Rattle.model.proofs.Chain.{scanning-stated}
 use Rattle.satisfaction.proofs.Statements.{all-fails, all-on}
 use Rattle.satisfaction.proofs.are_ranged.Statement.{statement}
 use Rattle.satisfaction.proofs.are_ranged.Tie as tie

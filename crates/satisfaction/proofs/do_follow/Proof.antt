@@ -1,13 +1,13 @@
-use Prim.Native.Nat.{_+_, _-_, ℕ, _≤_}
+use Prim.Native.Nat.{_+_, _-_, _≤_, ℕ}
 use mathlib.Core.Bool.{true}
-use mathlib.Core.Path.{sym, _∙_, _≡_}
+use mathlib.Core.Path.{_∙_, _≡_, sym}
 use native.Mathlib.Omega.{arith}
 use borrow.Author.Needs.{needs}
 use borrow.Author.Tests.{not-false, not-true}
 use Rattle.satisfaction.proofs.Statements.{counted-all, counted-fails, counted-more}
 use Rattle.satisfaction.proofs.do_follow.Statement.{statement}
-use Rattle.satisfaction.proofs.do_follow.Tie as tie
 use Rattle.satisfaction.specs.Classes.{follows}
+use Rattle.satisfaction.proofs.do_follow.Tie as tie
 
 abbrev Inv-loop : tie.InvT-loop
 Inv-loop work n a b apart i₀ i = (i ≤ n) × ((d : ℕ) → 1 ≤ d → d ≤ i → follows work a b apart d ≡ true)

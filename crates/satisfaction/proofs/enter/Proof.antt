@@ -3,8 +3,8 @@ use borrow.Author.Needs.{needs}
 use Rattle.satisfaction.proofs.Facts.{entered-none, entered-one}
 use Rattle.satisfaction.proofs.Rows.{put-size}
 use Rattle.satisfaction.proofs.enter.Statement.{statement}
-use Rattle.satisfaction.proofs.enter.Tie as tie
 use Rattle.words.specs.Rows.{classWords}
+use Rattle.satisfaction.proofs.enter.Tie as tie
 
 returns : tie.Need-returns
 returns c =

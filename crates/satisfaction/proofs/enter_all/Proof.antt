@@ -1,15 +1,14 @@
 use mathlib.Core.Path.{_∙_}
 use native.Mathlib.Omega.{arith}
 use borrow.Author.Needs.{needs}
-use Rattle.meaning.proofs.Links.{falling}
-use Rattle.meaning.specs.Records.{lastOf}
+use Rattle.meaning.specs.Records.{falling, lastOf}
 use Rattle.model.proofs.Chain.{Scanning, scanning-ends, scanning-falls, scanning-on, scanning-starts, scanning-stated}
 use Rattle.satisfaction.proofs.Classes.{Entering, entering-ends, entering-on, entering-only, entering-starts}
 use Rattle.satisfaction.proofs.enter_all.Statement.{statement}
-use Rattle.satisfaction.proofs.enter_all.Tie as tie
 use Rattle.satisfaction.specs.Places.{classesSize}
 use Rattle.workspace.proofs.Changes.{only-none, only-then}
 use Rattle.workspace.specs.Work.{Only}
+use Rattle.satisfaction.proofs.enter_all.Tie as tie
 
 abbrev Inv-loop : tie.InvT-loop
 Inv-loop m work₀ f₀ work f = Scanning (Entering m work) m f × Only 0 classesSize work₀ work

@@ -1,10 +1,10 @@
 use Prim.Native.Nat.{ℕ}
-use mathlib.Core.Path.{ap, _∙_}
+use mathlib.Core.Path.{_∙_, ap}
 use borrow.Author.Needs.{needs}
 use Rattle.satisfaction.proofs.is_member.Statement.{statement}
-use Rattle.satisfaction.proofs.is_member.Tie as tie
 use Rattle.words.specs.Rows.{classWords, rowAt}
 use Rattle.words.specs.Sets.{inSet}
+use Rattle.satisfaction.proofs.is_member.Tie as tie
 
 returns : tie.Need-returns
 returns c =

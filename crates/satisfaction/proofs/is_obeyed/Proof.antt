@@ -1,11 +1,12 @@
 use native.Mathlib.Omega.{arith}
 use borrow.Author.Needs.{needs}
-use Rattle.meaning.specs.ModelCheck.{factsOf}
-use Rattle.satisfaction.proofs.Statements.{below-told, disjoint-told, states-below, states-disjoint, states-feature, states-range, states-role}
+use Rattle.meaning.specs.Model.{factsOf}
+use Rattle.satisfaction.proofs.Statements.{below-told, disjoint-told, states-below, states-disjoint, states-feature}
+use Rattle.satisfaction.proofs.Statements.{states-range, states-role}
 use Rattle.satisfaction.proofs.Values.{feature-told, role-told}
 use Rattle.satisfaction.proofs.is_obeyed.Statement.{statement}
-use Rattle.satisfaction.proofs.is_obeyed.Tie as tie
 use Rattle.workspace.proofs.Changes.{only-none}
+use Rattle.satisfaction.proofs.is_obeyed.Tie as tie
 
 do-follow-requires : tie.Need-do-follow-requires
 do-follow-requires c κs =
@@ -21,13 +22,13 @@ do-follow-requires-2 c κs =
     let e = c .individual-count2 .ensures in
     (omega arith, pre .long)
 
-is-single-requires : tie.Need-is-single-requires
-is-single-requires c κs =
+is-functional-requires : tie.Need-is-functional-requires
+is-functional-requires c κs =
     let pre = c .before .before .before .before .before .before .before .before .pre in
     (pre .readable, search needs, pre .long)
 
-is-single-requires-2 : tie.Need-is-single-requires-2
-is-single-requires-2 c κs =
+is-functional-requires-2 : tie.Need-is-functional-requires-2
+is-functional-requires-2 c κs =
     let pre = c .before .before .before .before .before .before .before .before .pre in
     (pre .readable, search needs, pre .long)
 
@@ -60,8 +61,8 @@ returns-3 c =
     let axiom-left = c .before .before .before .before .before .before .axiom-left in
     let axiom-right = c .before .before .before .before .before .axiom-right in
     let match = c .before .before .before .before .match in (
-      states-role (factsOf (args .m .now)) (args .v .now) (args .k) (axiom-kind .ensures) (axiom-left .ensures) (axiom-right .ensures) (match .keys3) (role-told (factsOf (args .m .now)) (axiom-left .result) (c .before .before .is-single .ensures .0)),
-      c .before .before .is-single .ensures .1,
+      states-role (factsOf (args .m .now)) (args .v .now) (args .k) (axiom-kind .ensures) (axiom-left .ensures) (axiom-right .ensures) (match .keys3) (role-told (factsOf (args .m .now)) (axiom-left .result) (c .before .before .is-functional .ensures .0)),
+      c .before .before .is-functional .ensures .1,
     )
 
 returns-4 : tie.Need-returns-4
@@ -71,8 +72,8 @@ returns-4 c =
     let axiom-left = c .before .before .before .before .before .before .axiom-left in
     let axiom-right = c .before .before .before .before .before .axiom-right in
     let match = c .before .before .before .before .match in (
-      states-feature (factsOf (args .m .now)) (args .v .now) (args .k) (axiom-kind .ensures) (axiom-left .ensures) (axiom-right .ensures) (match .keys4) (feature-told (factsOf (args .m .now)) (axiom-left .result) (c .before .before .is-single2 .ensures .0)),
-      c .before .before .is-single2 .ensures .1,
+      states-feature (factsOf (args .m .now)) (args .v .now) (args .k) (axiom-kind .ensures) (axiom-left .ensures) (axiom-right .ensures) (match .keys4) (feature-told (factsOf (args .m .now)) (axiom-left .result) (c .before .before .is-functional2 .ensures .0)),
+      c .before .before .is-functional2 .ensures .1,
     )
 
 returns-5 : tie.Need-returns-5
@@ -96,16 +97,16 @@ is-obeyed-spec =
     do-follow-requires
     (λ c κs. search needs)
     do-follow-requires-2
-    is-single-requires
-    is-single-requires-2
+    is-functional-requires
+    is-functional-requires-2
     (λ c κs. search needs)
     (λ c. search needs)
     returns
     (λ c. search needs)
     returns-2
-    (λ c. c .before .before .is-single .ensures .1 .size)
+    (λ c. c .before .before .is-functional .ensures .1 .size)
     returns-3
-    (λ c. c .before .before .is-single2 .ensures .1 .size)
+    (λ c. c .before .before .is-functional2 .ensures .1 .size)
     returns-4
     (λ c. search needs)
     returns-5)

@@ -1,9 +1,10 @@
 use Prim.Native.Nat.{ℕ}
-use mathlib.Core.Path.{ap, sym, _∙_}
+use mathlib.Core.Path.{_∙_, ap, sym}
 use native.Mathlib.Omega.{arith}
 use borrow.Author.Needs.{needs}
 use Rattle.meaning.specs.Lists.{any}
-use Rattle.meaning.specs.ModelCheck.{factsOf, isMember}
+use Rattle.meaning.specs.Model.{factsOf}
+use Rattle.meaning.specs.ModelCheck.{isMember}
 use Rattle.satisfaction.proofs.Facts.{other-role, ranged, unranged}
 use Rattle.satisfaction.proofs.is_ranged.Statement.{statement}
 use Rattle.satisfaction.proofs.is_ranged.Tie as tie

@@ -3,12 +3,14 @@ use borrow.Author.Needs.{needs}
 use Prim.Native.Nat.{_<_, ℕ}
 use mathlib.Core.Path.{_∙_}
 use native.Mathlib.Omega.{arith}
-use Rattle.meaning.proofs.Terms.{count}
-use Rattle.normal_form.specs.Parts.{chainAt}
-use Rattle.splitting.proofs.Collecting.{behind-asks, behind-paired, both-paired, child-asks, later-asks, next-asks, next-paired}
-use Rattle.splitting.proofs.Collecting.{pairs-fit, pairs-none, pairs-same}
 use borrow.Fn.Kinds.{In}
-use borrow.Fn.PlainCycle.{Measures, is, falls, and}
+use borrow.Fn.PlainCycle.{Measures, and, falls, is}
+use Rattle.meaning.specs.Accepted.{count}
+use Rattle.normal_form.specs.Parts.{chainAt}
+use Rattle.splitting.proofs.+collect_from.{statement}
+use Rattle.splitting.proofs.+collect_from.Tie.{close}
+use Rattle.splitting.proofs.Collecting.{behind-asks, behind-paired, both-paired, child-asks, later-asks, next-asks}
+use Rattle.splitting.proofs.Collecting.{next-paired, pairs-fit, pairs-none, pairs-same}
 use Rattle.splitting.proofs.collect_from.Reads as collect-from
 use Rattle.splitting.proofs.collect_from.Kinds as collect-from-kinds
 use Rattle.splitting.proofs.+collect_from.Lts-collect_from as collect-from-lts
@@ -19,8 +21,6 @@ use Rattle.policy.proofs.lo_of.Reads as lo-of-reads
 use Rattle.policy.proofs.name_of.Reads as name-of-reads
 use Rattle.policy.proofs.next_of.Reads as next-of-reads
 use Rattle.splitting.proofs.put_pairs.Reads as put-pairs-reads
-use Rattle.splitting.proofs.+collect_from.{statement}
-use Rattle.splitting.proofs.+collect_from.Tie.{close}
 
 abbrev μ-collect-from : Measures 2 collect-from-kinds.ps ℕ
 μ-collect-from κs a = count (chainAt (a .0 .now) (a .1 .1 .0))

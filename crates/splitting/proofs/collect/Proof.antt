@@ -1,8 +1,8 @@
 -- `collect`: what is written and what is left to write are the pairs of the policy.
 use borrow.Author.Needs.{needs}
-use Rattle.meaning.proofs.Links.{falling}
-use Rattle.meaning.specs.Records.{lastOf}
-use Rattle.splitting.proofs.Policies.{Collecting, collecting-child, collecting-ends, collecting-falls, collecting-on, collecting-starts}
+use Rattle.meaning.specs.Records.{falling, lastOf}
+use Rattle.splitting.proofs.Policies.{Collecting, collecting-child, collecting-ends, collecting-falls, collecting-on}
+use Rattle.splitting.proofs.Policies.{collecting-starts}
 use Rattle.splitting.proofs.collect.Statement.{statement}
 use Rattle.splitting.proofs.collect.Tie as tie
 

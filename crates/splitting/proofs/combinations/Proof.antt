@@ -3,12 +3,12 @@ use borrow.Author.Needs.{needs}
 use Prim.Native.Nat.{_-_, _≤_}
 use mathlib.Core.Path.{_≡_, refl}
 use native.Mathlib.Omega.{arith}
-use Rattle.meaning.specs.Containment.{mostCombinations}
+use Rattle.meaning.specs.Limits.{mostCombinations}
 use Rattle.meaning.specs.Policy.{Policy}
 use Rattle.splitting.proofs.Ways.{full-at, product-fits, ways, ways-end, ways-more, ways-past}
 use Rattle.splitting.proofs.combinations.Statement.{statement}
-use Rattle.splitting.proofs.combinations.Tie as tie
 use Rattle.splitting.specs.Ends.{Ends}
+use Rattle.splitting.proofs.combinations.Tie as tie
 
 abbrev Inv-loop : tie.InvT-loop
 Inv-loop ends work n all₀ i₀ all i = (i ≤ n) × (all ≤ mostCombinations) × ((Q : Policy) → Ends Q ends → all ≡ ways Q work i)

@@ -7,8 +7,8 @@ use Rattle.normal_form.specs.Steps.{intervalOf}
 use Rattle.splitting.proofs.Pieces.{Walked, walk-ends, walk-on, walk-starts}
 use Rattle.splitting.proofs.Scanning.{upper-above}
 use Rattle.splitting.proofs.count.Statement.{statement}
-use Rattle.splitting.proofs.count.Tie as tie
 use Rattle.splitting.specs.Ends.{Ends}
+use Rattle.splitting.proofs.count.Tie as tie
 
 abbrev Inv-loop : tie.InvT-loop
 Inv-loop ends f lo hi c₀ x₀ c x =

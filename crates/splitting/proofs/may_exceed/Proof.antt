@@ -3,7 +3,7 @@ use borrow.Author.Needs.{needs}
 use Prim.Native.Nat.{_-_, _≤_, ℕ}
 use mathlib.Core.Path.{_≡_}
 use native.Mathlib.Omega.{arith}
-use Rattle.meaning.specs.Containment.{mostCombinations}
+use Rattle.meaning.specs.Limits.{mostCombinations}
 use Rattle.splitting.proofs.Most.{Within, room-fits, within-few, within-more}
 use Rattle.splitting.proofs.may_exceed.Statement.{statement}
 use Rattle.splitting.proofs.may_exceed.Tie as tie

@@ -6,8 +6,8 @@ use native.Mathlib.Omega.{arith}
 use lib.ListN.{drop, length}
 use Rattle.splitting.proofs.Scanning.{least-end, least-step}
 use Rattle.splitting.proofs.next_end.Statement.{statement}
-use Rattle.splitting.proofs.next_end.Tie as tie
 use Rattle.splitting.specs.Ends.{endsIn, least}
+use Rattle.splitting.proofs.next_end.Tie as tie
 
 abbrev Inv-loop : tie.InvT-loop
 Inv-loop ends f x hi best₀ i₀ best i = (i ≤ length ends) × (least (endsIn (drop i ends) f) x best ≡ least (endsIn ends f) x hi)

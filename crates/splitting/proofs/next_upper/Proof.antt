@@ -3,8 +3,8 @@ use mathlib.Core.Path.{refl}
 use native.Mathlib.Omega.{arith}
 use Rattle.splitting.proofs.Scanning.{least-above, upper-far, upper-near}
 use Rattle.splitting.proofs.next_upper.Statement.{statement}
-use Rattle.splitting.proofs.next_upper.Tie as tie
 use Rattle.splitting.specs.Ends.{endsIn}
+use Rattle.splitting.proofs.next_upper.Tie as tie
 
 sub-result : tie.Need-sub-result
 sub-result c =

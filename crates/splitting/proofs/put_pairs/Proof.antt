@@ -3,8 +3,8 @@ use mathlib.Core.Path.{refl}
 use native.Mathlib.Omega.{arith}
 use lib.ListN.{length-set}
 use Rattle.splitting.proofs.put_pairs.Statement.{statement}
-use Rattle.splitting.proofs.put_pairs.Tie as tie
 use Rattle.splitting.specs.Ends.{pairsPut}
+use Rattle.splitting.proofs.put_pairs.Tie as tie
 
 returns : tie.Need-returns
 unfolding pairsPut

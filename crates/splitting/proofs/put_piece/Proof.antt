@@ -3,8 +3,8 @@ use mathlib.Core.Path.{refl}
 use native.Mathlib.Omega.{arith}
 use lib.ListN.{length-set}
 use Rattle.splitting.proofs.put_piece.Statement.{statement}
-use Rattle.splitting.proofs.put_piece.Tie as tie
 use Rattle.splitting.specs.Odometer.{piecePut}
+use Rattle.splitting.proofs.put_piece.Tie as tie
 
 returns : tie.Need-returns
 unfolding piecePut

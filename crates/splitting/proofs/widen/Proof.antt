@@ -5,8 +5,8 @@ use mathlib.Core.Path.{_≡_}
 use native.Mathlib.Omega.{arith}
 use Rattle.splitting.proofs.Whole.{widened-more, widened-none}
 use Rattle.splitting.proofs.widen.Statement.{statement}
-use Rattle.splitting.proofs.widen.Tie as tie
 use Rattle.splitting.specs.Odometer.{Widened}
+use Rattle.splitting.proofs.widen.Tie as tie
 
 abbrev Inv-loop : tie.InvT-loop
 Inv-loop work₀ n i₀ work i = (i ≤ n) × Widened i work₀ work

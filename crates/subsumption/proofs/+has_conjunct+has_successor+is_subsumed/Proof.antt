@@ -7,14 +7,15 @@ use mathlib.Core.Logic.{⊎-elim}
 use mathlib.Core.Path.{_∙_, refl, sym}
 use native.Mathlib.Omega.{arith}
 use borrow.Author.Tests.{not-false, not-true}
-use Rattle.meaning.proofs.Links.{falling}
-use Rattle.meaning.specs.Records.{lastOf}
-use Rattle.subsumption.proofs.Conjuncts.{all-told, class-told, impossible-told, interval-told, one-fails, one-holds, some-told}
-use Rattle.subsumption.proofs.Conjuncts.{child-falls, child-testable, next-falls, next-testable}
-use Rattle.subsumption.proofs.Walks.{TellsFrom, next-least, walk-ends, walk-found, walk-on, walk-starts}
-use Rattle.subsumption.specs.Tests.{Tells, TellsSome, Testable}
 use borrow.Fn.Kinds.{In}
-use borrow.Fn.PlainCycle.{Measures, is, falls, and}
+use borrow.Fn.PlainCycle.{Measures, and, falls, is}
+use Rattle.meaning.specs.Records.{falling, lastOf}
+use Rattle.subsumption.proofs.+has_conjunct+has_successor+is_subsumed.{statement}
+use Rattle.subsumption.proofs.+has_conjunct+has_successor+is_subsumed.Tie.{close}
+use Rattle.subsumption.proofs.Conjuncts.{all-told, child-falls, child-testable, class-told, impossible-told, interval-told}
+use Rattle.subsumption.proofs.Conjuncts.{next-falls, next-testable, one-fails, one-holds, some-told}
+use Rattle.subsumption.proofs.Walks.{TellsFrom, next-least, walk-ends, walk-found, walk-on, walk-starts}
+use Rattle.subsumption.specs.Tests.{DecidesAll, DecidesSome, Testable}
 use Rattle.subsumption.proofs.has_conjunct.Reads as has-conjunct
 use Rattle.subsumption.proofs.has_conjunct.Kinds as has-conjunct-kinds
 use Rattle.subsumption.proofs.+has_conjunct+has_successor+is_subsumed.Lts-has_conjunct as has-conjunct-lts
@@ -34,8 +35,6 @@ use Rattle.policy.proofs.next_of.Reads as next-of-reads
 use Rattle.subsumption.proofs.has_class.Reads as has-class-reads
 use Rattle.subsumption.proofs.has_piece.Reads as has-piece-reads
 use Rattle.words.proofs.place.Reads as place-reads
-use Rattle.subsumption.proofs.+has_conjunct+has_successor+is_subsumed.{statement}
-use Rattle.subsumption.proofs.+has_conjunct+has_successor+is_subsumed.Tie.{close}
 
 -- the records that a chain from record k on can still have; a conjunct comes before the chain, and that before the successors
 abbrev rank : List ℕ → ℕ → ℕ
@@ -84,7 +83,7 @@ is-subsumed-below t =
 
 -- whoever knows the answer from row j on knows the whole
 abbrev has-successor-Inv-loop : has-successor-lts.InvT-loop
-has-successor-Inv-loop q work t k x r n j₀ j = (b : Bool) → TellsFrom q work t k x r j b → TellsSome q work t k x r b
+has-successor-Inv-loop q work t k x r n j₀ j = (b : Bool) → TellsFrom q work t k x r j b → DecidesSome q work t k x r b
 
 abbrev has-successor-μ-loop : has-successor-lts.MeasureT-loop
 has-successor-μ-loop q work t k x r n j₀ j = n - j
@@ -92,7 +91,7 @@ has-successor-μ-loop q work t k x r n j₀ j = n - j
 -- so from record at on
 abbrev is-subsumed-Inv-loop : is-subsumed-lts.InvT-loop
 is-subsumed-Inv-loop q work t k x at₀ at =
-    Testable q work t at × (falling (lastOf 6 q) at ≤ falling (lastOf 6 q) k) × ((b : Bool) → Tells q work t at x b → Tells q work t k x b)
+    Testable q work t at × (falling (lastOf 6 q) at ≤ falling (lastOf 6 q) k) × ((b : Bool) → DecidesAll q work t at x b → DecidesAll q work t k x b)
 
 abbrev is-subsumed-μ-loop : is-subsumed-lts.MeasureT-loop
 is-subsumed-μ-loop q work t k x at₀ at = falling (lastOf 6 q) at

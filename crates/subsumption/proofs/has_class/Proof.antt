@@ -3,9 +3,9 @@ use Prim.Native.Nat.{_*_, _+_, ℕ}
 use mathlib.Core.Path.{_∙_, ap}
 use Rattle.normal_form.specs.Tables.{rowWidth, rowsAt}
 use Rattle.subsumption.proofs.has_class.Statement.{statement}
-use Rattle.subsumption.proofs.has_class.Tie as tie
 use Rattle.words.specs.Rows.{classWords, rowAt}
 use Rattle.words.specs.Sets.{inSet}
+use Rattle.subsumption.proofs.has_class.Tie as tie
 
 returns : tie.Need-returns
 returns c =

@@ -1,17 +1,17 @@
 -- `put_decimal`: the tens and above are a smaller number, and its digits stand before the last.
 use borrow.Author.Needs.{needs}
-use Prim.Native.Nat.{ℕ, _<_}
+use Prim.Native.Nat.{_<_, ℕ}
 use borrow.Fn.Kinds.{In}
-use borrow.Fn.PlainCycle.{Measures, is, falls, and}
+use borrow.Fn.PlainCycle.{Measures, and, falls, is}
 use native.Mathlib.Omega.{arith}
+use Rattle.text.proofs.+put_decimal.{statement}
+use Rattle.text.proofs.+put_decimal.Tie.{close}
 use Rattle.text.proofs.Decimal.{decimal-length, decimal-some, put-digits, put-last}
 use Rattle.text.proofs.put_decimal.Reads as put-decimal
 use Rattle.text.proofs.put_decimal.Kinds as put-decimal-kinds
 use Rattle.text.proofs.+put_decimal.Lts-put_decimal as put-decimal-lts
 use Rattle.text.proofs.digit.Reads as digit-reads
 use Rattle.text.proofs.put_byte.Reads as put-byte-reads
-use Rattle.text.proofs.+put_decimal.{statement}
-use Rattle.text.proofs.+put_decimal.Tie.{close}
 
 abbrev μ-put-decimal : Measures 1 put-decimal-kinds.ps ℕ
 μ-put-decimal κs a = a .1 .1 .0

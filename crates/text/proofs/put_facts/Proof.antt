@@ -5,8 +5,8 @@ use Rattle.meaning.specs.Lists.{flatMap}
 use Rattle.meaning.specs.Program.{factLine}
 use Rattle.text.proofs.Facts.{facts-all, facts-more}
 use Rattle.text.proofs.Printing.{put-nothing}
-use Rattle.text.specs.Text.{Put, mostLine, recordsTo}
 use Rattle.text.proofs.put_facts.Statement.{statement}
+use Rattle.text.specs.Text.{Put, mostLine, recordsTo}
 use Rattle.text.proofs.put_facts.Tie as tie
 
 abbrev Inv-loop : tie.InvT-loop

@@ -4,8 +4,8 @@ use Prim.Native.Nat.{_+_, _-_, _≤_}
 use lib.ListN.{length, take}
 use Rattle.text.proofs.Printing.{put-name-all, put-next, put-none}
 use Rattle.text.proofs.put_name.Statement.{statement}
-use Rattle.text.proofs.put_name.Tie as tie
 use Rattle.text.specs.Text.{Put}
+use Rattle.text.proofs.put_name.Tie as tie
 
 abbrev Inv-loop : tie.InvT-loop
 Inv-loop text₀ at name i₀ i-end text i = (i ≤ length name) × Put text₀ at (take i name) text (at + i)

@@ -1,13 +1,13 @@
 -- `put_verdict`: by the verdict.
 use borrow.Author.Needs.{needs}
 use mathlib.Core.Path.{_∙_, ap, subst, sym}
-use Rattle.meaning.specs.Answers.{compliant, refused}
+use Rattle.meaning.specs.Answers.{compliant, refused, result}
 use Rattle.meaning.specs.Program.{printed}
 use Rattle.meaning.specs.declared.Verdict.{Verdict}
 use Rattle.text.proofs.Facts.{line-printed}
 use Rattle.text.proofs.Printing.{put-as}
-use Rattle.text.specs.Text.{Reported, shown}
 use Rattle.text.proofs.put_verdict.Statement.{statement}
+use Rattle.text.specs.Text.{Reported, shown}
 use Rattle.text.proofs.put_verdict.Tie as tie
 
 pub put-verdict-spec : {M : Type 1} → statement M
@@ -23,7 +23,7 @@ put-verdict-spec =
     (λ c. search needs)
     (λ c.
     let out = c .before .before .before .before .before .before .before .before .args .out .now in
-    put-as (line-printed compliant ∙ ap (λ (v : Verdict). printed (shown v out)) (sym (c .before .before .before .before .enum-told .given .1))) (c .before .before .put-compliant .ensures))
+    put-as (line-printed (result compliant) ∙ ap (λ (v : Verdict). printed (shown v out)) (sym (c .before .before .before .before .enum-told .given .1))) (c .before .before .put-compliant .ensures))
     (λ c. search needs)
     (λ c.
     let out = c .before .before .before .before .before .before .before .before .before .args .out .now in

@@ -2,11 +2,11 @@
 use mathlib.Core.Path.{_∙_, refl}
 use Rattle.splitting.proofs.Callers.{kept-trans}
 use Rattle.trial.proofs.Passing.{taken}
-use Rattle.trial.proofs.Trying.{Trying, kept-triable, kept-tried, left, trying-askable, trying-below, trying-ends, trying-fails}
-use Rattle.trial.proofs.Trying.{trying-falls, trying-on, trying-splittable, trying-starts, whole-tried}
+use Rattle.trial.proofs.Trying.{Trying, kept-triable, kept-tried, left, trying-askable, trying-below, trying-ends}
+use Rattle.trial.proofs.Trying.{trying-fails, trying-falls, trying-on, trying-splittable, trying-starts, whole-tried}
 use Rattle.trial.proofs.first_failure.Statement.{statement}
-use Rattle.trial.proofs.first_failure.Tie as tie
 use Rattle.trial.specs.Trials.{Known}
+use Rattle.trial.proofs.first_failure.Tie as tie
 
 abbrev Inv-loop : tie.InvT-loop
 Inv-loop q work₀ ends t c₀ k₀ work c k = Trying q work₀ work t c × Known q k

@@ -3,12 +3,11 @@ use Prim.Native.Nat.{_+_, ℕ}
 use mathlib.Core.List.{List}
 use native.Mathlib.Omega.{arith}
 use borrow.Author.Needs.{needs}
-use Rattle.meaning.proofs.Links.{falling}
-use Rattle.meaning.specs.Records.{lastOf}
+use Rattle.meaning.specs.Records.{falling, lastOf}
 use Rattle.trial.proofs.Passing.{Rest, rest-ends, rest-found, rest-on, rest-starts, testable-term}
 use Rattle.trial.proofs.first_taker.Statement.{statement}
-use Rattle.trial.proofs.first_taker.Tie as tie
 use Rattle.workspace.proofs.Walk.{Asking, asking-conjuncts, asking-ends, asking-falls, asking-found, asking-on, asking-starts}
+use Rattle.trial.proofs.first_taker.Tie as tie
 
 abbrev Inv-loop : tie.InvT-loop
 Inv-loop q work t k₀ k = (v : List ℕ) × (s : ℕ) × Asking (Rest q work t) v q s k

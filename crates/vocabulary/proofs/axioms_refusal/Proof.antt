@@ -1,6 +1,5 @@
 use borrow.Author.Needs.{needs}
-use Rattle.meaning.proofs.Links.{falling}
-use Rattle.meaning.specs.Records.{lastOf}
+use Rattle.meaning.specs.Records.{falling, lastOf}
 use Rattle.vocabulary.proofs.Laws.{Walking, walking-ends, walking-falls, walking-on, walking-starts, walking-stops}
 use Rattle.vocabulary.proofs.axioms_refusal.Statement.{statement}
 use Rattle.vocabulary.proofs.axioms_refusal.Tie as tie

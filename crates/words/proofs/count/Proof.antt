@@ -5,9 +5,9 @@ use lib.Count.{ones-le}
 use lib.ListN.{getD, length, take}
 use mathlib.Core.Path.{_≡_}
 use native.Mathlib.Omega.{arith}
-use Rattle.words.specs.Members.{setBits}
 use Rattle.words.proofs.Steps.{counted-all, counted-more, counted-none}
 use Rattle.words.proofs.count.Statement.{statement}
+use Rattle.words.specs.Members.{setBits}
 use Rattle.words.proofs.count.Tie as tie
 
 abbrev Inv-loop : tie.InvT-loop

@@ -3,10 +3,10 @@ use Prim.Native.Nat.{_-_}
 use borrow.Author.Needs.{needs}
 use mathlib.Core.Path.{_≡_, refl}
 use native.Mathlib.Omega.{arith}
-use Rattle.words.specs.Members.{membersAbove}
-use Rattle.words.specs.Sets.{capacity}
 use Rattle.words.proofs.Steps.{next-end, next-fits, next-found, next-word}
 use Rattle.words.proofs.next.Statement.{statement}
+use Rattle.words.specs.Members.{membersAbove}
+use Rattle.words.specs.Sets.{capacity}
 use Rattle.words.proofs.next.Tie as tie
 
 abbrev Inv-loop : tie.InvT-loop

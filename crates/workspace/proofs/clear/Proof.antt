@@ -1,11 +1,11 @@
-use Prim.Native.Nat.{_-_, ℕ, _≤_}
+use Prim.Native.Nat.{_-_, _≤_, ℕ}
 use mathlib.Core.Path.{subst}
 use native.Mathlib.Omega.{arith}
 use borrow.Author.Needs.{needs}
 use Rattle.workspace.proofs.Changes.{cleared-more, cleared-none}
 use Rattle.workspace.proofs.clear.Statement.{statement}
-use Rattle.workspace.proofs.clear.Tie as tie
 use Rattle.workspace.specs.Work.{Cleared}
+use Rattle.workspace.proofs.clear.Tie as tie
 
 abbrev Inv-loop : tie.InvT-loop
 Inv-loop work₀ at n i₀ work i = (i ≤ n) × Cleared at i work₀ work

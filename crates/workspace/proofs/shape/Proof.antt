@@ -3,8 +3,8 @@ use Rattle.workspace.proofs.Laws.{shape-blocked, shape-filled}
 use Rattle.workspace.proofs.shape.Statement.{statement}
 use Rattle.workspace.proofs.shape.Tie as tie
 
-are-filled-requires : tie.Need-are-filled-requires
-are-filled-requires c κs =
+are-nonempty-requires : tie.Need-are-nonempty-requires
+are-nonempty-requires c κs =
     let n = c .before .before .before .before .normalise .ensures in
     let s = n .same in
     let f = c .before .before .before .before .before .before .before .before .pre .0 in
@@ -17,6 +17,6 @@ shape-spec =
     (λ c κs. c .before .before .before .pre .1)
     (λ c. c .before .before .before .normalise .ensures .same)
     (λ c. shape-blocked (c .before .before .before .before .before .before .before .pre .0) (c .before .before .before .normalise .ensures) (c .if1 .taken))
-    are-filled-requires
+    are-nonempty-requires
     (λ c. c .before .before .before .before .before .normalise .ensures .same)
-    (λ c. shape-filled (c .before .before .before .before .before .before .before .before .before .pre .0) (c .before .before .before .before .before .normalise .ensures) (c .before .before .if1 .left) (c .are-filled .ensures)))
+    (λ c. shape-filled (c .before .before .before .before .before .before .before .before .before .pre .0) (c .before .before .before .before .before .normalise .ensures) (c .before .before .if1 .left) (c .are-nonempty .ensures)))

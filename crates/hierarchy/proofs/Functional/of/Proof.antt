@@ -1,10 +1,9 @@
 use borrow.Author.Needs.{needs}
-use Rattle.meaning.proofs.Links.{falling}
-use Rattle.meaning.specs.Records.{lastOf}
-use Rattle.vocabulary.proofs.Chain.{Walking, walking-ends, walking-falls, walking-on, walking-starts}
-use Rattle.hierarchy.specs.Singles.{marked}
-use Rattle.hierarchy.proofs.Singles.{marked-all}
 use Rattle.hierarchy.proofs.Functional.of.Statement.{statement}
+use Rattle.hierarchy.proofs.Singles.{marked-all}
+use Rattle.hierarchy.specs.Singles.{marked}
+use Rattle.meaning.specs.Records.{falling, lastOf}
+use Rattle.vocabulary.proofs.Chain.{Walking, walking-ends, walking-falls, walking-on, walking-starts}
 use Rattle.hierarchy.proofs.Functional.of.Tie as tie
 
 abbrev Inv-loop : tie.InvT-loop

@@ -6,9 +6,9 @@ use mathlib.Core.Bool.{true}
 use mathlib.Core.Logic.{_↔_}
 use mathlib.Core.Path.{_≡_}
 use native.Mathlib.Omega.{arith}
-use Rattle.words.specs.Rows.{classWords}
-use Rattle.words.proofs.Growth.{KeptTo, covers-all, covers-more, covers-none}
 use Rattle.words.proofs.ClassSet.covers.Statement.{statement}
+use Rattle.words.proofs.Growth.{KeptTo, covers-all, covers-more, covers-none}
+use Rattle.words.specs.Rows.{classWords}
 use Rattle.words.proofs.ClassSet.covers.Tie as tie
 
 abbrev Inv-loop : tie.InvT-loop

@@ -3,11 +3,11 @@ use Prim.Native.Nat.{_-_, _≤_}
 use borrow.Author.Needs.{needs}
 use lib.ListN.{length, length-set}
 use lib.Seq.{paste, paste-zero}
-use mathlib.Core.Path.{_≡_, _∙_, refl}
+use mathlib.Core.Path.{_∙_, _≡_, refl}
 use native.Mathlib.Omega.{arith}
-use Rattle.words.specs.Rows.{classWords}
-use Rattle.words.proofs.Steps.{stored-all, stored-more}
 use Rattle.words.proofs.ClassSet.store.Statement.{statement}
+use Rattle.words.proofs.Steps.{stored-all, stored-more}
+use Rattle.words.specs.Rows.{classWords}
 use Rattle.words.proofs.ClassSet.store.Tie as tie
 
 abbrev Inv-loop : tie.InvT-loop

@@ -3,11 +3,11 @@ use Prim.Native.Nat.{_-_, _≤_, ℕ}
 use borrow.Author.Needs.{needs}
 use lib.Bits.{bitOr}
 use lib.ListN.{getD, length, length-set}
-use mathlib.Core.Path.{_≡_, _∙_}
+use mathlib.Core.Path.{_∙_, _≡_}
 use native.Mathlib.Omega.{arith}
-use Rattle.words.specs.Rows.{classWords}
-use Rattle.words.proofs.Steps.{Filled, filled-more, members-union, union-filled}
 use Rattle.words.proofs.ClassSet.union.Statement.{statement}
+use Rattle.words.proofs.Steps.{Filled, filled-more, members-union, union-filled}
+use Rattle.words.specs.Rows.{classWords}
 use Rattle.words.proofs.ClassSet.union.Tie as tie
 
 abbrev Inv-loop : tie.InvT-loop

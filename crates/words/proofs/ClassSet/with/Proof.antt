@@ -3,10 +3,10 @@ use borrow.Author.Needs.{needs}
 use lib.ListN.{length}
 use mathlib.Core.Path.{_≡_}
 use native.Mathlib.Omega.{arith}
-use Rattle.meaning.specs.Vocabulary.{mostClasses}
-use Rattle.words.specs.Rows.{classWords}
-use Rattle.words.proofs.Steps.{members-with}
+use Rattle.meaning.specs.Limits.{mostClasses}
 use Rattle.words.proofs.ClassSet.with.Statement.{statement}
+use Rattle.words.proofs.Steps.{members-with}
+use Rattle.words.specs.Rows.{classWords}
 use Rattle.words.proofs.ClassSet.with.Tie as tie
 
 returns : tie.Need-returns

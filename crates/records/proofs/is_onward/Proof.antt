@@ -1,6 +1,6 @@
 use borrow.Author.Tests.{eq-eqb, le-ltb, lt-ltb, ne-eqb}
-use Rattle.records.proofs.links.Statement.{statement}
-use Rattle.records.proofs.links.Tie as tie
+use Rattle.records.proofs.is_onward.Statement.{statement}
+use Rattle.records.proofs.is_onward.Tie as tie
 
 returns : tie.Need-returns
 returns c = rw (eq-eqb _ _ (c .if1 .taken))
@@ -11,5 +11,5 @@ returns-2 c = rw (ne-eqb _ _ (c .before .if1 .left), lt-ltb _ _ (c .if2 .taken))
 returns-3 : tie.Need-returns-3
 returns-3 c = rw (ne-eqb _ _ (c .before .if1 .left), le-ltb _ _ (c .if2 .left))
 
-pub links-spec : {M : Type 1} → statement M
-links-spec = tie.close (tie.spec returns returns-2 returns-3)
+pub is-onward-spec : {M : Type 1} → statement M
+is-onward-spec = tie.close (tie.spec returns returns-2 returns-3)

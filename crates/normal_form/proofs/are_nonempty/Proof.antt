@@ -3,13 +3,13 @@ use borrow.Author.Tests.{le-leb, lt-leb}
 use Prim.Native.Nat.{_-_, _≤_}
 use mathlib.Core.Path.{_≡_}
 use Rattle.meaning.specs.Lists.{all, counting}
-use Rattle.normal_form.specs.Clean.{filledAt}
 use Rattle.normal_form.proofs.Cleanness.{test-ends, test-fails, test-on, test-starts}
-use Rattle.normal_form.proofs.are_filled.Statement.{statement}
-use Rattle.normal_form.proofs.are_filled.Tie as tie
+use Rattle.normal_form.proofs.are_nonempty.Statement.{statement}
+use Rattle.normal_form.specs.Clean.{nonEmptyAt}
+use Rattle.normal_form.proofs.are_nonempty.Tie as tie
 
 abbrev Inv-loop : tie.InvT-loop
-Inv-loop work n i₀ i = (i ≤ n) × (all (filledAt work) (counting 0 n) ≡ all (filledAt work) (counting i (n - i)))
+Inv-loop work n i₀ i = (i ≤ n) × (all (nonEmptyAt work) (counting 0 n) ≡ all (nonEmptyAt work) (counting i (n - i)))
 
 abbrev μ-loop : tie.MeasureT-loop
 μ-loop work n i₀ i = n - i
@@ -18,27 +18,27 @@ returns : tie.Need-returns Inv-loop μ-loop
 returns c =
     let l = c .before .before .before .before .loop in
     let a = c .before .before .before .before .before .args in
-    test-fails (filledAt (a .work .now)) (a .n) (l .i) (l .inv .1) (c .before .before .before .loop-test .taken) (lt-leb _ _ (c .if1 .taken))
+    test-fails (nonEmptyAt (a .work .now)) (a .n) (l .i) (l .inv .1) (c .before .before .before .loop-test .taken) (lt-leb _ _ (c .if1 .taken))
 
 loop-again : tie.Need-loop-again Inv-loop μ-loop
 loop-again c =
     let l = c .before .before .before .before .loop in
     let a = c .before .before .before .before .before .args in
-    (search needs, test-on (filledAt (a .work .now)) (a .n) (l .i) (l .inv .1) (c .before .before .before .loop-test .taken) (le-leb _ _ (c .if1 .left)))
+    (search needs, test-on (nonEmptyAt (a .work .now)) (a .n) (l .i) (l .inv .1) (c .before .before .before .loop-test .taken) (le-leb _ _ (c .if1 .left)))
 
 returns-2 : tie.Need-returns-2 Inv-loop μ-loop
 returns-2 c =
     let l = c .before .loop in
     let a = c .before .before .args in
-    test-ends (filledAt (a .work .now)) (a .n) (l .i) (l .inv .1) (c .loop-test .left)
+    test-ends (nonEmptyAt (a .work .now)) (a .n) (l .i) (l .inv .1) (c .loop-test .left)
 
-pub are-filled-spec : {M : Type 1} → statement M
-are-filled-spec =
+pub are-nonempty-spec : {M : Type 1} → statement M
+are-nonempty-spec =
     tie.close
     (tie.spec
     Inv-loop
     μ-loop
-    (λ c. (search needs, test-starts (filledAt (c .args .work .now)) (c .args .n)))
+    (λ c. (search needs, test-starts (nonEmptyAt (c .args .work .now)) (c .args .n)))
     (λ c. search needs) (λ c. search needs) (λ c. search needs) (λ c. search needs)
     (λ c. search needs) (λ c. search needs) (λ c. search needs) (λ c. search needs)
     returns

@@ -1,18 +1,18 @@
 use mathlib.Core.Path.{_∙_}
 use native.Mathlib.Omega.{arith}
 use borrow.Author.Needs.{needs}
-use Rattle.meaning.proofs.Links.{falling}
-use Rattle.meaning.specs.ModelCheck.{factAt, factsOf}
-use Rattle.meaning.specs.Records.{lastOf}
-use Rattle.model.proofs.Chain.{Scanning, scanning-ends, scanning-falls, scanning-found, scanning-on, scanning-starts, scanning-stated}
+use Rattle.meaning.specs.Model.{factAt, factsOf}
+use Rattle.meaning.specs.Records.{falling, lastOf}
+use Rattle.model.proofs.Chain.{Scanning, scanning-ends, scanning-falls, scanning-found, scanning-on, scanning-starts}
+use Rattle.model.proofs.Chain.{scanning-stated}
 use Rattle.satisfaction.proofs.Links.{Holding, holding-ends, holding-fails, holding-on, holding-only}
 use Rattle.satisfaction.proofs.Values.{holding-starts}
-use Rattle.satisfaction.proofs.is_single.Statement.{statement}
-use Rattle.satisfaction.proofs.is_single.Tie as tie
+use Rattle.satisfaction.proofs.is_functional.Statement.{statement}
 use Rattle.satisfaction.specs.Links.{linkOf, linksOf}
 use Rattle.satisfaction.specs.Places.{tablesSize, valuesAt}
 use Rattle.workspace.proofs.Changes.{only-none, only-then, only-wider}
 use Rattle.workspace.specs.Work.{Only}
+use Rattle.satisfaction.proofs.is_functional.Tie as tie
 
 abbrev Inv-loop : tie.InvT-loop
 Inv-loop m work₀ kind a f₀ work f = Scanning (λ l. Holding work (linksOf kind a (factsOf m)) (linksOf kind a l)) m f × Only valuesAt tablesSize work₀ work
@@ -90,8 +90,8 @@ returns-2 c =
       only-then (only-wider (clear .ensures .only) valuesAt tablesSize (omega arith) (omega arith)) (loop .inv .1),
     )
 
-pub is-single-spec : {M : Type 1} → statement M
-is-single-spec =
+pub is-functional-spec : {M : Type 1} → statement M
+is-functional-spec =
     tie.close
     (tie.spec
     Inv-loop

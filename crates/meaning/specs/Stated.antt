@@ -1,0 +1,87 @@
+-- What a vocabulary states, by kind. Whatever asks a vocabulary asks these; only reading it, what an interpretation obeys, and the
+-- model check look at an axiom's kind themselves.
+use Prim.Native.Nat.{ℕ}
+use mathlib.Core.Bool.{Bool, _&&_, _||_, cond}
+use mathlib.Core.List.{List, [], _∷_}
+use lib.Dec.{eqb}
+use Rattle.meaning.specs.Lists.{any, flatMap}
+use Rattle.meaning.specs.Vocabulary.{Axiom, Vocabulary, below, disjoint, functionalFeature, functionalRole, range}
+
+-- "class a is below class b"
+abbrev pub subclass : Axiom → List (ℕ × ℕ)
+subclass (below a b) = (a, b) ∷ []
+subclass (disjoint a b) = []
+subclass (functionalRole r) = []
+subclass (functionalFeature f) = []
+subclass (range r c) = []
+
+unfoldable pub subclasses : Vocabulary → List (ℕ × ℕ)
+subclasses K = flatMap subclass (K .axioms)
+
+-- "classes a and b share no individual"
+abbrev pub disjointPair : Axiom → List (ℕ × ℕ)
+disjointPair (below a b) = []
+disjointPair (disjoint a b) = (a, b) ∷ []
+disjointPair (functionalRole r) = []
+disjointPair (functionalFeature f) = []
+disjointPair (range r c) = []
+
+unfoldable pub disjointPairs : Vocabulary → List (ℕ × ℕ)
+disjointPairs K = flatMap disjointPair (K .axioms)
+
+-- "role a is functional"
+abbrev pub functionalRoleName : Axiom → List ℕ
+functionalRoleName (below a b) = []
+functionalRoleName (disjoint a b) = []
+functionalRoleName (functionalRole r) = r ∷ []
+functionalRoleName (functionalFeature f) = []
+functionalRoleName (range r c) = []
+
+unfoldable pub functionalRoles : Vocabulary → List ℕ
+functionalRoles K = flatMap functionalRoleName (K .axioms)
+
+-- "feature a is functional"
+abbrev pub functionalFeatureName : Axiom → List ℕ
+functionalFeatureName (below a b) = []
+functionalFeatureName (disjoint a b) = []
+functionalFeatureName (functionalRole r) = []
+functionalFeatureName (functionalFeature f) = f ∷ []
+functionalFeatureName (range r c) = []
+
+unfoldable pub functionalFeatures : Vocabulary → List ℕ
+functionalFeatures K = flatMap functionalFeatureName (K .axioms)
+
+-- "every value of role a is in class b"
+abbrev pub rangePair : Axiom → List (ℕ × ℕ)
+rangePair (below a b) = []
+rangePair (disjoint a b) = []
+rangePair (functionalRole r) = []
+rangePair (functionalFeature f) = []
+rangePair (range r c) = (r, c) ∷ []
+
+unfoldable pub rangePairs : Vocabulary → List (ℕ × ℕ)
+rangePairs K = flatMap rangePair (K .axioms)
+
+-- the reflexive and transitive closure of pairs: a pair x below y adds the ways from a to x, from y to b
+abbrev pub closure : List (ℕ × ℕ) → ℕ → ℕ → Bool
+closure [] a b = eqb a b
+closure ((x, y) ∷ l) a b = closure l a b || (closure l a x && closure l y b)
+
+-- ⊑*, "the reflexive and transitive closure" of the records of kind 1
+unfoldable pub isBelow : Vocabulary → ℕ → ℕ → Bool
+isBelow K a b = closure (subclasses K) a b
+
+-- func(R) ∈ K, for a role and for a feature
+unfoldable pub isFunctionalRole : Vocabulary → ℕ → Bool
+isFunctionalRole K r = any (eqb r) (functionalRoles K)
+
+unfoldable pub isFunctionalFeature : Vocabulary → ℕ → Bool
+isFunctionalFeature K f = any (eqb f) (functionalFeatures K)
+
+-- the classes A with range(R, A) ∈ K
+abbrev pub rangesIn : List (ℕ × ℕ) → ℕ → List ℕ
+rangesIn [] r = []
+rangesIn ((q, c) ∷ l) r = cond (eqb r q) (c ∷ rangesIn l r) (rangesIn l r)
+
+unfoldable pub ranges : Vocabulary → ℕ → List ℕ
+ranges K r = rangesIn (rangePairs K) r

@@ -1,0 +1,2 @@
+-- What a model that was read is.
+pub mod Chain
