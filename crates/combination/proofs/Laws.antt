@@ -40,7 +40,7 @@ module _ (w : List ℕ) (x n : ℕ) where
 -- ---- one successor after another
 
 module _ (K : Vocabulary) (w : List ℕ) (top : ℕ) where
-  -- every row of those below individual i has the parent i or one behind it
+  -- every row of those below individual i has the parent i or one after it
   parents : (ks : Successors) (i n : ℕ) → i ≤ n → Below K w top ks i n → (j : ℕ) → n ≤ j → j < n + size ks → i ≤ parentAt w j
   parents none i n h b j p q = absurd (omega arith)
   parents (successor r m under next) i n h b j p q =
@@ -84,7 +84,7 @@ module _ {K : Vocabulary} {w : List ℕ} {t : Tables} {x j : ℕ} where
     pub kin-inside : j < t .individuals
     kin-inside = let f = k .fits in omega arith
 
-    -- what follows: the next successors, from behind those below this one
+    -- what follows: the next successors, from after those below this one
     pub kin-rest : Kin K w t x (suc j + size under) next
     kin-rest =
         let f = k .fits in

@@ -15,14 +15,14 @@ use Rattle.normal_form.specs.declared.Tables.{Tables}
 
 -- ---- the words
 
--- of row n, individual n + 1
+-- the parent and the role of row n, which is individual n + 1
 abbrev pub parentAt : List ℕ → ℕ → ℕ
 parentAt w n = getD w (individualPlace n) 0
 
 abbrev pub roleAt : List ℕ → ℕ → ℕ
 roleAt w n = getD w (individualPlace n + 1) 0
 
--- of constraint m, counted from 0: the individual that it is of, and its piece
+-- the individual that constraint m, counted from 0, is of, and the constraint's piece
 abbrev pub holderAt : List ℕ → ℕ → ℕ
 holderAt w m = getD w (intervalPlace m) 0
 
@@ -34,12 +34,12 @@ unfoldable pub piecesFrom : List ℕ → ℕ → ℕ → ℕ → List Constraint
 piecesFrom w x zero m = []
 piecesFrom w x (suc left) m = let rest = piecesFrom w x left (suc m) in cond (eqb (holderAt w m) x) (pieceAt w m ∷ rest) rest
 
--- among the first n
+-- the pieces of individual x among the first n constraints
 abbrev pub piecesOf : List ℕ → ℕ → ℕ → List Constraint
 piecesOf w n x = piecesFrom w x n 0
 
 -- among so many rows from j on, the next successor of individual x: rows of individuals below another one are passed over, a
--- smaller parent's row stands behind all that is below x; the end of the rows where there is none
+-- smaller parent's row stands after all that is below x; the end of the rows where there is none
 unfoldable pub nextSuccessor : List ℕ → ℕ → ℕ → ℕ → ℕ
 nextSuccessor w x zero j = j
 nextSuccessor w x (suc left) j =

@@ -8,7 +8,7 @@ ghost use Rattle.combination.specs.Combination.{nextSuccessor};
 ghost use Rattle.meaning.specs.Limits.{mostRecords};
 ghost use Rattle.normal_form.specs.Tables.{tablesEnd};
 
-// From row j on, the next successor of individual x, or n, the number of rows. What is below x stands together, behind x, and a
+// From row j on, the next successor of individual x, or n, the number of rows. What is below x stands together, after x, and a
 // smaller parent's row ends it.
 pub fn next_successor(work: &[u32], n: usize, x: u32, j: usize) -> usize
     requires { ⌜ (j ≤ n) × (n ≤ mostRecords) × (tablesEnd ≤ length (now work)) ⌝ }

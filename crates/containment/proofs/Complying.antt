@@ -12,7 +12,7 @@ use Rattle.decision.specs.Decisions.{Delivers, PreparedPair, decision}
 use Rattle.hierarchy.specs.declared.Functional.{Functional}
 use Rattle.meaning.proofs.Compliance.{compliance-told, no-escape}
 use Rattle.meaning.proofs.Interpretations.{tested-finite}
-use Rattle.meaning.proofs.Refusals.{accepted-input, or-few}
+use Rattle.meaning.proofs.Refusals.{accepted-input, orElse-≤}
 use Rattle.meaning.specs.Answers.{Answer, VerdictResult, compliant, outside, result, verdictAnswer}
 use Rattle.meaning.specs.Containment.{Decision, Refutes, contained, decide, escapes, tooMany}
 use Rattle.meaning.specs.Countermodel.{countermodel}
@@ -27,7 +27,7 @@ use Rattle.meaning.specs.Vocabulary.{Vocabulary, vocabularyOf}
 use Rattle.meaning.specs.declared.Verdict.{Verdict}
 use Rattle.normal_form.specs.Tables.{Prepared}
 use Rattle.workspace.proofs.Changes.{cleared-beyond}
-use Rattle.workspace.proofs.Laws.{beyond-then, input-few, none-before, none-full, work-few}
+use Rattle.workspace.proofs.Laws.{beyond-then, inputRefusal-≤, none-before, none-full, workRefusal-≤}
 use Rattle.workspace.specs.Work.{Accepting, Beyond, Cleared, Stays}
 use Rattle.meaning.specs.declared.Verdict.the-variants as verdict
 
@@ -72,7 +72,7 @@ module _ (v p q : List ℕ) (w : ℕ) (o : List ℕ) {m r : ℕ} (e : m ≡ inpu
       go (suc r) n x = record { answer = refl; output = outputs-none o }
 
   pub complies-few : r ≤ 21
-  complies-few = rw in-order (or-few 21 (inputRefusal v p q) (workRefusal w) (let a = input-few v p q in omega arith) (work-few w))
+  complies-few = rw in-order (orElse-≤ 21 (inputRefusal v p q) (workRefusal w) (let a = inputRefusal-≤ v p q in omega arith) (workRefusal-≤ w))
 
   module _ (z : r ≡ 0) where
     pub complies-accepted : AcceptedInput v p q

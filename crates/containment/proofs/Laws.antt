@@ -1,4 +1,4 @@
--- Laws of Possible: the search for the first possible simple policy, the refusals in their order, the work slice afterwards.
+-- Laws of Possible: the search for the first possible term, the refusals in their order, the work slice afterwards.
 use Prim.Native.Nat.{_+_, _≤_, suc, ℕ}
 use mathlib.Core.Bool.{Bool, cond, false, not, true}
 use mathlib.Core.List.{List, _∷_}
@@ -6,7 +6,7 @@ use mathlib.Core.Path.{_∙_, _≡_, ap, refl, sym}
 use native.Mathlib.Omega.{arith}
 use borrow.Author.Tests.{ne-eqb}
 use Rattle.hierarchy.specs.declared.Functional.{Functional}
-use Rattle.meaning.proofs.Refusals.{or-assoc, or-few, or-zero, policy-few, unless-some, vocabulary-few}
+use Rattle.meaning.proofs.Refusals.{orElse-assoc, orElse-≤, orElse-zero, policyRefusal-≤, unless-some, vocabularyRefusal-≤}
 use Rattle.meaning.specs.Answers.{Answer, PossibilityResult, firstPossible, refused, result}
 use Rattle.meaning.specs.Limits.{workSize}
 use Rattle.meaning.specs.NormalForm.{possible}
@@ -16,7 +16,7 @@ use Rattle.meaning.specs.Records.{orElse}
 use Rattle.meaning.specs.Vocabulary.{Vocabulary, vocabularyOf, vocabularyRefusal}
 use Rattle.normal_form.specs.Tables.{Prepared}
 use Rattle.workspace.proofs.Changes.{cleared-beyond}
-use Rattle.workspace.proofs.Laws.{beyond-then, none-before, none-full, work-few}
+use Rattle.workspace.proofs.Laws.{beyond-then, none-before, none-full, workRefusal-≤}
 use Rattle.workspace.specs.Work.{Accepting, Beyond, Cleared}
 
 -- ---- the first that is possible
@@ -42,17 +42,17 @@ module _ (v p : List ℕ) (w : ℕ) {m r : ℕ} (e : m ≡ orElse (vocabularyRef
   in-order : possibility v p w ≡ unless refused r (result (possibleFrom (vocabularyOf v) 1 (policyOf p)))
   unfolding possibility
   in-order = ap (λ (n : ℕ). unless refused n (result (possibleFrom (vocabularyOf v) 1 (policyOf p))))
-      (or-assoc (vocabularyRefusal v) (policyRefusal v p) (workRefusal w) ∙ sym (f ∙ ap (λ (n : ℕ). orElse n (workRefusal w)) e))
+      (orElse-assoc (vocabularyRefusal v) (policyRefusal v p) (workRefusal w) ∙ sym (f ∙ ap (λ (n : ℕ). orElse n (workRefusal w)) e))
 
   pub refuses : (r ≡ 0 → ⊥) → refused r ≡ possibility v p w
   refuses n = unless-some refused r _ n ∙ sym in-order
 
   pub refuses-few : r ≤ 21
-  refuses-few = rw f (or-few 21 m (workRefusal w) (rw e (or-few 21 (vocabularyRefusal v) (policyRefusal v p) (let a = vocabulary-few v in omega arith) (let a = policy-few v p in omega arith))) (work-few w))
+  refuses-few = rw f (orElse-≤ 21 m (workRefusal w) (rw e (orElse-≤ 21 (vocabularyRefusal v) (policyRefusal v p) (let a = vocabularyRefusal-≤ v in omega arith) (let a = policyRefusal-≤ v p in omega arith))) (workRefusal-≤ w))
 
   module _ (z : r ≡ 0) where
     both-accepted : (vocabularyRefusal v ≡ 0) × (policyRefusal v p ≡ 0)
-    both-accepted = or-zero (vocabularyRefusal v) (policyRefusal v p) (sym e ∙ none-before m w (sym f ∙ z))
+    both-accepted = orElse-zero (vocabularyRefusal v) (policyRefusal v p) (sym e ∙ none-before m w (sym f ∙ z))
 
     pub vocabulary-accepted : vocabularyRefusal v ≡ 0
     vocabulary-accepted = both-accepted .0

@@ -33,7 +33,7 @@ pub record PossiblePost (v p w w′ : List ℕ) (r : Possibility) : Type 0 where
 abbrev pub settled : List ℕ → List ℕ → List ℕ → ℕ → Outcome VerdictResult
 settled v p q o = complianceOf (vocabularyOf v) (policyOf p) (policyOf q) o
 
--- it is delivered, by whatever vocabulary is ready
+-- Compliance's outcome after 21 is delivered, by whatever vocabulary is prepared
 abbrev pub SettledBy : List ℕ → List ℕ → List ℕ → Functional → List ℕ → List ℕ → Verdict → Type 0
 SettledBy p q w f o o′ r = (v : List ℕ) → PreparedPair v p q w f → Delivers (settled v p q (length o)) o o′ r
 

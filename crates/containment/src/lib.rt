@@ -22,7 +22,7 @@ ghost use Rattle.decision.specs.Decisions.{PreparedPair};
 ghost use Rattle.meaning.specs.Limits.{workSize};
 ghost use Rattle.workspace.specs.Work.{Accepting, Beyond};
 
-// The first simple policy that is possible, counted from 1, impossible ones too.
+// The first term that is possible, counted from 1, impossible ones too.
 fn first_possible(p: &[u32], work: &mut [u32], f: Functional) -> Possibility
     requires { ⌜ (workSize ≤ length (now work)) × ((v : List ℕ) × Accepting v (now p) (now work) f) ⌝ }
     ensures { λ r. ⌜ PossibleBy (now (p .entry)) (now (work .entry)) f r ⌝ }
@@ -41,7 +41,7 @@ fn first_possible(p: &[u32], work: &mut [u32], f: Functional) -> Possibility
     Possibility::Impossible
 }
 
-// What Compliance answers behind 21: 22 for every simple policy of p before any verdict.
+// What Compliance answers after 21: 22 for every term of p before any verdict.
 fn settle(p: &[u32], q: &[u32], work: &mut [u32], f: Functional, out: &mut [u32]) -> Verdict
     requires { ⌜ ((v : List ℕ) × PreparedPair v (now p) (now q) (now work) f) ⌝ }
     ensures { λ r. ⌜ SettledBy (now (p .entry)) (now (q .entry)) (now (work .entry)) f (now (out .entry)) (now (out .exit)) r ⌝ }

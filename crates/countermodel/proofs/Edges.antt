@@ -15,7 +15,7 @@ use Rattle.meaning.specs.Vocabulary.{Vocabulary}
 use Rattle.normal_form.specs.declared.Tables.{Tables}
 
 module _ (w : List ℕ) (x : ℕ) where
-  -- what is left at row r, of n rows: its own edge, and those behind it
+  -- what is left at row r, of n rows: its own edge, and those after it
   unfoldable pub edgesLeft : ℕ → ℕ → List Fact
   edgesLeft n r = let here = edge (roleAt w r) x (r + 1) ∷ edgesFrom w x (n - (r + 1)) (r + 1) in cond (ltb r n) here []
 
@@ -55,7 +55,7 @@ module _ (w : List ℕ) (x : ℕ) where
 -- ---- by the definition
 
 module _ (K : Vocabulary) (w : List ℕ) (top : ℕ) where
-  -- rows of those below an individual behind x have no edge of x
+  -- rows of those below an individual after x have no edge of x
   over : (x i n : ℕ) (ks : Successors) (left : ℕ) → Below K w top ks i n → x < i → i ≤ n → edgesFrom w x (size ks + left) n ≡ edgesFrom w x left (n + size ks)
   unfolding edgesFrom
   over x i n none left b h g =
@@ -89,7 +89,7 @@ module _ (K : Vocabulary) (w : List ℕ) (top : ℕ) where
       ∙ own x (suc n + size under) next left (b .4) (omega arith)
       ∙ ap₂ (λ (F G : List Fact). F ++ G) (ap (edges next x) target) (ap (edgesFrom w x left) behind)))
 
--- what is below individual x, whose rows start behind it, has x's edges
+-- what is below individual x, whose rows start after it, has x's edges
 pub kin-edges : {K : Vocabulary} {w : List ℕ} {t : Tables} {x : ℕ} {ks : Successors} → Kin K w t x x ks → edgeFacts w (t .individuals) x ≡ edges ks x (suc x)
 unfolding edgesFrom
 kin-edges {K} {w} {t} {x} {ks} k =

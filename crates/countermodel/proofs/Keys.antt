@@ -82,7 +82,7 @@ module _ (B : ℕ) where
             let m = ap (λ (x : ℕ). x * B) f in
             (f, omega arith)
 
-  -- a pair that is neither the same nor before stands behind
+  -- a pair that is neither the same nor before stands after
   behind : (s t : Constraint) → Low s → Low t → samePair s t ≡ false → pairBefore s t ≡ false → key t < key s
   behind s t hs ht p q =
       go (order (key t) (key s))

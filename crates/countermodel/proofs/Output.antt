@@ -1,4 +1,4 @@
--- Records written one behind another into the output. Assumes nothing.
+-- Records written one after another into the output. Assumes nothing.
 use Prim.Native.Nat.{_*_, _+_, _<_, _≤_, suc, ℕ}
 use mathlib.Core.List.{List, [], _++_, _∷_, append-assoc, append-nil}
 use mathlib.Core.Path.{_∙_, _≡_, ap, refl, sym}
@@ -24,7 +24,7 @@ put-five o at a b c d e h =
     let fifth : at + 4 ≡ suc (suc (suc (suc at))) = omega arith in
     rw (second, third, fourth, fifth) (sets-eq (a ∷ (b ∷ (c ∷ (d ∷ (e ∷ []))))) o at h ∙ append-assoc (take at o) _ _)
 
--- ---- words put behind words
+-- ---- words put after words
 
 put-put : (o : List ℕ) (at : ℕ) (vs us : List ℕ) → at + length vs ≤ length o → putAt (putAt o at vs) (at + length vs) us ≡ putAt o at (vs ++ us)
 put-put o at vs us h =
@@ -36,7 +36,7 @@ put-put o at vs us h =
     rw (front, put-drop o at vs h (at + length vs + length us) (omega arith), all)
     (simp append-assoc)
 
--- ---- records behind records
+-- ---- records after records
 
 words-length : (x : Fact) (next : ℕ) → length (factWords x next) ≡ 5
 words-length (member a i) next = refl
@@ -124,7 +124,7 @@ one-written last k x o o′ h e =
     e ∙ ap (putAt o (5 * k)) (sym (append-nil (factWords x (linkAt last k)))) in
     record { words = all; count = refl; same = ap length all ∙ recorded-length last k (x ∷ []) o (omega arith) }
 
--- three lists of facts, one behind another
+-- three lists of facts, one after another
 pub three-written : {last k k₁ k₂ k₃ : ℕ} {A B C F : List Fact} {o o₁ o₂ o₃ : List ℕ} → F ≡ A ++ (B ++ C) → Room last o → k + length F ≤ last + 1 →
     Written last k A o o₁ k₁ → Written last k₁ B o₁ o₂ k₂ → Written last k₂ C o₂ o₃ k₃ → Written last k F o o₃ k₃
 three-written {last} {k} {k₁} {k₂} {k₃} {A} {B} {C} {F} {o} {o₁} {o₂} {o₃} e room fits a b c =

@@ -62,14 +62,14 @@ valuesFrom w n x m = let here = valueFact x (pieceAt w m) ∷ map (valueFact x) 
 
 -- ---- "edges by target", of individual x
 
--- among so many rows from j on; a smaller parent's row stands behind all that is below x
+-- the edges of individual x among so many rows from j on; a smaller parent's row stands after all that is below x
 unfoldable pub edgesFrom : List ℕ → ℕ → ℕ → ℕ → List Fact
 edgesFrom w x zero j = []
 edgesFrom w x (suc left) j =
     let rest = edgesFrom w x left (suc j) in
     cond (ltb (parentAt w j) x) [] (cond (eqb (parentAt w j) x) (edge (roleAt w j) x (suc j) ∷ rest) rest)
 
--- what is below x stands behind it, of n rows
+-- what is below x stands after it, of n rows
 abbrev pub edgeFacts : List ℕ → ℕ → ℕ → List Fact
 edgeFacts w n x = edgesFrom w x (n - x) x
 
@@ -78,7 +78,7 @@ edgeFacts w n x = edgesFrom w x (n - x) x
 unfoldable pub factsAt : List ℕ → Tables → ℕ → List Fact
 factsAt w t i = memberFacts w i ++ (valueFacts w (t .constraints) (i + 1) ++ edgeFacts w (t .individuals) (i + 1))
 
--- of so many rows from i on
+-- the facts of so many rows from i on
 unfoldable pub factsFrom : List ℕ → Tables → ℕ → ℕ → List Fact
 factsFrom w t zero i = []
 factsFrom w t (suc left) i = factsAt w t i ++ factsFrom w t left (suc i)

@@ -1,4 +1,4 @@
--- Records written one behind another into the output, the number of the last one known.
+-- Records written one after another into the output, the number of the last one known.
 use Prim.Native.Nat.{_*_, _+_, _<_, _^_, _≤_, suc, ℕ}
 use mathlib.Core.Bool.{cond}
 use mathlib.Core.List.{List, [], _++_, _∷_}
@@ -25,7 +25,7 @@ linkedWords last k (x ∷ F) = factWords x (linkAt last k) ++ linkedWords last (
 unfoldable pub recorded : ℕ → ℕ → List Fact → List ℕ → List ℕ
 recorded last k F o = putAt o (5 * k) (linkedWords last k F)
 
--- the facts stand at the records from k on, in the place of what stood there, and r is the record behind them
+-- the facts stand at the records from k on, in the place of what stood there, and r is the record after them
 pub record Written (last k : ℕ) (F : List Fact) (o o′ : List ℕ) (r : ℕ) : Type 0 where
   pub words : o′ ≡ recorded last k F o
   pub count : r ≡ k + length F

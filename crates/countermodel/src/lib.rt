@@ -136,7 +136,7 @@ pub fn size(work: &[u32], t: Tables) -> usize
 
 // ---- their words
 
-// Record k links to the one behind it; the last record, and the header of no record, to none.
+// Record k links to the one after it; the last record, and the header of no record, to none.
 fn link(k: usize, last: usize) -> u32
     requires { ⌜ (k ≤ last) × (last < 2 ^ 32) ⌝ }
     ensures { λ r. ⌜ r ≡ linkAt last k ⌝ }

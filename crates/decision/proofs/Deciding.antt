@@ -37,9 +37,9 @@ use Rattle.normal_form.proofs.Groups.{prepared-same}
 use Rattle.normal_form.specs.Clean.{DecidesClean, cleanForm}
 use Rattle.normal_form.specs.Tables.{Prepared, termAt}
 use Rattle.normal_form.specs.declared.Tables.{Tables}
-use Rattle.splitting.proofs.Callers.{full-clean, full-filled, kept-refl, product-at}
+use Rattle.splitting.proofs.Callers.{full-clean, full-nonEmpty, kept-refl, product-at}
 use Rattle.splitting.specs.Ends.{Ends}
-use Rattle.splitting.specs.Odometer.{Kept, Splittable, constraintsAt}
+use Rattle.splitting.specs.Odometer.{OnlyPieces, Splittable, constraintsAt}
 use Rattle.trial.specs.Trials.{Triable, Tried}
 use Rattle.workspace.proofs.Laws.{beyond-then}
 use Rattle.workspace.proofs.Walk.{Asking, asking-found, asking-named, asking-on}
@@ -49,7 +49,7 @@ use Rattle.trial.specs.Trials as Tries
 
 -- ---- 22: too many combinations
 
--- a count that stops behind the limit tells as much
+-- a count that stops after the limit tells as much
 capped : (n m : ℕ) → n ≡ min m (suc mostCombinations) → ltb mostCombinations n ≡ ltb mostCombinations m
 capped n m e = go (order mostCombinations m)
   where
@@ -96,11 +96,11 @@ clean-is K c h = go (not (hasBottom c)) h
 
 module _ {c : Chain} {f : Functional} {w w′ : List ℕ} {t : Tables} (d : Shaped c f w w′ t) where
   pub shape-splittable : workSize ≤ length w → t .impossible ≡ false → Splittable w′ (t .constraints)
-  shape-splittable full h = let s = d .beyond .size in record { few = d .most .1; long = omega arith; full = full-filled w′ (t .constraints) (d .filled h) }
+  shape-splittable full h = let s = d .beyond .size in record { few = d .most .1; long = omega arith; full = full-nonEmpty w′ (t .constraints) (d .nonEmpty h) }
 
   module _ {v : List ℕ} (g : Prepared v w f) (o : ChainOf v c) (Q : Policy) where
     pub shape-impossible : t .impossible ≡ true → false ≡ exceeds (vocabularyOf v) Q c
-    shape-impossible h = rw (d .bottomHere v g o h)
+    shape-impossible h = rw (d .never v g o h)
 
     pub shape-within : product Q (constraintsAt w′ (t .constraints)) ≤ mostCombinations → false ≡ exceeds (vocabularyOf v) Q c
     shape-within l =
@@ -120,7 +120,7 @@ module _ {c : Chain} {f : Functional} {w w′ : List ℕ} {t : Tables} (d : Shap
 
       pub shape-many : {b : Bool} → t .impossible ≡ false → mostCombinations < n → DecidesClean w′ t b → b ≡ exceeds (vocabularyOf v) Q c
       shape-many h l q =
-          rw (sym counted ∙ lt-ltb mostCombinations n l, d .unbarred v h) (go _ (q v (normalForm (vocabularyOf v) c) (d .prepared v g .paired) (d .tabled v g o)))
+          rw (sym counted ∙ lt-ltb mostCombinations n l, d .clean v h) (go _ (q v (normalForm (vocabularyOf v) c) (d .prepared v g .paired) (d .tabled v g o)))
         where
           go : {b : Bool} (x : Bool) → b ≡ x → b ≡ (x && true)
           go true h = h
@@ -168,8 +168,8 @@ module _ (Q : Policy) {w : List ℕ} {t : Tables} where
       go zero K c e y = rw e y
       go (suc k) K c e y = (y .0, rw e (y .1), y .2)
 
--- a piece put beside a constraint leaves what was prepared, and what stands behind
-module _ {n : ℕ} {w w′ : List ℕ} (k : Kept n w w′) (few : n ≤ mostRecords) where
+-- a piece put beside a constraint leaves what was prepared, and what stands after
+module _ {n : ℕ} {w w′ : List ℕ} (k : OnlyPieces n w w′) (few : n ≤ mostRecords) where
   pub pieces-stay : {f : Functional} → Stays f w w′
   pieces-stay v g = prepared-same (k .same) (λ i h. k .others i (λ m l. (λ z. omega arith, λ z. omega arith))) g
 

@@ -23,7 +23,7 @@ use Rattle.meaning.specs.declared.Verdict.{Verdict}
 use Rattle.normal_form.specs.Tables.{Prepared, Tabled}
 use Rattle.normal_form.specs.declared.Tables.{Tables}
 use Rattle.splitting.specs.Ends.{Ends}
-use Rattle.splitting.specs.Odometer.{Kept}
+use Rattle.splitting.specs.Odometer.{OnlyPieces}
 use Rattle.workspace.specs.Work.{Accepting}
 
 -- the answer is the outcome's, and the output holds the outcome's words
@@ -38,7 +38,7 @@ pub record PreparedPair (v p q w : List ℕ) (f : Functional) : Type 0 where
   pub first : policyRefusal v p ≡ 0
   pub second : policyRefusal v q ≡ 0
 
--- the same, and no simple policy of the first has too many combinations
+-- the same, and no term of the first has too many combinations
 pub record Countable (v p q w : List ℕ) (f : Functional) : Type 0 where
   pub ready : PreparedPair v p q w f
   pub few : tooMany (vocabularyOf v) (policyOf p) (policyOf q) ≡ false
@@ -73,8 +73,8 @@ abbrev pub Failure : Vocabulary → Policy → Chain → List ℕ → Tables →
 Failure K Q c w t zero = firstFailure K Q c ≡ nowhere
 Failure K Q c w t (suc k) = (u : Form) × (firstFailure K Q c ≡ found (suc k) u) × Combined K u w t
 
--- so for whatever term the tables hold; nothing but pieces has changed
+-- the answer is that for whatever term the tables hold; nothing but pieces has changed
 pub record Failed (Q : Policy) (w w′ : List ℕ) (t : Tables) (r : ℕ) : Type 0 where
   pub told : (v : List ℕ) (c : Chain) → t .impossible ≡ not (possible (vocabularyOf v) c) → Tabled (vocabularyOf v) (normalForm (vocabularyOf v) c) w t →
       Failure (vocabularyOf v) Q c w′ t r
-  pub kept : Kept (t .constraints) w w′
+  pub kept : OnlyPieces (t .constraints) w w′

@@ -1,4 +1,4 @@
-// One policy against another: whether a simple policy has too many combinations, and the first combination to fail.
+// One policy against another: whether a term has too many combinations, and the first combination to fail.
 use hierarchy::Functional;
 use meaning::Verdict;
 use meaning::limits::MOST_COMBINATIONS;
@@ -26,7 +26,7 @@ ghost use Rattle.splitting.specs.Ends.{Ends};
 ghost use Rattle.trial.specs.Trials.{Triable};
 ghost use Rattle.workspace.specs.Work.{Accepting, Beyond, Stays};
 
-// Whether the simple policy at record k is possible and has too many combinations. Mostly a glance at the number of ends tells that it
+// Whether the term at record k is possible and has too many combinations. Mostly a glance at the number of ends tells that it
 // has not; few have, so the look at the pairs comes last.
 fn is_too_many(p: &[u32], work: &mut [u32], f: Functional, ends: &[u32], k: u32) -> bool
     requires { ⌜ (workSize ≤ length (now work)) × Fit (now p) (now work) k × (pairCount (now work) ≤ mostPairs) ⌝ }
@@ -46,7 +46,7 @@ fn is_too_many(p: &[u32], work: &mut [u32], f: Functional, ends: &[u32], k: u32)
     is_clean(work, t)
 }
 
-// Whether some simple policy of p is, wherever it stands.
+// Whether some term of p is, wherever it stands.
 pub fn has_too_many(p: &[u32], work: &mut [u32], f: Functional, ends: &[u32]) -> bool
     requires { ⌜ (workSize ≤ length (now work)) × ((v : List ℕ) × Accepting v (now p) (now work) f) ⌝ }
     ensures { λ r. ⌜ Counts (now (p .entry)) (now (ends .entry)) (now (work .entry)) f r ⌝ }
@@ -63,7 +63,7 @@ pub fn has_too_many(p: &[u32], work: &mut [u32], f: Functional, ends: &[u32]) ->
     false
 }
 
-// The first combination to fail of the simple policy that the tables hold, counted from 1; 0 where it is impossible or all pass.
+// The first combination to fail of the term that the tables hold, counted from 1; 0 where it is impossible or all pass.
 fn failure_of(q: &[u32], work: &mut [u32], ends: &[u32], t: Tables) -> u32
     requires { ⌜ (t .impossible ≡ false → Triable (now q) (now ends) (now work) t) ⌝ }
     ensures { λ r. ⌜ Failed (policyOf (now (q .entry))) (now (work .entry)) (now (work .exit)) t r ⌝ }
@@ -74,7 +74,7 @@ fn failure_of(q: &[u32], work: &mut [u32], ends: &[u32], t: Tables) -> u32
     first_failure(q, work, ends, t)
 }
 
-// Simple policy s and combination c, which the tables hold, with the words of its countermodel; where these do not fit, 23 before a
+// Term s and combination c, which the tables hold, with the words of its countermodel; where these do not fit, 23 before a
 // word is written.
 fn report(work: &[u32], t: Tables, s: u32, c: u32, out: &mut [u32]) -> Verdict
     requires { ⌜ Standing (now work) t ⌝ }
@@ -90,7 +90,7 @@ fn report(work: &[u32], t: Tables, s: u32, c: u32, out: &mut [u32]) -> Verdict
     Verdict::Outside(s, c, words)
 }
 
-// The first simple policy of p with a combination that fails, and the first of those.
+// The first term of p with a combination that fails, and the first of those.
 pub fn decide(
     p: &[u32],
     q: &[u32],

@@ -11,7 +11,7 @@ use borrow.Author.Tests.{ltb-false, ne-eqb}
 use Rattle.demands.proofs.Orders.{Follows, answering, first-all, first-some, refusing}
 use Rattle.demands.specs.Refusals.{FirstRefusal, here, inputOrder, later, manyRefusal, modelCheckOrder, possibleOrder, shortRefusal}
 use Rattle.demands.specs.Slices.{WorkCleared, WritesFirst}
-use Rattle.meaning.proofs.Refusals.{cond-all, policy-few, vocabulary-few}
+use Rattle.meaning.proofs.Refusals.{cond-all, policyRefusal-≤, vocabularyRefusal-≤}
 use Rattle.meaning.proofs.Rules.{all-at}
 use Rattle.meaning.specs.Answers.{Answer, ComparisonResult, VerdictResult, differs, outside, refused, result}
 use Rattle.meaning.specs.Containment.{Decision, contained, escapes}
@@ -47,15 +47,15 @@ second-few : (n : ℕ) → n ≤ 8 → secondRefusal n ≤ 21
 second-few zero h = omega arith
 second-few (suc n) h = omega arith
 
-work-few : (w : ℕ) → workRefusal w ≤ 21
-work-few w = cond-all (λ n. n ≤ 21) (ltb w workSize) (omega arith) (omega arith)
+workRefusal-≤ : (w : ℕ) → workRefusal w ≤ 21
+workRefusal-≤ w = cond-all (λ n. n ≤ 21) (ltb w workSize) (omega arith) (omega arith)
 
 pub after-21 : (v p q : List ℕ) (w : ℕ) {n : ℕ} {l : List ℕ} → FirstRefusal n (inputOrder v p q w l) → 21 < n → (workSize ≤ w) × FirstRefusal n l
 after-21 v p q w f g =
-    let a = past f (omega (arith, vocabulary-few v)) g in
-    let b = past (a .1) (omega (arith, policy-few v p)) g in
-    let c = past (b .1) (second-few (policyRefusal v q) (policy-few v q)) g in
-    let d = past (c .1) (work-few w) g in
+    let a = past f (omega (arith, vocabularyRefusal-≤ v)) g in
+    let b = past (a .1) (omega (arith, policyRefusal-≤ v p)) g in
+    let c = past (b .1) (second-few (policyRefusal v q) (policyRefusal-≤ v q)) g in
+    let d = past (c .1) (workRefusal-≤ w) g in
     (work-full w (d .0), d .1)
 
 -- no refusal but 22 and 23 comes after 21
@@ -66,13 +66,13 @@ pub few-early : (n : ℕ) → n ≤ 21 → Early n
 few-early n h = rw (ne-eqb n 22 (λ e. omega arith), ne-eqb n 23 (λ e. omega arith))
 
 vocabulary-early : (v : List ℕ) → Early (vocabularyRefusal v)
-vocabulary-early v = few-early (vocabularyRefusal v) (omega (arith, vocabulary-few v))
+vocabulary-early v = few-early (vocabularyRefusal v) (omega (arith, vocabularyRefusal-≤ v))
 
 policy-early : (v p : List ℕ) → Early (policyRefusal v p)
-policy-early v p = few-early (policyRefusal v p) (omega (arith, policy-few v p))
+policy-early v p = few-early (policyRefusal v p) (omega (arith, policyRefusal-≤ v p))
 
 work-early : (w : ℕ) → Early (workRefusal w)
-work-early w = few-early (workRefusal w) (work-few w)
+work-early w = few-early (workRefusal w) (workRefusal-≤ w)
 
 facts-early : (f : ℕ) (v m : List ℕ) (k : ℕ) → Early (factsRefusal f v m k)
 facts-early zero v m k = refl
@@ -87,7 +87,7 @@ possible-early v p w = cons (vocabulary-early v) (cons (policy-early v p) (cons 
 
 pub model-check-early : (v p q m : List ℕ) (w : ℕ) → All Early (modelCheckOrder v p q m w)
 model-check-early v p q m w =
-    let second = few-early (secondRefusal (policyRefusal v q)) (second-few (policyRefusal v q) (policy-few v q)) in
+    let second = few-early (secondRefusal (policyRefusal v q)) (second-few (policyRefusal v q) (policyRefusal-≤ v q)) in
     cons (vocabulary-early v) (cons (policy-early v p) (cons second (cons (model-early v m) (cons (work-early w) nil))))
 
 -- 22 and 23 do

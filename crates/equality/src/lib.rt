@@ -52,7 +52,7 @@ fn differ(
     }
 }
 
-// What Equality answers behind 21: 22 for both directions before any verdict.
+// What Equality answers after 21: 22 for both directions before any verdict.
 fn compare(p: &[u32], q: &[u32], work: &mut [u32], f: Functional, out: &mut [u32]) -> Comparison
     requires { ⌜ ((v : List ℕ) × PreparedPair v (now p) (now q) (now work) f) ⌝ }
     ensures { λ r. ⌜ ComparedBy (now (p .entry)) (now (q .entry)) (now (work .entry)) f (now (out .entry)) (now (out .exit)) r ⌝ }

@@ -147,7 +147,7 @@ pub extern "C" fn gimbuka_read_policy(v: &[u32], p: &[u32], number: &mut u32) ->
     reading(read_policy(v, p), number)
 }
 
-// The same with the numbers of a second policy.
+// Read policy with the numbers of a second policy: 1 accepted.
 #[no_mangle]
 pub extern "C" fn gimbuka_read_second_policy(v: &[u32], q: &[u32], number: &mut u32) -> u32
     ensures { λ k. ⌜ Coded (readingCode (readSecondPolicy (now (v .entry)) (now (q .entry)))) k (now (number .exit)) ⌝ }
@@ -155,7 +155,7 @@ pub extern "C" fn gimbuka_read_second_policy(v: &[u32], q: &[u32], number: &mut 
     reading(read_second_policy(v, q), number)
 }
 
-// Possible: 1 with the first possible simple policy, 2 impossible.
+// Possible: 1 with the first possible term, 2 impossible.
 #[no_mangle]
 pub extern "C" fn gimbuka_possible(v: &[u32], p: &[u32], work: &mut [u32], number: &mut u32) -> u32
     ensures { λ k. ⌜ Coded (possibilityCode (possibility (now (v .entry)) (now (p .entry)) (length (now (work .entry))))) k (now (number .exit)) ⌝ }
@@ -164,7 +164,7 @@ pub extern "C" fn gimbuka_possible(v: &[u32], p: &[u32], work: &mut [u32], numbe
     possibility(possible(v, p, work), number)
 }
 
-// Compliance: 1 compliant; 2 outside, with simple policy, combination and the words written.
+// Compliance: 1 compliant; 2 outside, with term, combination and the words written.
 #[no_mangle]
 pub extern "C" fn gimbuka_compliance(
     v: &[u32],
@@ -183,7 +183,7 @@ pub extern "C" fn gimbuka_compliance(
     verdict(compliance(v, p, q, work, out), number, combination, words)
 }
 
-// Equality: 1 equal; 2 different, with side, simple policy, combination and the words written.
+// Equality: 1 equal; 2 different, with side, term, combination and the words written.
 #[no_mangle]
 pub extern "C" fn gimbuka_equality(
     v: &[u32],

@@ -1,11 +1,12 @@
 -- Laws of one record of the model: whether it is an edge into a set, or a value from lo to hi.
-use Prim.Native.Nat.{_<_, _≤_, ℕ}
+use Prim.Native.Nat.{ℕ}
 use mathlib.Core.Bool.{Bool, false, true}
 use mathlib.Core.List.{List}
 use mathlib.Core.Path.{_∙_, _≡_, refl, sym}
-use borrow.Author.Tests.{eq-eqb, eqb-false, eqb-true, le-leb, lt-leb, ne-eqb}
-use lib.Dec.{eqb, leb}
+use borrow.Author.Tests.{eq-eqb, eqb-false, eqb-true, ne-eqb}
+use lib.Dec.{eqb}
 use Rattle.extension.specs.Sets.{edgeInto, valueWithin}
+use Rattle.meaning.specs.Intervals.{isWithin}
 use Rattle.meaning.specs.Model.{factAt, factKind, factName, factOther}
 use Rattle.model.specs.Chain.{Stated}
 use Rattle.satisfaction.proofs.Facts.{edge-fact, not-edge, not-value, value-fact}
@@ -43,8 +44,5 @@ module _ (m : List ℕ) (k : ℕ) {kind : ℕ} (ek : kind ≡ factKind m k) wher
     value-other n = rw (value-fact m k ek e, ← ef, ne-eqb a f (λ d. n (sym d)))
 
     module _ {x : ℕ} (d : f ≡ a) (ex : x ≡ factOther m k) where
-      pub value-from : lo ≤ x → leb x hi ≡ valueWithin a lo hi (factAt m k)
-      value-from h = rw (value-fact m k ek e, ← ef, eq-eqb a f (sym d), ← ex, le-leb lo x h)
-
-      pub value-under : x < lo → leb lo x ≡ valueWithin a lo hi (factAt m k)
-      value-under h = rw (value-fact m k ek e, ← ef, eq-eqb a f (sym d), ← ex, lt-leb lo x h)
+      pub value-within : {t : Bool} → t ≡ isWithin lo hi x → t ≡ valueWithin a lo hi (factAt m k)
+      value-within h = h ∙ rw (value-fact m k ek e, ← ef, eq-eqb a f (sym d), ← ex)

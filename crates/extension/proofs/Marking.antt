@@ -10,7 +10,7 @@ use lib.Dec.{eqb, leb}
 use lib.ListN.{length}
 use Rattle.extension.proofs.Sets.{kept-in, kept-only, set-kept}
 use Rattle.extension.specs.Places.{individualWords, setOf, setPlace}
-use Rattle.extension.specs.Sets.{Linked, Marked, Ready, kept, markedMember, markedShown, shown, shows}
+use Rattle.extension.specs.Sets.{Linked, Marked, Fillable, kept, markedMember, markedShown, shown, shows}
 use Rattle.meaning.specs.Limits.{mostIndividuals, workSize}
 use Rattle.meaning.specs.Lists.{any}
 use Rattle.meaning.specs.Model.{Fact, factAt, factsOf, individualCount}
@@ -136,7 +136,7 @@ module _ (p m : List ℕ) (k : ℕ) where
     pub telling-ends : {i : ℕ} → individualCount m ≤ i → Telling w₀ w i → Marked p m k isOne w₀ w
     telling-ends {i} l h = record { only = o; marks = λ d n. h d n ∙ rw (le-leb d i (omega arith)) }
 
-    module _ (n : Linked p k) (r : Ready m w) (i : ℕ) (few : i < individualCount m) where
+    module _ (n : Linked p k) (r : Fillable m w) (i : ℕ) (few : i < individualCount m) where
       small : Name mostIndividuals (i + 1)
       small = let c = r .interpreted .readable .individuals in omega arith
 

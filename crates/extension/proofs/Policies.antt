@@ -1,11 +1,11 @@
--- Laws of a policy's simple policies: who is in one is in the set at its first conjunct.
+-- Laws of a policy's terms: who is in one is in the set at its first conjunct.
 use Prim.Native.Nat.{_≤_, ℕ}
 use mathlib.Core.Bool.{Bool, false, true}
 use mathlib.Core.List.{List, _∷_}
 use mathlib.Core.Path.{_∙_, _≡_, sym}
 use native.Mathlib.Omega.{arith}
 use Rattle.extension.specs.Places.{setOf, setsAt, setsSize}
-use Rattle.extension.specs.Sets.{Charted, Everyone, Extended, Filled, Ready, Taken, conjunctsAt}
+use Rattle.extension.specs.Sets.{Charted, Everyone, Extended, Filled, Fillable, Taken, conjunctsAt}
 use Rattle.meaning.proofs.Wellformed.{accepted}
 use Rattle.meaning.specs.Accepted.{Reads, reads-class, reads-end, reads-impossible, reads-interval, reads-some}
 use Rattle.meaning.specs.Limits.{mostRecords}
@@ -27,7 +27,7 @@ reads-inside (reads-impossible h e n) = h .inside .1
 reads-inside (reads-some h e q n) = h .inside .1
 reads-inside (reads-interval h e n) = h .inside .1
 
--- record j is the first of a simple policy's conjuncts
+-- record j is the first of a term's conjuncts
 module _ {p : List ℕ} (t : Taken p) {i j : ℕ} (e : j ≡ i) (r : Reads p i (conjunctsAt p i)) where
   small : lastOf 6 p ≤ mostRecords
   small = accepted (t .0) p (t .1) .small
@@ -52,8 +52,8 @@ module _ {p m w w′ : List ℕ} (r : Readable m) {i j : ℕ} (e : j ≡ i) (f :
 -- ---- with everyone at record 0
 
 module _ {m w w′ : List ℕ} where
-  pub all-ready : Interpreted m w → Only setsAt setsSize w w′ → Everyone m w′ → Ready m w′
+  pub all-ready : Interpreted m w → Only setsAt setsSize w w′ → Everyone m w′ → Fillable m w′
   all-ready i o e = record { interpreted = interpreted-kept (omega arith) o i; everyone = e }
 
-  pub extended : {p w₀ : List ℕ} {b : Bool} → Only setsAt setsSize w₀ w → b ≡ isIn (factsOf m) (policyOf p) 1 → Only setsAt setsSize w w′ → Ready m w′ → Extended p m w₀ w′ b
+  pub extended : {p w₀ : List ℕ} {b : Bool} → Only setsAt setsSize w₀ w → b ≡ isIn (factsOf m) (policyOf p) 1 → Only setsAt setsSize w w′ → Fillable m w′ → Extended p m w₀ w′ b
   extended o e f r = record { told = e; interpreted = r .interpreted; only = only-then o f }

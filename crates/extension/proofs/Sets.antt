@@ -10,7 +10,7 @@ use lib.Dec.{eqb}
 use lib.ListN.{length}
 use Rattle.extension.proofs.Facts.{into-same}
 use Rattle.extension.specs.Places.{individualWords, setOf, setPlace, setsAt}
-use Rattle.extension.specs.Sets.{Linked, Placed, Ready, Right, childAt, conjunctsAt, edgeInto, kept, shows}
+use Rattle.extension.specs.Sets.{Linked, Placed, Fillable, IsExtension, childAt, conjunctsAt, edgeInto, kept, shows}
 use Rattle.meaning.specs.Limits.{mostIndividuals, mostRecords, workSize}
 use Rattle.meaning.specs.Model.{factAt, factOther, factsOf}
 use Rattle.meaning.specs.ModelCheck.{holds}
@@ -31,11 +31,11 @@ module _ {p : List ℕ} {k child : ℕ} (l : Linked p k) where
   pub child-inside : kindOf p k ≡ 3 → child ≡ childOf p k → child ≤ mostRecords
   child-inside e c = let h = l .child .0 in let d : childAt p k ≡ childOf p k = rw e in omega arith
 
-pub edge-shown : (p m w : List ℕ) (k : ℕ) {f child a : ℕ} {b : Bool} → Stated m f → Right p m w (childAt p k) → kindOf p k ≡ 3 → child ≡ childOf p k →
+pub edge-shown : (p m w : List ℕ) (k : ℕ) {f child a : ℕ} {b : Bool} → Stated m f → IsExtension p m w (childAt p k) → kindOf p k ≡ 3 → child ≡ childOf p k →
     a ≡ nameOf p k → b ≡ edgeInto a (inSet (setOf w child)) (factAt m f) → b ≡ shows (factsOf m) p k (factAt m f)
 edge-shown p m w k {f} {child} {a} s r e c ea h =
     let d : childAt p k ≡ child = rw (e, c) in
-    let q = subst (λ (j : ℕ). Right p m w j) d r in
+    let q = subst (λ (j : ℕ). IsExtension p m w j) d r in
     h ∙ into-same m f refl a (inSet (setOf w child)) (holds (factsOf m) (conjunctsAt p child)) (λ z. q (factOther m f) (s .target z)) ∙ rw (e, ea, c)
 
 -- ---- what is left
@@ -45,11 +45,11 @@ pub set-kept : {j k : ℕ} {w w′ : List ℕ} → (j ≡ k → ⊥) → Only (s
 set-kept {j} {k} n o =
     ⊎-elim (λ h. row-before o individualWords (setPlace j) (omega arith)) (λ h. row-behind o individualWords (setPlace j) (omega arith)) (lt-or-ge j k)
 
-pub right-kept : (p m : List ℕ) (j : ℕ) {w w′ : List ℕ} {k : ℕ} → (j ≡ k → ⊥) → Only (setPlace k) individualWords w w′ → Right p m w j → Right p m w′ j
+pub right-kept : (p m : List ℕ) (j : ℕ) {w w′ : List ℕ} {k : ℕ} → (j ≡ k → ⊥) → Only (setPlace k) individualWords w w′ → IsExtension p m w j → IsExtension p m w′ j
 right-kept p m j n o r i h = ap (λ (s : List ℕ). inSet s i) (set-kept n o) ∙ r i h
 
 module _ {w w′ : List ℕ} {k : ℕ} (o : Only (setPlace k) individualWords w w′) where
-  pub ready-kept : {m : List ℕ} → Name mostRecords k → Ready m w → Ready m w′
+  pub ready-kept : {m : List ℕ} → Name mostRecords k → Fillable m w → Fillable m w′
   ready-kept n r = record {
     interpreted = interpreted-kept (omega arith) o (r .interpreted);
     everyone = λ i h. ap (λ (t : List ℕ). inSet t i) (set-kept {j = 0} (λ e. omega arith) o) ∙ r .everyone i h;

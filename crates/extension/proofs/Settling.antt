@@ -9,7 +9,7 @@ use lib.Dec.{eqb}
 use Rattle.extension.proofs.Conjuncts.{Cut, cut, linked-at}
 use Rattle.extension.proofs.Sets.{placed-kept, ready-kept, right-kept}
 use Rattle.extension.specs.Places.{individualWords, setPlace, setsAt, setsSize}
-use Rattle.extension.specs.Sets.{Charted, Everyone, Filled, Marked, Placed, Ready, Right, Settled, Vacant, childAt}
+use Rattle.extension.specs.Sets.{Charted, Everyone, Filled, Marked, Placed, Fillable, IsExtension, Settled, Vacant, childAt}
 use Rattle.extension.specs.Sets.{conjunctsAt, shown}
 use Rattle.meaning.proofs.Terms.{chain-at}
 use Rattle.meaning.specs.Accepted.{Reads, reads-end}
@@ -24,14 +24,14 @@ use Rattle.workspace.specs.Work.{Cleared, Only}
 
 -- ---- one record
 
-module _ {p m w w₁ : List ℕ} {k at : ℕ} (r : Ready m w) (q : Placed p m w k) (c : Charted p k) (ea : at ≡ setPlace k) (e : Cleared at individualWords w w₁) where
+module _ {p m w w₁ : List ℕ} {k at : ℕ} (r : Fillable m w) (q : Placed p m w k) (c : Charted p k) (ea : at ≡ setPlace k) (e : Cleared at individualWords w w₁) where
   vacated : Cleared (setPlace k) individualWords w w₁
   vacated = subst (λ (j : ℕ). Cleared j individualWords w w₁) ea e
 
   settle-only : Only (setPlace k) individualWords w w₁
   settle-only = vacated .only
 
-  pub settle-ready : Ready m w₁
+  pub settle-ready : Fillable m w₁
   settle-ready = ready-kept settle-only (q .linked .conjunct) r
 
   pub settle-placed : Placed p m w₁ k
@@ -65,16 +65,16 @@ no-more : (p : List ℕ) → conjunctsAt p 0 ≡ end
 no-more p = let z : Reads p 0 end = reads-end refl in chain-at z
 
 module _ (p m w : List ℕ) where
-  everyone-right : Everyone m w → Right p m w 0
+  everyone-right : Everyone m w → IsExtension p m w 0
   everyone-right f i n = f i n ∙ rw (no-more p)
 
-  right-everyone : Right p m w 0 → Everyone m w
+  right-everyone : IsExtension p m w 0 → Everyone m w
   right-everyone f i n = f i n ∙ rw (no-more p)
 
-pub filled-none : {p m w : List ℕ} {k : ℕ} → Ready m w → k ≡ 0 → Filled p m k w w
+pub filled-none : {p m w : List ℕ} {k : ℕ} → Fillable m w → k ≡ 0 → Filled p m k w w
 filled-none {p} {m} {w} r z = record { only = only-none; still = λ j h. h; own = rw z (everyone-right p m w (r .everyone)) }
 
-pub filled-ready : {p m w w′ : List ℕ} {k : ℕ} → Filled p m k w w′ → Ready m w → Ready m w′
+pub filled-ready : {p m w w′ : List ℕ} {k : ℕ} → Filled p m k w w′ → Fillable m w → Fillable m w′
 filled-ready {p} {m} {w} {w′} f r = record {
   interpreted = interpreted-kept (omega arith) (f .only) (r .interpreted);
   everyone = right-everyone p m w′ (f .still 0 (everyone-right p m w (r .everyone)));
@@ -85,8 +85,8 @@ module _ {p m w w₁ w₂ : List ℕ} {k x y : ℕ} (z : k ≡ 0 → ⊥) (c : C
   pub filled-placed : Placed p m w₂ k
   filled-placed = record {
     linked = linked-at z c;
-    child = subst (λ (j : ℕ). Right p m w₂ j) ex (g .still x (f .own));
-    next = subst (λ (j : ℕ). Right p m w₂ j) ey (g .own);
+    child = subst (λ (j : ℕ). IsExtension p m w₂ j) ex (g .still x (f .own));
+    next = subst (λ (j : ℕ). IsExtension p m w₂ j) ey (g .own);
   }
 
   pub filled-then : {w₃ : List ℕ} → Settled p m k w₂ w₃ → Filled p m k w w₃
@@ -97,6 +97,6 @@ module _ {p m w w₁ w₂ : List ℕ} {k x y : ℕ} (z : k ≡ 0 → ⊥) (c : C
         own = s .own;
       }
     where
-      go : (j : ℕ) → Right p m w₂ j → (b : Bool) → eqb j k ≡ b → Right p m w₃ j
-      go j h true e = subst (λ (i : ℕ). Right p m w₃ i) (sym (eqb-true j k e)) (s .own)
+      go : (j : ℕ) → IsExtension p m w₂ j → (b : Bool) → eqb j k ≡ b → IsExtension p m w₃ j
+      go j h true e = subst (λ (i : ℕ). IsExtension p m w₃ i) (sym (eqb-true j k e)) (s .own)
       go j h false e = right-kept p m j (eqb-false j k e) (s .only) h

@@ -3,10 +3,11 @@ use Prim.Native.Nat.{_≤_, ℕ}
 use mathlib.Core.Bool.{Bool, _&&_, cond, false, true}
 use mathlib.Core.List.{List}
 use mathlib.Core.Path.{_≡_}
-use lib.Dec.{eqb, leb}
+use lib.Dec.{eqb}
 use lib.ListN.{length}
 use Rattle.extension.specs.Places.{individualWords, setOf, setPlace, setsAt, setsSize}
 use Rattle.meaning.specs.Accepted.{Reads}
+use Rattle.meaning.specs.Intervals.{isWithin}
 use Rattle.meaning.specs.Limits.{mostRecords}
 use Rattle.meaning.specs.Lists.{any}
 use Rattle.meaning.specs.Model.{Fact, edge, factsOf, individualCount, member, value}
@@ -23,15 +24,15 @@ abbrev pub conjunctsAt : List ℕ → ℕ → Chain
 conjunctsAt p k = chainFrom (length p) p k
 
 -- the set at record k is that of the individuals at which its chain holds
-abbrev pub Right : List ℕ → List ℕ → List ℕ → ℕ → Type 0
-Right p m w k = (i : ℕ) → Name (individualCount m) i → inSet (setOf w k) i ≡ holds (factsOf m) (conjunctsAt p k) i
+abbrev pub IsExtension : List ℕ → List ℕ → List ℕ → ℕ → Type 0
+IsExtension p m w k = (i : ℕ) → Name (individualCount m) i → inSet (setOf w k) i ≡ holds (factsOf m) (conjunctsAt p k) i
 
--- and that at 0, where no conjunct is left, of all
+-- the set at 0, where no conjunct is left, is that of all individuals
 abbrev pub Everyone : List ℕ → List ℕ → Type 0
 Everyone m w = (i : ℕ) → Name (individualCount m) i → inSet (setOf w 0) i ≡ true
 
 -- what the sets are made from
-pub record Ready (m w : List ℕ) : Type 0 where
+pub record Fillable (m w : List ℕ) : Type 0 where
   pub interpreted : Interpreted m w
   pub everyone : Everyone m w
 
@@ -44,7 +45,7 @@ pub record Charted (p : List ℕ) (k : ℕ) : Type 0 where
   pub reads : Reads p k (conjunctsAt p k)
   pub few : lastOf 6 p ≤ mostRecords
 
--- by some vocabulary the policy is accepted
+-- the policy is accepted by some vocabulary
 abbrev pub Taken : List ℕ → Type 0
 Taken p = (v : List ℕ) × (policyRefusal v p ≡ 0)
 
@@ -58,7 +59,7 @@ edgeInto a q (value f i v) = false
 abbrev pub valueWithin : ℕ → ℕ → ℕ → Fact → Bool
 valueWithin a lo hi (member b i) = false
 valueWithin a lo hi (edge r i j) = false
-valueWithin a lo hi (value f i v) = eqb a f && (leb lo v && leb v hi)
+valueWithin a lo hi (value f i v) = eqb a f && isWithin lo hi v
 
 -- a fact shows that its owner has the conjunct at record k, a role's or a feature's
 abbrev pub shows : List Fact → List ℕ → ℕ → Fact → Bool
@@ -87,8 +88,8 @@ pub record Linked (p : List ℕ) (k : ℕ) : Type 0 where
 -- record k is a conjunct, and the sets of what its links lead to are right
 pub record Placed (p m w : List ℕ) (k : ℕ) : Type 0 where
   pub linked : Linked p k
-  pub child : Right p m w (childAt p k)
-  pub next : Right p m w (nextOf p k)
+  pub child : IsExtension p m w (childAt p k)
+  pub next : IsExtension p m w (nextOf p k)
 
 -- individual i where a fact shows the conjunct at record k, and where the sets of its classes do
 abbrev pub markedShown : List Fact → List ℕ → ℕ → List ℕ → Fact → List ℕ
@@ -105,13 +106,13 @@ pub record Marked (p m : List ℕ) (k : ℕ) (own : ℕ → Bool) (w w′ : List
 -- only the set at record k changed, and it is right
 pub record Settled (p m : List ℕ) (k : ℕ) (w w′ : List ℕ) : Type 0 where
   pub only : Only (setPlace k) individualWords w w′
-  pub own : Right p m w′ k
+  pub own : IsExtension p m w′ k
 
 -- only the records' sets changed: that of record k is right, and each that was is
 pub record Filled (p m : List ℕ) (k : ℕ) (w w′ : List ℕ) : Type 0 where
   pub only : Only setsAt setsSize w w′
-  pub still : (j : ℕ) → Right p m w j → Right p m w′ j
-  pub own : Right p m w′ k
+  pub still : (j : ℕ) → IsExtension p m w j → IsExtension p m w′ j
+  pub own : IsExtension p m w′ k
 
 -- r tells whether individual 1 is in the policy; only the sets of individuals changed, and more may be asked of the model
 pub record Extended (p m w w′ : List ℕ) (r : Bool) : Type 0 where

@@ -1,7 +1,8 @@
 // Extensions: the set of the individuals of which each of a policy's records holds, and so whether individual 1 is in the policy.
 // The sets stand in the work slice, so that no path of edges is walked twice: time grows with the model's records times the policy's.
-// There are 513, one a record and the header's, of 16 words each, behind what satisfaction keeps: with 8 words to a set of classes
+// There are 513, one a record and the header's, of 16 words each, after what satisfaction keeps: with 8 words to a set of classes
 // they end at 5,120 + 8,208 = 13,328 words, and with 10 at 14,352, of 16,384.
+use intervals::is_within;
 use meaning::limits::MOST_INDIVIDUALS;
 use model::fact_kind;
 use model::fact_name;
@@ -27,7 +28,7 @@ ghost use mathlib.Core.Path.{_≡_};
 ghost use Prim.Native.Nat.{_≤_};
 ghost use lib.ListN.{length};
 ghost use Rattle.extension.specs.Places.{setOf, setPlace, setsAt, setsSize};
-ghost use Rattle.extension.specs.Sets.{Charted, Everyone, Extended, Filled, Linked, Marked, Placed, Ready, Right, Settled};
+ghost use Rattle.extension.specs.Sets.{Charted, Everyone, Extended, Filled, Linked, Marked, Placed, Fillable, IsExtension, Settled};
 ghost use Rattle.extension.specs.Sets.{Taken, Vacant, childAt, edgeInto, kept, markedMember, markedShown, shown, shows};
 ghost use Rattle.extension.specs.Sets.{valueWithin};
 ghost use Rattle.meaning.specs.Limits.{mostIndividuals, mostRecords, workSize};
@@ -112,13 +113,12 @@ fn is_value_within(m: &[u32], f: u32, a: u32, lo: u32, hi: u32) -> bool
     if fact_name(m, f) != a {
         return false;
     }
-    let x = fact_other(m, f);
-    lo <= x && x <= hi
+    is_within(lo, hi, fact_other(m, f))
 }
 
 // Whether record f of the model shows that its individual has the conjunct at record k, a role's or a feature's.
 fn does_show(p: &[u32], m: &[u32], work: &[u32], k: u32, f: u32) -> bool
-    requires { ⌜ Stated (now m) f × Linked (now p) k × Right (now p) (now m) (now work) (childAt (now p) k) × (workSize ≤ length (now work)) ⌝ }
+    requires { ⌜ Stated (now m) f × Linked (now p) k × IsExtension (now p) (now m) (now work) (childAt (now p) k) × (workSize ≤ length (now work)) ⌝ }
     ensures { λ r. ⌜ r ≡ shows (factsOf (now (m .entry))) (now (p .entry)) k (factAt (now (m .entry)) f) ⌝ }
 {
     let a = name_of(p, k);
@@ -140,9 +140,9 @@ fn mark_shown(p: &[u32], m: &[u32], work: &mut [u32], k: u32, f: u32)
     keep(work, next_of(p, k), k, fact_owner(m, f));
 }
 
-// So for every record of the model: k is a role's or a feature's.
+// Puts the individuals of which a record of the model shows the conjunct at record k, a role's or a feature's, into its set.
 fn mark_all_shown(p: &[u32], m: &[u32], work: &mut [u32], k: u32)
-    requires { ⌜ Ready (now m) (now work) × Placed (now p) (now m) (now work) k × Vacant (now work) k ⌝ }
+    requires { ⌜ Fillable (now m) (now work) × Placed (now p) (now m) (now work) k × Vacant (now work) k ⌝ }
     ensures { λ _. ⌜ Marked (now (p .entry)) (now (m .entry)) k (shown (factsOf (now (m .entry))) (now (p .entry)) k) (now (work .entry)) (now (work .exit)) ⌝ }
 {
     let mut f = first_fact(m);
@@ -163,9 +163,9 @@ fn mark_member(p: &[u32], work: &mut [u32], k: u32, i: u32)
     keep(work, next_of(p, k), k, i);
 }
 
-// So for every individual: k is a class's.
+// Puts the individuals in the class of the conjunct at record k into its set.
 fn mark_all_members(p: &[u32], m: &[u32], work: &mut [u32], k: u32)
-    requires { ⌜ Ready (now m) (now work) × Placed (now p) (now m) (now work) k × Vacant (now work) k ⌝ }
+    requires { ⌜ Fillable (now m) (now work) × Placed (now p) (now m) (now work) k × Vacant (now work) k ⌝ }
     ensures { λ _. ⌜ Marked (now (p .entry)) (now (m .entry)) k (λ i. any (isMember (nameOf (now (p .entry)) k) i) (factsOf (now (m .entry)))) (now (work .entry)) (now (work .exit)) ⌝ }
 {
     let n = individual_count(m);
@@ -176,7 +176,7 @@ fn mark_all_members(p: &[u32], m: &[u32], work: &mut [u32], k: u32)
 
 // The set at record k, from those of the records that its links lead to.
 fn settle(p: &[u32], m: &[u32], work: &mut [u32], k: u32)
-    requires { ⌜ Ready (now m) (now work) × Placed (now p) (now m) (now work) k × Charted (now p) k ⌝ }
+    requires { ⌜ Fillable (now m) (now work) × Placed (now p) (now m) (now work) k × Charted (now p) k ⌝ }
     ensures { λ _. ⌜ Settled (now (p .entry)) (now (m .entry)) k (now (work .entry)) (now (work .exit)) ⌝ }
 {
     let at = set_place(k);
@@ -202,7 +202,7 @@ fn child_at(p: &[u32], k: u32) -> u32
 
 // The sets at the records from k on, what a record's links lead to before the record.
 fn settle_all(p: &[u32], m: &[u32], work: &mut [u32], k: u32)
-    requires { ⌜ Ready (now m) (now work) × Charted (now p) k ⌝ }
+    requires { ⌜ Fillable (now m) (now work) × Charted (now p) k ⌝ }
     ensures { λ _. ⌜ Filled (now (p .entry)) (now (m .entry)) k (now (work .entry)) (now (work .exit)) ⌝ }
 {
     if k == 0 {
@@ -213,11 +213,11 @@ fn settle_all(p: &[u32], m: &[u32], work: &mut [u32], k: u32)
     settle(p, m, work, k);
 }
 
-// Whether individual 1 is in one of the policy's simple policies.
+// Whether individual 1 is in one of the policy's terms.
 fn is_in_some(p: &[u32], m: &[u32], work: &mut [u32]) -> bool
-    requires { ⌜ Ready (now m) (now work) × Taken (now p) ⌝ }
+    requires { ⌜ Fillable (now m) (now work) × Taken (now p) ⌝ }
     ensures { λ r. ⌜ r ≡ isIn (factsOf (now (m .entry))) (policyOf (now (p .entry))) 1 ⌝ }
-    ensures { λ _. ⌜ Only setsAt setsSize (now (work .entry)) (now (work .exit)) × Ready (now (m .entry)) (now (work .exit)) ⌝ }
+    ensures { λ _. ⌜ Only setsAt setsSize (now (work .entry)) (now (work .exit)) × Fillable (now (m .entry)) (now (work .exit)) ⌝ }
 {
     let mut k = first_term(p);
     while k != 0 {

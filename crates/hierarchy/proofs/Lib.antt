@@ -3,6 +3,6 @@ pub mod Rows
 pub mod Passes
 pub mod Steps
 pub mod Raising
-pub mod Singles
+pub mod FunctionalNames
 pub mod Ranges
 pub mod Pairs

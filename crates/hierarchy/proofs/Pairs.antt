@@ -19,7 +19,7 @@ use Rattle.vocabulary.proofs.Chain.{Walking, walking-ends, walking-falls, walki
 
 -- ---- pairs that stand
 
--- one more, behind the others
+-- one more, after the others
 counted-more : {A : Type 0} (f : ℕ → A) (n : ℕ) → map f (counting 0 (n + 1)) ≡ map f (counting 0 n) ++ (f n ∷ [])
 counted-more {A} f n = rw (add-one n) (go 0 n ∙ ap (λ (x : ℕ). map f (counting 0 n) ++ (f x ∷ [])) (omega arith))
   where
@@ -31,7 +31,7 @@ counted-same : {A : Type 0} (f g : ℕ → A) (o n : ℕ) → ((i : ℕ) → i <
 counted-same f g o zero h = refl
 counted-same {A} f g o (suc n) h = ap₂ (λ (x : A) (l : List A). x ∷ l) (h o (omega arith)) (counted-same f g (suc o) n (λ i l. h i (omega arith)))
 
--- what writes behind the list keeps it
+-- what writes after the list keeps it
 pub pairs-kept : {v : List ℕ} (w u : List ℕ) → ((i : ℕ) → i < pairsEnd → getD u i 0 ≡ getD w i 0) → PairRows v w → PairRows v u
 pairs-kept w u same h =
     let n : pairCount u ≡ pairCount w = same pairsAt (omega arith) in

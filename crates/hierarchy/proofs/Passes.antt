@@ -8,7 +8,7 @@ use mathlib.Core.Logic.{_⊎_, inl, inr, ⊎-elim}
 use mathlib.Core.Path.{_∙_, _≡_, ap, refl, subst, sym}
 use native.Mathlib.Omega.{arith}
 use borrow.Author.Tests.{eq-eqb, eqb-false, eqb-true}
-use Rattle.hierarchy.proofs.Rows.{Fits, filled-drop, filled-length, filled-row, joined-drop, joined-grows, joined-in}
+use Rattle.hierarchy.proofs.Rows.{Fits, fillRows-drop, fillRows-length, fillRows-row, joined-drop, joined-grows, joined-in}
 use Rattle.hierarchy.proofs.Rows.{joined-length, joined-other, joined-shut, joined-still, row-length}
 use Rattle.hierarchy.specs.Rows.{Closed, begun, empty, joined, lift, lifted, rowOf}
 use Rattle.meaning.proofs.Bounds.{bounded, subclasses-named}
@@ -51,15 +51,15 @@ in-alone c n =
 
 module _ (n : ℕ) (w : List ℕ) (h : n * classWords ≤ length w) where
   pub begun-length : length (begun n w) ≡ length w
-  begun-length = filled-length 0 (including empty) alone-length w n (omega arith)
+  begun-length = fillRows-length 0 (including empty) alone-length w n (omega arith)
 
   begun-drop : drop (n * classWords) (begun n w) ≡ drop (n * classWords) w
-  begun-drop = filled-drop 0 (including empty) alone-length w n (omega arith) (n * classWords) (omega arith)
+  begun-drop = fillRows-drop 0 (including empty) alone-length w n (omega arith) (n * classWords) (omega arith)
 
   begun-row : (c : ℕ) → Name n c → rowOf (begun n w) c ≡ including empty c
   begun-row c m =
       let same : 0 + c ≡ c = omega arith in
-      ap (rowOf (begun n w)) (sym same) ∙ filled-row 0 (including empty) alone-length w n (omega arith) c m
+      ap (rowOf (begun n w)) (sym same) ∙ fillRows-row 0 (including empty) alone-length w n (omega arith) c m
 
 -- ---- what each pass keeps
 

@@ -70,7 +70,7 @@ module _ (v : List ℕ) where
 
 -- ---- the walk that fills the index
 
--- what is met when the walk is at record k is before this: 0 is behind the last
+-- what is met when the walk is at record k is before this: 0 is after the last
 abbrev before : ℕ → ℕ
 before zero = records
 before (suc j) = suc j

@@ -7,9 +7,9 @@ use mathlib.Core.List.{List, [], _∷_, foldl}
 use mathlib.Core.Path.{_∙_, _≡_, ap, refl, subst, sym}
 use native.Mathlib.Omega.{arith}
 use borrow.Author.Tests.{eqb-false, eqb-true}
-use Rattle.hierarchy.proofs.Rows.{Fits, filled-drop, filled-length, filled-row, filled-take, joined-drop, joined-in}
+use Rattle.hierarchy.proofs.Rows.{Fits, fillRows-drop, fillRows-length, fillRows-row, fillRows-take, joined-drop, joined-in}
 use Rattle.hierarchy.proofs.Rows.{joined-length, joined-other, joined-take}
-use Rattle.hierarchy.specs.Rows.{ClosedRows, Kept, Ranged, emptied, empty, extend, isRanged, joined, roleRow, rowOf, rowPlace}
+use Rattle.hierarchy.specs.Rows.{ClosedRows, OnlyRanges, Ranged, emptied, empty, extend, isRanged, joined, roleRow, rowOf, rowPlace}
 use Rattle.hierarchy.specs.Rows.{widened}
 use Rattle.meaning.proofs.Bounds.{rangePairs-named}
 use Rattle.meaning.proofs.Rules.{head, tail}
@@ -25,7 +25,7 @@ use Rattle.words.proofs.Rows.{row-front}
 use Rattle.words.specs.Rows.{classWords}
 use Rattle.words.specs.Sets.{inSet}
 
--- ---- what writes behind the rows keeps them: u begins as w does, with the first e words
+-- ---- what writes after the rows keeps them: u begins as w does, with the first e words
 
 module _ (v w u : List ℕ) (e : ℕ) (same : take e u ≡ take e w) where
   row-kept : (i b : ℕ) → 1 ≤ i → i * classWords ≤ e → inSet (rowOf u i) b ≡ inSet (rowOf w i) b
@@ -37,20 +37,20 @@ module _ (v w u : List ℕ) (e : ℕ) (same : take e u ≡ take e w) where
 module _ (v w₀ : List ℕ) (r : vocabularyRefusal v ≡ 0) (closed : ClosedRows v w₀) (fits : roleRow (roleCount v) * classWords ≤ length w₀) where
   -- ---- the rows at first
 
-  pub kept-starts : {w : List ℕ} → w ≡ emptied (roleCount v) w₀ → Kept v w₀ w
+  pub kept-starts : {w : List ℕ} → w ≡ emptied (roleCount v) w₀ → OnlyRanges v w₀ w
   kept-starts e = rw e (record {
-    size = filled-length mostClasses (λ q. empty) (λ q. refl) w₀ (roleCount v) fits;
-    front = filled-take mostClasses (λ q. empty) (λ q. refl) w₀ (roleCount v) fits;
-    rest = filled-drop mostClasses (λ q. empty) (λ q. refl) w₀ (roleCount v) fits (roleRow (roleCount v) * classWords) (omega arith);
+    size = fillRows-length mostClasses (λ q. empty) (λ q. refl) w₀ (roleCount v) fits;
+    front = fillRows-take mostClasses (λ q. empty) (λ q. refl) w₀ (roleCount v) fits;
+    rest = fillRows-drop mostClasses (λ q. empty) (λ q. refl) w₀ (roleCount v) fits (roleRow (roleCount v) * classWords) (omega arith);
   })
 
   starts-empty : (q b : ℕ) → Name (roleCount v) q → inSet (rowOf (emptied (roleCount v) w₀) (roleRow q)) b ≡ false
   starts-empty q b n =
-      ap (λ (s : List ℕ). inSet s b) (filled-row mostClasses (λ q. empty) (λ q. refl) w₀ (roleCount v) fits q n) ∙ in-zeros classWords b
+      ap (λ (s : List ℕ). inSet s b) (fillRows-row mostClasses (λ q. empty) (λ q. refl) w₀ (roleCount v) fits q n) ∙ in-zeros classWords b
 
   -- ---- one record
 
-  module _ {w : List ℕ} (h : Kept v w₀ w) where
+  module _ {w : List ℕ} (h : OnlyRanges v w₀ w) where
     role-fits : (q : ℕ) → Name (roleCount v) q → Fits w (roleRow q)
     role-fits q n = (omega arith, omega (arith, h .size, n .1))
 
@@ -62,7 +62,7 @@ module _ (v w₀ : List ℕ) (r : vocabularyRefusal v ≡ 0) (closed : ClosedRow
         let most = accepted-counts v r .0 .1 in
         closed-kept v w₀ w (mostClasses * classWords) (h .front) (omega arith) (omega (arith, h .size, closed .fits)) closed
 
-    kept-joined : (q c : ℕ) → Name (roleCount v) q → Name (classCount v) c → Kept v w₀ (joined w (roleRow q) c)
+    kept-joined : (q c : ℕ) → Name (roleCount v) q → Name (classCount v) c → OnlyRanges v w₀ (joined w (roleRow q) c)
     kept-joined q c n m = record {
       size = joined-length w (roleRow q) c (role-fits q n) (class-fits c m) ∙ h .size;
       front = joined-take w (roleRow q) c (role-fits q n) (class-fits c m) (mostClasses * classWords) (omega (arith, n .0)) ∙ h .front;
@@ -104,11 +104,11 @@ module _ (v w₀ : List ℕ) (r : vocabularyRefusal v ≡ 0) (closed : ClosedRow
       go true = ap (λ (u : Bool). u || any p (rangesIn R q)) (or-false (p c))
       go false = refl
 
-  kept-all : {w : List ℕ} → Kept v w₀ w → (R : List (ℕ × ℕ)) → All Named R → Kept v w₀ (foldl extend w R)
+  kept-all : {w : List ℕ} → OnlyRanges v w₀ w → (R : List (ℕ × ℕ)) → All Named R → OnlyRanges v w₀ (foldl extend w R)
   kept-all h [] n = h
   kept-all h (x ∷ R) n = kept-all (kept-joined h (x .0) (x .1) (head n .0) (head n .1)) R (tail n)
 
-  extend-all : {w : List ℕ} → Kept v w₀ w → (R : List (ℕ × ℕ)) → All Named R → (q b : ℕ) → Name (roleCount v) q →
+  extend-all : {w : List ℕ} → OnlyRanges v w₀ w → (R : List (ℕ × ℕ)) → All Named R → (q b : ℕ) → Name (roleCount v) q →
       inSet (rowOf (foldl extend w R) (roleRow q)) b ≡ inSet (rowOf w (roleRow q)) b || any (λ c. isBelow (vocabularyOf v) c b) (rangesIn R q)
   extend-all {w} h [] n q b m = sym (or-false (inSet (rowOf w (roleRow q)) b))
   extend-all {w} h (x ∷ R) n q b m =
@@ -130,7 +130,7 @@ module _ (v w₀ : List ℕ) (r : vocabularyRefusal v ≡ 0) (closed : ClosedRow
   ranged-all {u} {w} e d =
       let start = kept-starts e in
       let all : w ≡ foldl extend u (rangePairs (vocabularyOf v)) = d ∙ pairwise u in
-      let kept : Kept v w₀ w = subst (Kept v w₀) (sym all) (kept-all start (rangePairs (vocabularyOf v)) (rangePairs-named v r)) in
+      let kept : OnlyRanges v w₀ w = subst (OnlyRanges v w₀) (sym all) (kept-all start (rangePairs (vocabularyOf v)) (rangePairs-named v r)) in
       record {
         kept = kept;
         closed = kept-closed kept;

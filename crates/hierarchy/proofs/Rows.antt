@@ -8,7 +8,7 @@ use mathlib.Core.Logic.{⊎-elim}
 use mathlib.Core.Path.{_∙_, _≡_, ap, refl, subst, sym}
 use native.Mathlib.Omega.{arith}
 use borrow.Author.Tests.{eqb-false, eqb-true}
-use Rattle.hierarchy.specs.Rows.{filled, joined, rowOf, rowPlace, withRow}
+use Rattle.hierarchy.specs.Rows.{fillRows, joined, rowOf, rowPlace, withRow}
 use Rattle.meaning.specs.Records.{Name}
 use Rattle.words.proofs.Growth.{sum-put, union-grows, union-same}
 use Rattle.words.proofs.Laws.{in-union, length-union, lt-or-ge}
@@ -46,41 +46,41 @@ module _ (w : List ℕ) (i : ℕ) (f : Fits w i) where
 
 module _ (first : ℕ) (f : ℕ → List ℕ) (whole : (c : ℕ) → length (f c) ≡ classWords) where
   module _ (w : List ℕ) where
-    pub filled-length : (n : ℕ) → (first + n) * classWords ≤ length w → length (filled first f n w) ≡ length w
-    unfolding filled
-    filled-length zero h = refl
-    filled-length (suc n) h =
-        let e = filled-length n (omega arith) in
-        with-length (filled first f n w) (first + suc n) (omega arith, omega arith) (f (suc n)) (whole (suc n)) ∙ e
+    pub fillRows-length : (n : ℕ) → (first + n) * classWords ≤ length w → length (fillRows first f n w) ≡ length w
+    unfolding fillRows
+    fillRows-length zero h = refl
+    fillRows-length (suc n) h =
+        let e = fillRows-length n (omega arith) in
+        with-length (fillRows first f n w) (first + suc n) (omega arith, omega arith) (f (suc n)) (whole (suc n)) ∙ e
 
-    next-fits : (n : ℕ) → (first + suc n) * classWords ≤ length w → Fits (filled first f n w) (first + suc n)
-    next-fits n h = (omega arith, omega (arith, filled-length n (omega arith)))
+    next-fits : (n : ℕ) → (first + suc n) * classWords ≤ length w → Fits (fillRows first f n w) (first + suc n)
+    next-fits n h = (omega arith, omega (arith, fillRows-length n (omega arith)))
 
-    pub filled-take : (n : ℕ) → (first + n) * classWords ≤ length w → take (first * classWords) (filled first f n w) ≡ take (first * classWords) w
-    unfolding filled
-    filled-take zero h = refl
-    filled-take (suc n) h =
-        with-take (filled first f n w) (first + suc n) (next-fits n h) (f (suc n)) (whole (suc n)) (first * classWords) (omega arith)
-        ∙ filled-take n (omega arith)
+    pub fillRows-take : (n : ℕ) → (first + n) * classWords ≤ length w → take (first * classWords) (fillRows first f n w) ≡ take (first * classWords) w
+    unfolding fillRows
+    fillRows-take zero h = refl
+    fillRows-take (suc n) h =
+        with-take (fillRows first f n w) (first + suc n) (next-fits n h) (f (suc n)) (whole (suc n)) (first * classWords) (omega arith)
+        ∙ fillRows-take n (omega arith)
 
-    pub filled-drop : (n : ℕ) → (first + n) * classWords ≤ length w → (k : ℕ) → (first + n) * classWords ≤ k → drop k (filled first f n w) ≡ drop k w
-    unfolding filled
-    filled-drop zero h k l = refl
-    filled-drop (suc n) h k l =
-        with-drop (filled first f n w) (first + suc n) (next-fits n h) (f (suc n)) (whole (suc n)) k l ∙ filled-drop n (omega arith) k (omega arith)
+    pub fillRows-drop : (n : ℕ) → (first + n) * classWords ≤ length w → (k : ℕ) → (first + n) * classWords ≤ k → drop k (fillRows first f n w) ≡ drop k w
+    unfolding fillRows
+    fillRows-drop zero h k l = refl
+    fillRows-drop (suc n) h k l =
+        with-drop (fillRows first f n w) (first + suc n) (next-fits n h) (f (suc n)) (whole (suc n)) k l ∙ fillRows-drop n (omega arith) k (omega arith)
 
-    pub filled-row : (n : ℕ) → (first + n) * classWords ≤ length w → (c : ℕ) → Name n c → rowOf (filled first f n w) (first + c) ≡ f c
-    unfolding filled
-    filled-row zero h c m = absurd (omega arith)
-    filled-row (suc n) h c m = go (eqb (suc n) c) refl (λ l. filled-row n (omega arith) c (m .0, l))
+    pub fillRows-row : (n : ℕ) → (first + n) * classWords ≤ length w → (c : ℕ) → Name n c → rowOf (fillRows first f n w) (first + c) ≡ f c
+    unfolding fillRows
+    fillRows-row zero h c m = absurd (omega arith)
+    fillRows-row (suc n) h c m = go (eqb (suc n) c) refl (λ l. fillRows-row n (omega arith) c (m .0, l))
       where
-        go : (b : Bool) → eqb (suc n) c ≡ b → (c ≤ n → rowOf (filled first f n w) (first + c) ≡ f c) → rowOf (filled first f (suc n) w) (first + c) ≡ f c
+        go : (b : Bool) → eqb (suc n) c ≡ b → (c ≤ n → rowOf (fillRows first f n w) (first + c) ≡ f c) → rowOf (fillRows first f (suc n) w) (first + c) ≡ f c
         go true e before =
-            subst (λ (i : ℕ). rowOf (filled first f (suc n) w) (first + i) ≡ f i) (eqb-true (suc n) c e)
-            (with-same (filled first f n w) (first + suc n) (next-fits n h) (f (suc n)) (whole (suc n)))
+            subst (λ (i : ℕ). rowOf (fillRows first f (suc n) w) (first + i) ≡ f i) (eqb-true (suc n) c e)
+            (with-same (fillRows first f n w) (first + suc n) (next-fits n h) (f (suc n)) (whole (suc n)))
         go false e before =
             let other = eqb-false (suc n) c e in
-            with-other (filled first f n w) (first + suc n) (next-fits n h) (f (suc n)) (whole (suc n)) (first + c) (omega (arith, m .0)) (λ z. other (omega arith))
+            with-other (fillRows first f n w) (first + suc n) (next-fits n h) (f (suc n)) (whole (suc n)) (first + c) (omega (arith, m .0)) (λ z. other (omega arith))
             ∙ before (omega arith)
 
 -- ---- a row that takes in another

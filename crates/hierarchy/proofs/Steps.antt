@@ -7,8 +7,8 @@ use mathlib.Core.Logic.{_↔_}
 use mathlib.Core.Path.{_∙_, _≡_, ap, refl, subst, sym}
 use native.Mathlib.Numerals.{add-one}
 use native.Mathlib.Omega.{arith}
-use Rattle.hierarchy.proofs.Rows.{Fits, filled-length, joined-length, joined-more, joined-still}
-use Rattle.hierarchy.specs.Rows.{Grown, RoleRoom, emptied, empty, extend, filled, joined, lift, lifted, roleRow, rowOf}
+use Rattle.hierarchy.proofs.Rows.{Fits, fillRows-length, joined-length, joined-more, joined-still}
+use Rattle.hierarchy.specs.Rows.{Grown, RoleRoom, emptied, empty, extend, fillRows, joined, lift, lifted, roleRow, rowOf}
 use Rattle.hierarchy.specs.Rows.{rowPlace, widened}
 use Rattle.meaning.proofs.Rules.{head}
 use Rattle.meaning.proofs.Stated.{rangePair-at, rangePair-named, rangePair-other, subclass-at, subclass-named, subclass-other}
@@ -23,14 +23,14 @@ use Rattle.words.specs.Rows.{classWords, putAt}
 use Rattle.words.specs.Sets.{unionOf, wordSum}
 
 -- `begin` and `empty_ranges`
-pub filled-none : (first : ℕ) (f : ℕ → List ℕ) (w : List ℕ) → w ≡ filled first f 0 w
-unfolding filled
-filled-none first f w = refl
+pub fillRows-none : (first : ℕ) (f : ℕ → List ℕ) (w : List ℕ) → w ≡ fillRows first f 0 w
+unfolding fillRows
+fillRows-none first f w = refl
 
-pub filled-more : (first : ℕ) (f : ℕ → List ℕ) (w₀ : List ℕ) {w u s : List ℕ} {at : ℕ} (i : ℕ) → w ≡ filled first f i w₀ → s ≡ f (i + 1) →
-    at ≡ rowPlace (first + (i + 1)) → u ≡ putAt w at s → u ≡ filled first f (i + 1) w₀
-unfolding filled
-filled-more first f w₀ i e s a p = p ∙ rw (a, s, e, add-one i)
+pub fillRows-more : (first : ℕ) (f : ℕ → List ℕ) (w₀ : List ℕ) {w u s : List ℕ} {at : ℕ} (i : ℕ) → w ≡ fillRows first f i w₀ → s ≡ f (i + 1) →
+    at ≡ rowPlace (first + (i + 1)) → u ≡ putAt w at s → u ≡ fillRows first f (i + 1) w₀
+unfolding fillRows
+fillRows-more first f w₀ i e s a p = p ∙ rw (a, s, e, add-one i)
 
 -- `join`
 module _ (w : List ℕ) (i j : ℕ) (f : Fits w i) (g : Fits w j) {lower upper : List ℕ} {r : Bool} (p : lower ≡ rowOf w i) (q : upper ≡ rowOf w j)
@@ -110,7 +110,7 @@ module _ (v w₀ u : List ℕ) {n : ℕ} (f : roleRow (roleCount v) * classWords
   empties = b ∙ ap (λ (i : ℕ). emptied i w₀) e
 
   pub empties-length : length u ≡ length w₀
-  empties-length = ap length empties ∙ filled-length mostClasses (λ r. empty) (λ r. refl) w₀ (roleCount v) f
+  empties-length = ap length empties ∙ fillRows-length mostClasses (λ r. empty) (λ r. refl) w₀ (roleCount v) f
 
 -- `pass`
 pub lifted-length : (v w : List ℕ) (x : Axiom) → AxiomOf v x → classCount v * classWords ≤ length w → length (lifted w x) ≡ length w

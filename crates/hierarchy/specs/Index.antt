@@ -21,7 +21,7 @@ pub record Met (v : List ℕ) (k : ℕ) : Type 0 where
   pub fits : axiomFits v k ≡ true
   pub stated : axiomAt v k ∈ vocabularyOf v .axioms
 
--- and it says that a class is below another
+-- a walk along the chain of v meets record k, which says that a class is below another
 pub record Rises (v : List ℕ) (k : ℕ) : Type 0 where
   pub met : Met v k
   pub kind : axiomKind v k ≡ 1

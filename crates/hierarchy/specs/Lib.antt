@@ -2,4 +2,4 @@
 pub mod Rows
 pub mod Index
 pub mod Pairs
-pub mod Singles
+pub mod FunctionalNames

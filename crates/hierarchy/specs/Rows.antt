@@ -42,7 +42,7 @@ pub record Closed (v w w′ : List ℕ) : Type 0 where
   pub rest : drop (classCount v * classWords) w′ ≡ drop (classCount v * classWords) w
   pub closed : ClosedRows v w′
 
--- row mostClasses + r for the role r, behind room for the rows of the most classes
+-- row mostClasses + r for the role r, after room for the rows of the most classes
 abbrev pub roleRow : ℕ → ℕ
 roleRow r = mostClasses + r
 
@@ -63,33 +63,33 @@ abbrev pub RoleRoom : List ℕ → List ℕ → Type 0
 RoleRoom v w = (roleCount v ≤ mostRoles) × (classCount v ≤ mostClasses) × (roleRow (roleCount v) * classWords ≤ length w)
 
 -- w′ is w but for the rows of v's roles
-pub record Kept (v w w′ : List ℕ) : Type 0 where
+pub record OnlyRanges (v w w′ : List ℕ) : Type 0 where
   pub size : length w′ ≡ length w
   pub front : take (mostClasses * classWords) w′ ≡ take (mostClasses * classWords) w
   pub rest : drop (roleRow (roleCount v) * classWords) w′ ≡ drop (roleRow (roleCount v) * classWords) w
 
 pub record Ranged (v w w′ : List ℕ) : Type 0 where
-  pub kept : Kept v w w′
+  pub kept : OnlyRanges v w w′
   pub closed : ClosedRows v w′
   pub ranged : RangeRows v w′
 
 -- ---- how they come about
 
 -- n rows from row first + 1 on, each as f says
-unfoldable pub filled : ℕ → (ℕ → List ℕ) → ℕ → List ℕ → List ℕ
-filled first f zero w = w
-filled first f (suc i) w = withRow (filled first f i w) (first + suc i) (f (suc i))
+unfoldable pub fillRows : ℕ → (ℕ → List ℕ) → ℕ → List ℕ → List ℕ
+fillRows first f zero w = w
+fillRows first f (suc i) w = withRow (fillRows first f i w) (first + suc i) (f (suc i))
 
 abbrev pub empty : List ℕ
 empty = replicate classWords 0
 
 -- each class is above itself
 abbrev pub begun : ℕ → List ℕ → List ℕ
-begun n w = filled 0 (including empty) n w
+begun n w = fillRows 0 (including empty) n w
 
 -- no class is above a range
 abbrev pub emptied : ℕ → List ℕ → List ℕ
-emptied n w = filled mostClasses (λ r. empty) n w
+emptied n w = fillRows mostClasses (λ r. empty) n w
 
 -- row i with what row j has
 unfoldable pub joined : List ℕ → ℕ → ℕ → List ℕ

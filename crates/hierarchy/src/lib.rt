@@ -27,7 +27,7 @@ ghost use Rattle.hierarchy.specs.Index.{Heads, Met, Nexts, Raisable, Rai
 ghost use Rattle.hierarchy.specs.Pairs.{Listed, PairRoom, enlisted, pairPlace, pairsEnd, withPair};
 ghost use Rattle.hierarchy.specs.Rows.{Closed, ClosedRows, ContainsAbove, ContainsRanged, DecidesBelow, Grown, Ranged};
 ghost use Rattle.hierarchy.specs.Rows.{RoleRoom, begun, emptied, joined, lifted, roleRow, rowOf, rowPlace, widened};
-ghost use Rattle.hierarchy.specs.Singles.{Singles, marked, withFeature, withRole};
+ghost use Rattle.hierarchy.specs.FunctionalNames.{FunctionalNames, marked, withFeature, withRole};
 ghost use Rattle.meaning.specs.Limits.{mostClasses, mostRoles};
 ghost use Rattle.meaning.specs.Stated.{isFunctionalFeature, isFunctionalRole};
 ghost use Rattle.meaning.specs.Vocabulary.{axiomAt, axiomFits, classCount, roleCount, vocabularyOf, vocabularyRefusal};
@@ -321,7 +321,7 @@ impl Functional {
         Functional { roles, features }
     }
 
-    // With what record k says.
+    // The names with what record k says.
     fn marked(self, v: &[u32], k: u32) -> Self
         ensures { λ s. ⌜ s ≡ marked self (axiomAt (now (v .entry)) k) ⌝ }
     {
@@ -337,7 +337,7 @@ impl Functional {
     // The functional names of a vocabulary, by one walk over its records.
     pub fn of(v: &[u32]) -> Self
         requires { ⌜ vocabularyRefusal (now v) ≡ 0 ⌝ }
-        ensures { λ s. ⌜ Singles (now (v .entry)) s ⌝ }
+        ensures { λ s. ⌜ FunctionalNames (now (v .entry)) s ⌝ }
     {
         let mut names = Functional {
             roles: [0; 2],
@@ -353,14 +353,14 @@ impl Functional {
 
     pub fn has_role(self, r: RoleNo) -> bool
         ensures { λ t. ⌜ t ≡ inSet (self .roles) (r .0) ⌝ }
-        ensures { λ t. ⌜ ((v : List ℕ) → Singles v self → t ≡ isFunctionalRole (vocabularyOf v) (r .0)) ⌝ }
+        ensures { λ t. ⌜ ((v : List ℕ) → FunctionalNames v self → t ≡ isFunctionalRole (vocabularyOf v) (r .0)) ⌝ }
     {
         has(&self.roles, r.0)
     }
 
     pub fn has_feature(self, f: FeatureNo) -> bool
         ensures { λ t. ⌜ t ≡ inSet (self .features) (f .0) ⌝ }
-        ensures { λ t. ⌜ ((v : List ℕ) → Singles v self → t ≡ isFunctionalFeature (vocabularyOf v) (f .0)) ⌝ }
+        ensures { λ t. ⌜ ((v : List ℕ) → FunctionalNames v self → t ≡ isFunctionalFeature (vocabularyOf v) (f .0)) ⌝ }
     {
         has(&self.features, f.0)
     }

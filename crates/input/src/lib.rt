@@ -28,7 +28,7 @@ fn word_at(input: &[u8], i: usize) -> u32
     a + 256 * b + 65536 * c + 16777216 * d
 }
 
-// The words of the input; bytes behind the last whole word are left.
+// The words of the input; bytes after the last whole word are left.
 pub fn decode(input: &[u8], words: &mut [u32])
     requires { ⌜ length (now input) / 4 ≤ length (now words) ⌝ }
     ensures { λ _. ⌜ take (length (now (input .entry)) / 4) (now (words .exit)) ≡ wordsOf (now (input .entry)) ⌝ }
@@ -44,7 +44,7 @@ pub fn is_short(bytes: usize) -> bool
     bytes <= MOST_BYTES
 }
 
-// Where the part behind the one at word i begins: past the end of the words, perhaps.
+// Where the part after the one at word i begins: past the end of the words, perhaps.
 pub fn next_part(words: &[u32], i: usize) -> usize
     requires { ⌜ i ≤ 8589934592 ⌝ }
     ensures { λ r. ⌜ r ≡ nextPart (now (words .entry)) i ⌝ }

@@ -7,11 +7,11 @@ use lib.Dec.{T}
 use native.Mathlib.Omega.{arith}
 use Rattle.meaning.proofs.Closure.{below-bounded, below-refl, below-subclass, below-trans}
 use Rattle.meaning.proofs.Forms.{Has, HoldsForm, HoldsNode, HoldsSuccessors}
+use Rattle.meaning.proofs.Intervals.{inside-within, value-within}
 use Rattle.meaning.proofs.Pairs.{pairs-out}
-use Rattle.meaning.proofs.Picks.{Parts, Picked, PickedForm, PickedNode, Ready, no-clash, no-parts, none-picked, parts}
+use Rattle.meaning.proofs.Picks.{Parts, Picked, PickedForm, PickedNode, Consistent, no-clash, no-parts, none-picked, parts}
 use Rattle.meaning.proofs.Picks.{picked}
 use Rattle.meaning.proofs.Places.{Child, Place, True, places, root}
-use Rattle.meaning.proofs.Points.{value-inside}
 use Rattle.meaning.proofs.Rules.{all-any, all-append, all-at, all-filter, all-fst, all-map, all-mono, all-of, all-snd}
 use Rattle.meaning.proofs.Rules.{any-cases, any-in, any-none, any-out, at-any, head, in-filter, map-all, order, tail}
 use Rattle.meaning.proofs.Stated.{stated-all}
@@ -128,10 +128,7 @@ module _ (K : Vocabulary) (w : Bounded K) (F : List Fact) where
   parts-hold : {Q : Policy} (m i : ℕ) {l k : List Constraint} → Parts Q l k → All (λ s. value (s .feature) i (valueOf s) ∈ F) k → All (Has (stands m F) i) l
   parts-hold m i no-parts h = nil
   parts-hold m i (parts {s = s} {p = p} a b) h =
-      let v = value-inside p (a .inside .filled) in
-      let x = a .inside .low in
-      let y = a .inside .high in
-      cons {x = s} (valueOf p, subst (λ (z : ℕ). value z i (valueOf p) ∈ F) (a .inside .same) (head h), (omega arith, omega arith)) (parts-hold m i b (tail h))
+      cons {x = s} (valueOf p, subst (λ (z : ℕ). value z i (valueOf p) ∈ F) (a .inside .same) (head h), inside-within (s .lo) (s .hi) (p .lo) (p .hi) (valueOf p) (a .inside .inside) (value-within p (a .inside .nonEmpty))) (parts-hold m i b (tail h))
 
   node-holds : {Q : Policy} (m : ℕ) (n u : Node) (under : Successors) (i : ℕ) → All (Name (K .classes)) (u .classes) → PickedNode Q n u → There (recordsOf K u under i) → HoldsNode (stands m F) n i
   node-holds m n u under i s p h = record {
@@ -184,7 +181,7 @@ module _ (K : Vocabulary) where
       go ih (inr p) (inl q) = absurd (gone v (q .0) p)
       go ih (inr p) (inr q) = ih p q
 
-module _ (K : Vocabulary) (w : Bounded K) (u : Form) (r : Ready K u) where
+module _ (K : Vocabulary) (w : Bounded K) (u : Form) (r : Consistent K u) where
   F : List Fact
   F = canonicalModel K u
 

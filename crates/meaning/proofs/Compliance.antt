@@ -12,7 +12,7 @@ use Rattle.meaning.proofs.First.{first}
 use Rattle.meaning.proofs.Interpretations.{contained-finite, tested-finite}
 use Rattle.meaning.proofs.ModelWords.{model-facts, model-individuals}
 use Rattle.meaning.proofs.Normal.{BoundedChain}
-use Rattle.meaning.proofs.Refusals.{accepted-input, cond-all, or-zero, unless-all}
+use Rattle.meaning.proofs.Refusals.{accepted-input, cond-all, orElse-zero, unless-all}
 use Rattle.meaning.proofs.Rules.{any-right, isTrue}
 use Rattle.meaning.specs.Answers.{VerdictResult, compliant, outside, result}
 use Rattle.meaning.specs.Containment.{Contained, ContainedFinite, ContainedTested, Decision, Refutes, decide, escapes}
@@ -78,7 +78,7 @@ module _ (v p q : List ℕ) where
   unfolding compliance complianceOf
   compliance-told w o =
       unless-all (CorrectVerdict K (policyOf p) (policyOf q) o) refuses (orElse (inputRefusal v p q) (workRefusal w)) _ unsaidVerdict (λ e.
-      let a = accepted-input v p q (or-zero (inputRefusal v p q) (workRefusal w) e .0) in
+      let a = accepted-input v p q (orElse-zero (inputRefusal v p q) (workRefusal w) e .0) in
       cond-all (CorrectVerdict K (policyOf p) (policyOf q) o) (tooMany K (policyOf p) (policyOf q)) (unsaidVerdict 22)
       (reported-all K (bounded v (a .vocabulary)) (policyOf p) (policyOf q) (bounded-terms v p (a .firstPolicy)) o outside (says compliant) (CorrectVerdict K (policyOf p) (policyOf q) o)
       unsaidVerdict (λ h. agreed (sound K (policyOf p) (policyOf q) h)) escaped))

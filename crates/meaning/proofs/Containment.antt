@@ -1,5 +1,5 @@
 -- The main theorem: the decision is "contained" exactly where the first policy is contained in the second; else it names the
--- first simple policy and its first combination that fail, and the canonical model of that combination refutes the containment.
+-- first term and its first combination that fail, and the canonical model of that combination refutes the containment.
 use Prim.Native.Nat.{_+_, suc, ℕ}
 use mathlib.Core.Bool.{Bool, cond, false, not, true}
 use mathlib.Core.List.{[], _∷_}
@@ -11,7 +11,7 @@ use Rattle.meaning.proofs.First.{Searched, first, never, searched}
 use Rattle.meaning.proofs.Forms.{HoldsForm}
 use Rattle.meaning.proofs.Links.{split}
 use Rattle.meaning.proofs.Normal.{BoundedChain, normalForm-normal}
-use Rattle.meaning.proofs.Picks.{PickedForm, Ready, clean-nonEmpty-form, combinations-picked, ready-picked}
+use Rattle.meaning.proofs.Picks.{PickedForm, Consistent, clean-nonEmpty-form, combinations-picked, consistent-picked}
 use Rattle.meaning.proofs.Pieces.{combinations-held}
 use Rattle.meaning.proofs.Rewriting.{holds-possible, normal-in, normal-out}
 use Rattle.meaning.proofs.Rules.{T-and, all-any, all-at, all-of, any-at, any-in, any-mono, any-out, at-any, isTrue, notTrue}
@@ -43,16 +43,16 @@ sound K P Q c I proper s d i h =
     passes-sound I K s Q (u .0) d (u .1) (u .2)
 
 module _ (K : Vocabulary) (w : Bounded K) where
-  normal-ready : (p : Chain) → BoundedChain (K .classes) p → T (possible K p) → Ready K (normalForm K p)
+  normal-consistent : (p : Chain) → BoundedChain (K .classes) p → T (possible K p) → Consistent K (normalForm K p)
   unfolding possible
-  normal-ready p f t =
+  normal-consistent p f t =
       let a = T-and (not (hasBottom p)) _ t in
       let b = T-and (cleanNode K (normalForm K p .node)) _ (a .1) in
       record { normal = normalForm-normal (Name (K .classes)) K (w .ranged) p f; clean = b .0; clean-successors = b .1 }
 
   -- Lemma 1 for a combination of a possible term
   pub record Witness (Q : Policy) (p : Chain) (u : Form) : Type 0 where
-    pub ready : Ready K u
+    pub ready : Consistent K u
     pub picked : PickedForm Q (normalForm K p) u
     pub proper : Proper (stands (individuals u) (canonicalModel K u))
     pub satisfies : Satisfies (stands (individuals u) (canonicalModel K u)) K
@@ -60,9 +60,9 @@ module _ (K : Vocabulary) (w : Bounded K) where
 
   pub witness : (Q : Policy) (p : Chain) → BoundedChain (K .classes) p → T (possible K p) → (u : Form) → u ∈ combinations Q (normalForm K p) → Witness Q p u
   witness Q p f t u m =
-      let r = normal-ready p f t in
+      let r = normal-consistent p f t in
       let k = all-at (combinations-picked Q (normalForm K p) (clean-nonEmpty-form K (normalForm K p) (r .clean) (r .clean-successors))) m in
-      let v = ready-picked K (normalForm K p) u k r in
+      let v = consistent-picked K (normalForm K p) u k r in
       record {
         ready = v;
         picked = k;

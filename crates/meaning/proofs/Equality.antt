@@ -9,7 +9,7 @@ use Rattle.meaning.proofs.Bounds.{bounded, bounded-terms}
 use Rattle.meaning.proofs.Compliance.{compliant-right, contained-right, no-escape, reported-all}
 use Rattle.meaning.proofs.Containment.{sound}
 use Rattle.meaning.proofs.Interpretations.{contained-finite, tested-finite}
-use Rattle.meaning.proofs.Refusals.{accepted-input, cond-all, or-zero, unless-all}
+use Rattle.meaning.proofs.Refusals.{accepted-input, cond-all, orElse-zero, unless-all}
 use Rattle.meaning.specs.Answers.{ComparisonResult, compliant, differs, equal, result}
 use Rattle.meaning.specs.Containment.{Contained, ContainedFinite, Indistinct, IndistinctTested, tooMany}
 use Rattle.meaning.specs.Operations.{Outcome, compliance, equality, equalityOf, inputRefusal, refuses, says, workRefusal}
@@ -41,7 +41,7 @@ module _ (v p q : List ℕ) where
   unfolding equality equalityOf
   equality-compared w o =
       unless-all (CorrectComparison K P Q o) refuses (orElse (inputRefusal v p q) (workRefusal w)) _ unsaidComparison (λ e.
-      let a = accepted-input v p q (or-zero (inputRefusal v p q) (workRefusal w) e .0) in
+      let a = accepted-input v p q (orElse-zero (inputRefusal v p q) (workRefusal w) e .0) in
       let b = bounded v (a .vocabulary) in
       cond-all (CorrectComparison K P Q o) (tooMany K P Q || tooMany K Q P) (unsaidComparison 22)
       (reported-all K b P Q (bounded-terms v p (a .firstPolicy)) o (differs 1) _ (CorrectComparison K P Q o) unsaidComparison (λ c.
@@ -78,19 +78,19 @@ module _ (v p q : List ℕ) where
 
 -- "policies found equal get the same compliance verdicts with every third policy, on either side, wherever neither call is refused"
 module _ (v p q : List ℕ) (w o : ℕ) (e : equality v p q w o .answer ≡ result equal) (r : List ℕ) (w₁ o₁ w₂ o₂ : ℕ) where
-  told-apart-by-none : Indistinct (vocabularyOf v) (policyOf p) (policyOf q)
-  told-apart-by-none = equal-right v p q w o e
+  indistinct : Indistinct (vocabularyOf v) (policyOf p) (policyOf q)
+  indistinct = equal-right v p q w o e
 
   pub same-as-first : (IsRefusal (compliance v p r w₁ o₁ .answer) → ⊥) → (IsRefusal (compliance v q r w₂ o₂ .answer) → ⊥) →
       (compliance v p r w₁ o₁ .answer ≡ result compliant) ↔ (compliance v q r w₂ o₂ .answer ≡ result compliant)
   same-as-first a b = (
-    λ h. contained-right v q r w₂ o₂ (λ I proper s d i k. compliant-right v p r w₁ o₁ h I proper s d i (told-apart-by-none I proper s d i .1 k)) b,
-    λ h. contained-right v p r w₁ o₁ (λ I proper s d i k. compliant-right v q r w₂ o₂ h I proper s d i (told-apart-by-none I proper s d i .0 k)) a,
+    λ h. contained-right v q r w₂ o₂ (λ I proper s d i k. compliant-right v p r w₁ o₁ h I proper s d i (indistinct I proper s d i .1 k)) b,
+    λ h. contained-right v p r w₁ o₁ (λ I proper s d i k. compliant-right v q r w₂ o₂ h I proper s d i (indistinct I proper s d i .0 k)) a,
   )
 
   pub same-as-second : (IsRefusal (compliance v r p w₁ o₁ .answer) → ⊥) → (IsRefusal (compliance v r q w₂ o₂ .answer) → ⊥) →
       (compliance v r p w₁ o₁ .answer ≡ result compliant) ↔ (compliance v r q w₂ o₂ .answer ≡ result compliant)
   same-as-second a b = (
-    λ h. contained-right v r q w₂ o₂ (λ I proper s d i k. told-apart-by-none I proper s d i .0 (compliant-right v r p w₁ o₁ h I proper s d i k)) b,
-    λ h. contained-right v r p w₁ o₁ (λ I proper s d i k. told-apart-by-none I proper s d i .1 (compliant-right v r q w₂ o₂ h I proper s d i k)) a,
+    λ h. contained-right v r q w₂ o₂ (λ I proper s d i k. indistinct I proper s d i .0 (compliant-right v r p w₁ o₁ h I proper s d i k)) b,
+    λ h. contained-right v r p w₁ o₁ (λ I proper s d i k. indistinct I proper s d i .1 (compliant-right v r q w₂ o₂ h I proper s d i k)) a,
   )

@@ -5,8 +5,8 @@ use mathlib.Core.List.{List}
 use mathlib.Core.Logic.{_↔_}
 use mathlib.Core.Path.{_≡_, subst, sym}
 use lib.Dec.{eqb, eqb-refl, eqb→eq, leb, leb→le, le→leb}
-use native.Mathlib.Omega.{arith}
 use Rattle.meaning.proofs.Containment.{complete, sound}
+use Rattle.meaning.proofs.Intervals.{only-within, within-only}
 use Rattle.meaning.proofs.ModelCheck.{edge-is, is-edge, is-member, is-value, member-is, value-is}
 use Rattle.meaning.proofs.Normal.{BoundedChain}
 use Rattle.meaning.proofs.Rules.{T-and, and-T, any-in, any-mono, any-out}
@@ -88,8 +88,8 @@ facts-agree n F = record {
     λ t. any-mono (λ x u. let v = edge-is r i (eqb j) x u in subst (λ (z : ℕ). edge r i z ≡ x) (sym (eqb→eq j (v .0) (v .2))) (v .1)) (any-out (reaches r i (eqb j)) F t),
   );
   values = λ f i v. (
-    λ h. any-in (hasWithin f i v v) (any-mono (λ x e. is-value f i v v v (omega arith) (omega arith) x e) h),
-    λ t. any-mono (λ x u. let w = value-is f i v v x u in subst (λ (z : ℕ). value f i z ≡ x) (let b = w .2 in omega arith) (w .1)) (any-out (hasWithin f i v v) F t),
+    λ h. any-in (hasWithin f i v v) (any-mono (λ x e. is-value f i v v v (within-only v) x e) h),
+    λ t. any-mono (λ x u. let w = value-is f i v v x u in subst (λ (z : ℕ). value f i z ≡ x) (only-within v (w .0) (w .2)) (w .1)) (any-out (hasWithin f i v v) F t),
   );
 }
 

@@ -2,7 +2,9 @@
 -- example wrong, that is the first error.
 pub mod Answered
 pub mod Rules
+pub mod Lengths
 pub mod Links
+pub mod Intervals
 pub mod Stated
 pub mod Closure
 pub mod Forms

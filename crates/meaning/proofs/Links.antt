@@ -112,8 +112,8 @@ marks-more (suc n) k seen h new = go (eqb (suc n) k) refl (λ l. marks-more n k 
     go false e more = let d = eqb-false (suc n) k e in rw (more (omega arith)) (omega arith)
 
 -- so there are at most as many as the last record's number
-pub once-few : {last : ℕ} {seen : List ℕ} → Once last seen → length seen ≤ last
-once-few {last} {seen} h = omega (arith, marks-le last seen, all h)
+pub length-once-≤ : {last : ℕ} {seen : List ℕ} → Once last seen → length seen ≤ last
+length-once-≤ {last} {seen} h = omega (arith, marks-le last seen, all h)
   where
     all : {seen : List ℕ} → Once last seen → marks last seen ≡ length seen
     all once-none = marks-none last

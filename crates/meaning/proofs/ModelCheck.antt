@@ -1,14 +1,15 @@
 -- The model check says what is true of the interpretation that the facts stand for: who is in a term, and what is obeyed.
-use Prim.Native.Nat.{_≤_, ℕ}
+use Prim.Native.Nat.{ℕ}
 use mathlib.Core.Bool.{Bool, _&&_, _||_, false, not, true}
 use mathlib.Core.List.{List}
 use mathlib.Core.Logic.{_↔_}
 use mathlib.Core.Path.{_≡_, ap₂, refl, subst, sym}
-use lib.Dec.{T, T-not, eqb, eqb-refl, eqb→eq, leb, leb→le, le→leb, not-T}
+use lib.Dec.{T, T-not, eqb, eqb-refl, eqb→eq, not-T}
+use Rattle.meaning.proofs.Intervals.{isWithin-iff}
 use Rattle.meaning.proofs.Rules.{T-and, all-at, all-in, all-mono, all-of, all-out, and-T, any-at, any-in, any-mono, any-out}
 use Rattle.meaning.proofs.Rules.{eqb-of}
 use Rattle.meaning.specs.Interpretation.{Holds, In, Obeys, Satisfies}
-use Rattle.meaning.specs.Intervals.{Within}
+use Rattle.meaning.specs.Intervals.{Within, isWithin}
 use Rattle.meaning.specs.Lists.{_∈_, all, any}
 use Rattle.meaning.specs.Model.{Fact, edge, member, stands, value}
 use Rattle.meaning.specs.ModelCheck.{hasWithin, holds, isIn, isMember, isModel, obeys, onEdge, onMember, onValue, reaches}
@@ -39,15 +40,14 @@ pub value-is : (f i lo hi : ℕ) (x : Fact) → T (hasWithin f i lo hi x) → (v
 value-is f i lo hi (member b j) t = absurd t
 value-is f i lo hi (edge s j k) t = absurd t
 value-is f i lo hi (value g j v) t =
-    let u = T-and (eqb f g && eqb i j) (leb lo v && leb v hi) t in
+    let u = T-and (eqb f g && eqb i j) (isWithin lo hi v) t in
     let w = T-and (eqb f g) (eqb i j) (u .0) in
-    let z = T-and (leb lo v) (leb v hi) (u .1) in
-    (v, ap₂ (λ x y. value x y v) (eqb→eq f g (w .0)) (eqb→eq i j (w .1)), (leb→le lo v (z .0), leb→le v hi (z .1)))
+    (v, ap₂ (λ x y. value x y v) (eqb→eq f g (w .0)) (eqb→eq i j (w .1)), isWithin-iff lo hi v .0 (u .1))
 
-pub is-value : (f i lo hi v : ℕ) → lo ≤ v → v ≤ hi → (x : Fact) → value f i v ≡ x → T (hasWithin f i lo hi x)
-is-value f i lo hi v a b x q =
+pub is-value : (f i lo hi v : ℕ) → Within lo hi v → (x : Fact) → value f i v ≡ x → T (hasWithin f i lo hi x)
+is-value f i lo hi v h x q =
     subst (λ y. T (hasWithin f i lo hi y)) q
-    (and-T (eqb f f && eqb i i) _ (and-T (eqb f f) (eqb i i) (eqb-refl f) (eqb-refl i)) (and-T (leb lo v) (leb v hi) (le→leb lo v a) (le→leb v hi b)))
+    (and-T (eqb f f && eqb i i) _ (and-T (eqb f f) (eqb i i) (eqb-refl f) (eqb-refl i)) (isWithin-iff lo hi v .1 h))
 
 pub holds-out : (n : ℕ) (F : List Fact) (q : Chain) (i : ℕ) → T (holds F q i) → Holds (stands n F) q i
 holds-out n F end i t = tt
@@ -78,7 +78,7 @@ holds-in n F (some r child next) i h =
     (holds-in n F next i (h .1))
 holds-in n F (interval f lo hi next) i h =
     let v = h .0 in
-    and-T (any (hasWithin f i lo hi) F) _ (any-in (hasWithin f i lo hi) (any-mono (λ x m. is-value f i lo hi (v .0) (v .2 .0) (v .2 .1) x m) (v .1))) (holds-in n F next i (h .1))
+    and-T (any (hasWithin f i lo hi) F) _ (any-in (hasWithin f i lo hi) (any-mono (λ x m. is-value f i lo hi (v .0) (v .2) x m) (v .1))) (holds-in n F next i (h .1))
 
 imp-out : (a b : Bool) → T (not a || b) → T a → T b
 imp-out true b t u = t

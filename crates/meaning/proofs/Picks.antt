@@ -3,8 +3,9 @@ use Prim.Native.Nat.{ℕ}
 use mathlib.Core.Bool.{_&&_, not}
 use mathlib.Core.List.{List, [], _∷_}
 use mathlib.Core.Path.{_∙_, _≡_, refl, subst, sym}
-use lib.Dec.{T, T-not, leb→le, le→leb}
+use lib.Dec.{T, T-not}
 use Rattle.meaning.proofs.Bounds.{bounded}
+use Rattle.meaning.proofs.Intervals.{isNonEmpty-iff}
 use Rattle.meaning.proofs.Points.{Part, pieces-part}
 use Rattle.meaning.proofs.Rules.{T-and, all-any, all-append, all-flatMap, all-fst, all-in, all-map, all-mono, all-out}
 use Rattle.meaning.proofs.Rules.{all-snd, and-T, any-in, at-any, head, tail}
@@ -66,7 +67,7 @@ combinations-picked Q t h =
 
 -- a clean form has none
 pub clean-nonEmpty : (K : Vocabulary) (n : Node) → T (cleanNode K n) → AllNonEmpty (n .constraints)
-clean-nonEmpty K n t = all-mono (λ s u. leb→le _ _ u) (all-out (λ s. isNonEmpty (s .lo) (s .hi)) (n .constraints) (T-and (areNonEmpty (n .constraints)) (compatible K (n .classes)) t .0))
+clean-nonEmpty K n t = all-mono (λ s u. isNonEmpty-iff (s .lo) (s .hi) .0 u) (all-out (λ s. isNonEmpty (s .lo) (s .hi)) (n .constraints) (T-and (areNonEmpty (n .constraints)) (compatible K (n .classes)) t .0))
 
 clean-nonEmpty-below : (K : Vocabulary) (under : Successors) → T (cleanSuccessors K under) → AllNonEmpty (constraintsBelow under)
 clean-nonEmpty-below K none t = nil
@@ -120,7 +121,7 @@ module _ {Q : Policy} where
 
     nonEmpty-picked : {l m : List Constraint} → Parts Q l m → All (λ s. T (isNonEmpty (s .lo) (s .hi))) m
     nonEmpty-picked no-parts = nil
-    nonEmpty-picked (parts {p = p} a b) = cons (le→leb (p .lo) (p .hi) (a .inside .filled)) (nonEmpty-picked b)
+    nonEmpty-picked (parts {p = p} a b) = cons (isNonEmpty-iff (p .lo) (p .hi) .1 (a .inside .nonEmpty)) (nonEmpty-picked b)
 
     clean-node : (n m : Node) → PickedNode Q n m → T (cleanNode K n) → T (cleanNode K m)
     clean-node n m p t =
@@ -135,13 +136,13 @@ module _ {Q : Policy} where
         and-T (cleanNode K m) _ (clean-node n m a (u .0)) (and-T (cleanSuccessors K inner) _ (clean-picked b (v .0)) (clean-picked c (v .1)))
 
 -- a form to be modelled: normal, with no clash at any individual
-pub record Ready (K : Vocabulary) (t : Form) : Type 0 where
+pub record Consistent (K : Vocabulary) (t : Form) : Type 0 where
   pub normal : Normal (Name (K .classes)) K t
   pub clean : T (cleanNode K (t .node))
   pub clean-successors : T (cleanSuccessors K (t .successors))
 
-pub ready-picked : {Q : Policy} (K : Vocabulary) (t u : Form) → PickedForm Q t u → Ready K t → Ready K u
-ready-picked K t u p r = record {
+pub consistent-picked : {Q : Policy} (K : Vocabulary) (t u : Form) → PickedForm Q t u → Consistent K t → Consistent K u
+consistent-picked K t u p r = record {
   normal = record {
     node = normal-node K (t .node) (u .node) (p .node) (r .normal .node);
     successors = normal-picked K (p .successors) (r .normal .successors);

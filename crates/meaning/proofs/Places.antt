@@ -7,7 +7,7 @@ use mathlib.Core.Path.{_∙_, _≡_, ap, refl, subst, sym}
 use lib.Dec.{T, eqb, eqb-refl, eqb→eq}
 use native.Mathlib.Omega.{arith}
 use Rattle.meaning.proofs.Pairs.{pairs-in}
-use Rattle.meaning.proofs.Picks.{Ready}
+use Rattle.meaning.proofs.Picks.{Consistent}
 use Rattle.meaning.proofs.Rules.{T-and, all-append, all-filter, all-map, all-mono, all-of, any-mono, any-out}
 use Rattle.meaning.specs.Countermodel.{canonicalModel, classesAbove, edges, pairs, recordsBelow, size}
 use Rattle.meaning.specs.Intervals.{valueOf}
@@ -45,7 +45,7 @@ pub record Place (K : Vocabulary) : Type 0 where
   pub node : Node
   pub successors : Successors
   pub start : ℕ
-  pub ready : Ready K (record { node = node; successors = successors })
+  pub ready : Consistent K (record { node = node; successors = successors })
 
 module _ (K : Vocabulary) where
   -- y, with the number j, is a successor by r
@@ -110,11 +110,11 @@ module _ (K : Vocabulary) where
             );
       }
 
-  abbrev pub root : (t : Form) → Ready K t → Place K
+  abbrev pub root : (t : Form) → Consistent K t → Place K
   root t r = record { node = t .node; successors = t .successors; start = 2; ready = r }
 
   -- individual 1 stands at the root
-  pub places : (t : Form) (r : Ready K t) → (h : ℕ → Place K) × (h 1 ≡ root t r) × All (True h) (canonicalModel K t)
+  pub places : (t : Form) (r : Consistent K t) → (h : ℕ → Place K) × (h 1 ≡ root t r) × All (True h) (canonicalModel K t)
   unfolding canonicalModel
   places t r =
       let A = extend (t .successors) 1 2 (λ j. root t r) (omega arith) (r .normal .successors) (r .clean-successors) (λ q j y c. c) in

@@ -1,14 +1,15 @@
 -- X rises; the pieces cover the constraint, lie inside it, and no end of the second policy parts one of them.
 use Prim.Native.Nat.{_<_, _≤_, pred, suc, ℕ}
-use mathlib.Core.Bool.{Bool, _&&_, cond, false, not, true}
+use mathlib.Core.Bool.{Bool, cond, false, not, true}
 use mathlib.Core.List.{List, [], _++_, _∷_}
 use mathlib.Core.Logic.{_⊎_, inl, inr}
 use mathlib.Core.Path.{_≡_, refl, subst, sym}
-use lib.Dec.{T, eqb, eqb→eq, leb, leb→le, le→leb, ltb, ltb→lt, lt→ltb, nltb→le}
+use lib.Dec.{T, eqb, eqb→eq, ltb, ltb→lt, lt→ltb, nltb→le}
 use native.Mathlib.Omega.{arith}
-use Rattle.meaning.proofs.Rules.{T-and, all-append, all-at, all-filter, all-mono, all-of, and-T, any-cases, any-left}
-use Rattle.meaning.proofs.Rules.{any-none, any-right, eqb-of, head, in-filter, order, tail}
-use Rattle.meaning.specs.Intervals.{Constraint, Within, valueOf}
+use Rattle.meaning.proofs.Intervals.{inside-of, isWithin-iff}
+use Rattle.meaning.proofs.Rules.{all-append, all-at, all-filter, all-mono, all-of, any-cases, any-left, any-none, any-right}
+use Rattle.meaning.proofs.Rules.{eqb-of, head, in-filter, order, tail}
+use Rattle.meaning.specs.Intervals.{Constraint, NonEmpty, Within, isInside, isWithin}
 use Rattle.meaning.specs.Lists.{All, Any, _∈_, cons, filter, flatMap, here, nil, there}
 use Rattle.meaning.specs.Policy.{Policy}
 use Rattle.meaning.specs.Splitting.{ends, gap, insert, insertAll, only, pieces, piecesAt, piecesFrom, points}
@@ -17,12 +18,15 @@ use Rattle.meaning.specs.Splitting.{ends, gap, insert, insertAll, only, 
 abbrev pub Unparted : Constraint → ℕ → Type 0
 Unparted p e = (e ≤ p .hi → e ≤ p .lo) × (p .lo ≤ e → p .hi ≤ e)
 
+-- an interval with a value in the piece, whose ends do not part the piece, has all of it
+pub unparted-inside : (p : Constraint) (lo hi v : ℕ) → Unparted p lo → Unparted p hi → Within lo hi v → Within (p .lo) (p .hi) v → T (isInside lo hi (p .lo) (p .hi))
+unparted-inside p lo hi v a b w h = inside-of lo hi (p .lo) (p .hi) (a .0 (omega arith)) (b .1 (omega arith))
+
 -- p lies inside s, and is not empty
 pub record Inside (s p : Constraint) : Type 0 where
   pub same : p .feature ≡ s .feature
-  pub low : s .lo ≤ p .lo
-  pub filled : p .lo ≤ p .hi
-  pub high : p .hi ≤ s .hi
+  pub inside : T (isInside (s .lo) (s .hi) (p .lo) (p .hi))
+  pub nonEmpty : NonEmpty (p .lo) (p .hi)
 
 -- p is a piece of s against Q
 pub record Part (Q : Policy) (s p : Constraint) : Type 0 where
@@ -181,28 +185,35 @@ cover-from f w x (y ∷ l) a m b c = go (cover-from f w y l) (order w y) (order 
     go ih (inr d) (inl g) (inr h) = there (any-right (gap f x y) (ih d m h c))
 
 -- a piece lies between its points
+between-points : (s : Constraint) (lo hi : ℕ) → s .lo ≤ lo → NonEmpty lo hi → hi ≤ s .hi → Inside s (record { feature = s .feature; lo = lo; hi = hi })
+between-points s lo hi a b c = record {
+  same = refl;
+  inside = inside-of (s .lo) (s .hi) lo hi a c;
+  nonEmpty = b;
+}
+
 inside-from : (s : Constraint) (x : ℕ) (l : List ℕ) → Rising x l → All (Within (s .lo) (s .hi)) (x ∷ l) → All (Inside s) (piecesFrom (s .feature) x l)
-inside-from s x [] r h = cons {x = only (s .feature) x} (record { same = refl; low = head h .0; filled = omega arith; high = head h .1 }) nil
+inside-from s x [] r h = cons {x = only (s .feature) x} (between-points s x x (head h .0) (omega arith) (head h .1)) nil
 inside-from s x (y ∷ l) r h =
-    cons {x = only (s .feature) x} (record { same = refl; low = head h .0; filled = omega arith; high = head h .1 })
+    cons {x = only (s .feature) x} (between-points s x x (head h .0) (omega arith) (head h .1))
     (all-append (all-cond (ltb (suc x) y) (λ t. cons (between (ltb→lt (suc x) y t) (head h) (head (tail h))) nil)) (inside-from s y l (r .1) (tail h)))
   where
     between : suc x < y → Within (s .lo) (s .hi) x → Within (s .lo) (s .hi) y → Inside s (record { feature = s .feature; lo = suc x; hi = pred y })
-    between a b c = record { same = refl; low = omega arith; filled = omega arith; high = omega arith }
+    between a b c = between-points s (suc x) (pred y) (omega arith) (omega arith) (omega arith)
 
 module _ (Q : Policy) (s : Constraint) where
   relevant : List ℕ
-  relevant = filter (λ e. leb (s .lo) e && leb e (s .hi)) (flatMap (ends (s .feature)) Q)
+  relevant = filter (isWithin (s .lo) (s .hi)) (flatMap (ends (s .feature)) Q)
 
   pub points-sorted : Sorted (points Q s)
   unfolding relevant
   points-sorted = inserts-sorted relevant (insert (s .hi) (s .lo ∷ [])) (insert-sorted (s .hi) (s .lo ∷ []) tt)
 
-  points-inside : s .lo ≤ s .hi → All (Within (s .lo) (s .hi)) (points Q s)
+  points-inside : NonEmpty (s .lo) (s .hi) → All (Within (s .lo) (s .hi)) (points Q s)
   unfolding relevant
   points-inside a =
-      inserts-all relevant _ (all-mono (λ e t. let u = T-and (leb (s .lo) e) (leb e (s .hi)) t in (leb→le _ _ (u .0), leb→le _ _ (u .1)))
-      (all-filter (λ e. leb (s .lo) e && leb e (s .hi)) (flatMap (ends (s .feature)) Q)))
+      inserts-all relevant _ (all-mono (λ e t. isWithin-iff (s .lo) (s .hi) e .0 t)
+      (all-filter (isWithin (s .lo) (s .hi)) (flatMap (ends (s .feature)) Q)))
       (insert-all (s .hi) (s .lo ∷ []) (a, omega arith) (cons (omega arith, a) nil))
 
   pub lo-point : s .lo ∈ points Q s
@@ -213,14 +224,14 @@ module _ (Q : Policy) (s : Constraint) where
   unfolding relevant
   hi-point = inserts-there relevant (insert (s .hi) (s .lo ∷ [])) (insert-here (s .hi) (s .lo ∷ []))
 
-  end-point : (l : ℕ) → l ∈ flatMap (ends (s .feature)) Q → s .lo ≤ l → l ≤ s .hi → l ∈ points Q s
+  end-point : (l : ℕ) → l ∈ flatMap (ends (s .feature)) Q → Within (s .lo) (s .hi) l → l ∈ points Q s
   unfolding relevant
-  end-point l m a b =
+  end-point l m w =
       inserts-here relevant (insert (s .hi) (s .lo ∷ []))
-      (in-filter (λ e. leb (s .lo) e && leb e (s .hi)) m (and-T (leb (s .lo) l) (leb l (s .hi)) (le→leb _ _ a) (le→leb _ _ b)))
+      (in-filter (isWithin (s .lo) (s .hi)) m (isWithin-iff (s .lo) (s .hi) l .1 w))
 
-  -- an end of Q lies before X, in it, or behind it
-  end-beside : s .lo ≤ s .hi → (e x : ℕ) (l : List ℕ) → points Q s ≡ x ∷ l → e ∈ flatMap (ends (s .feature)) Q → (e ≤ x) ⊎ ((e ∈ l) ⊎ All (λ z. z ≤ e) l)
+  -- an end of Q lies before X, in it, or after it
+  end-beside : NonEmpty (s .lo) (s .hi) → (e x : ℕ) (l : List ℕ) → points Q s ≡ x ∷ l → e ∈ flatMap (ends (s .feature)) Q → (e ≤ x) ⊎ ((e ∈ l) ⊎ All (λ z. z ≤ e) l)
   end-beside a e x l q m = go (order e (s .lo)) (order (s .hi) e)
     where
       inside : All (Within (s .lo) (s .hi)) (x ∷ l)
@@ -233,9 +244,9 @@ module _ (Q : Policy) (s : Constraint) where
       go : (e < s .lo) ⊎ (s .lo ≤ e) → (s .hi < e) ⊎ (e ≤ s .hi) → (e ≤ x) ⊎ ((e ∈ l) ⊎ All (λ z. z ≤ e) l)
       go (inl b) c = let d = head inside in inl (omega arith)
       go (inr b) (inl c) = inr (inr (all-mono (λ z d. omega arith) (tail inside)))
-      go (inr b) (inr c) = among (any-cases (subst (λ k. e ∈ k) q (end-point e m b c)))
+      go (inr b) (inr c) = among (any-cases (subst (λ k. e ∈ k) q (end-point e m (b, c))))
 
-  pub pieces-part : s .lo ≤ s .hi → All (Part Q s) (pieces Q s)
+  pub pieces-part : NonEmpty (s .lo) (s .hi) → All (Part Q s) (pieces Q s)
   pieces-part a = go (points Q s) refl points-sorted (points-inside a)
     where
       go : (X : List ℕ) → points Q s ≡ X → Sorted X → All (Within (s .lo) (s .hi)) X → All (Part Q s) (piecesAt (s .feature) X)
@@ -256,8 +267,3 @@ module _ (Q : Policy) (s : Constraint) where
       go : (X : List ℕ) → Sorted X → s .lo ∈ X → s .hi ∈ X → Any (Covers (s .feature) w) (piecesAt (s .feature) X)
       go [] r c d = absurd (any-none c)
       go (x ∷ l) r c d = cover-from (s .feature) w x l (first x l r (any-cases c)) (s .hi) (any-cases d) (b .1)
-
--- the value of a piece lies in it
-pub value-inside : (p : Constraint) → p .lo ≤ p .hi → Within (p .lo) (p .hi) (valueOf p)
-unfolding valueOf
-value-inside p a = (omega arith, omega arith)

@@ -1,4 +1,4 @@
--- What Possible's definition answers, from words to answers: the first simple policy in which some interpretation has an individual.
+-- What Possible's definition answers, from words to answers: the first term in which some interpretation has an individual.
 use Prim.Native.Nat.{_+_, suc, ℕ}
 use mathlib.Core.Bool.{Bool, cond, false, true}
 use mathlib.Core.List.{List, [], _++_, _∷_}
@@ -9,7 +9,7 @@ use native.Mathlib.Omega.{arith}
 use Rattle.meaning.proofs.Bounds.{bounded, bounded-terms}
 use Rattle.meaning.proofs.Impossible.{possible-iff}
 use Rattle.meaning.proofs.Normal.{BoundedChain}
-use Rattle.meaning.proofs.Refusals.{or-zero, unless-all}
+use Rattle.meaning.proofs.Refusals.{orElse-zero, unless-all}
 use Rattle.meaning.proofs.Rewriting.{holds-possible}
 use Rattle.meaning.proofs.Rules.{any-cases, any-none, head, isTrue, notTrue, tail}
 use Rattle.meaning.specs.Answers.{PossibilityResult, firstPossible, nonePossible, refused, result}
@@ -56,8 +56,8 @@ pub possibility-right : (v p : List ℕ) (w : ℕ) → CorrectPossibility (vocab
 unfolding possibility
 possibility-right v p w =
     unless-all (CorrectPossibility (vocabularyOf v) (policyOf p)) refused (orElse (vocabularyRefusal v) (orElse (policyRefusal v p) (workRefusal w))) _ unsaidPossibility (λ e.
-    let a = or-zero (vocabularyRefusal v) (orElse (policyRefusal v p) (workRefusal w)) e in
-    let b = or-zero (policyRefusal v p) (workRefusal w) (a .1) in
+    let a = orElse-zero (vocabularyRefusal v) (orElse (policyRefusal v p) (workRefusal w)) e in
+    let b = orElse-zero (policyRefusal v p) (workRefusal w) (a .1) in
     answered (possibleFrom (vocabularyOf v) 1 (policyOf p)) (possibly-from (vocabularyOf v) (bounded v (a .0)) 1 (policyOf p) (bounded-terms v p (b .0))))
   where
     answered : (x : PossibilityResult) → PossiblyFrom 1 (vocabularyOf v) (policyOf p) x → CorrectPossibility (vocabularyOf v) (policyOf p) (result x)

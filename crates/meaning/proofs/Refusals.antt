@@ -14,17 +14,17 @@ use Rattle.meaning.specs.Policy.{reached, secondRefusal, soundRecord, wa
 use Rattle.meaning.specs.Records.{isSized, orElse}
 use Rattle.meaning.specs.Vocabulary.{axiomNext, axiomsRefusal, firstAxiom, headedVocabulary, soundAxiom, vocabularyRefusal}
 
-pub or-zero : (a b : ℕ) → orElse a b ≡ 0 → (a ≡ 0) × (b ≡ 0)
-or-zero zero b e = (refl, e)
-or-zero (suc a) b e = absurd (omega arith)
+pub orElse-zero : (a b : ℕ) → orElse a b ≡ 0 → (a ≡ 0) × (b ≡ 0)
+orElse-zero zero b e = (refl, e)
+orElse-zero (suc a) b e = absurd (omega arith)
 
-pub or-first : (a b : ℕ) → (a ≡ 0 → ⊥) → a ≡ orElse a b
-or-first zero b h = absurd (h refl)
-or-first (suc a) b h = refl
+pub orElse-first : (a b : ℕ) → (a ≡ 0 → ⊥) → a ≡ orElse a b
+orElse-first zero b h = absurd (h refl)
+orElse-first (suc a) b h = refl
 
-pub or-assoc : (a b c : ℕ) → orElse a (orElse b c) ≡ orElse (orElse a b) c
-or-assoc zero b c = refl
-or-assoc (suc a) b c = refl
+pub orElse-assoc : (a b c : ℕ) → orElse a (orElse b c) ≡ orElse (orElse a b) c
+orElse-assoc zero b c = refl
+orElse-assoc (suc a) b c = refl
 
 pub secondRefusal-zero : (n : ℕ) → secondRefusal n ≡ 0 → n ≡ 0
 secondRefusal-zero zero e = refl
@@ -42,47 +42,47 @@ cond-all P false h k = k
 abbrev Few : Walk → Type 0
 Few w = faultOf w ≤ 8
 
-few-onward : (w : Walk) (go : List ℕ → Walk) → Few w → ((seen : List ℕ) → Few (go seen)) → Few (onward w go)
-few-onward (reached seen) go h on = on seen
-few-onward (fault n) go h on = h
+onward-≤ : (w : Walk) (go : List ℕ → Walk) → Few w → ((seen : List ℕ) → Few (go seen)) → Few (onward w go)
+onward-≤ (reached seen) go h on = on seen
+onward-≤ (fault n) go h on = h
 
-walk-few : (f : ℕ) (v p : List ℕ) (d k : ℕ) (seen : List ℕ) → Few (walk f v p d k seen)
+walk-≤ : (f : ℕ) (v p : List ℕ) (d k : ℕ) (seen : List ℕ) → Few (walk f v p d k seen)
 unfolding walk
-walk-few zero v p d k seen = omega arith
-walk-few (suc f) v p d k seen =
+walk-≤ zero v p d k seen = omega arith
+walk-≤ (suc f) v p d k seen =
     let inner = walk f v p (suc d) (childOf p k) (k ∷ seen) in
-    let on = few-onward inner (walk f v p d (nextOf p k)) (walk-few f v p (suc d) (childOf p k) (k ∷ seen)) (walk-few f v p d (nextOf p k)) in
+    let on = onward-≤ inner (walk f v p d (nextOf p k)) (walk-≤ f v p (suc d) (childOf p k) (k ∷ seen)) (walk-≤ f v p d (nextOf p k)) in
     cond-all Few (eqb k 0) (omega arith)
     (cond-all Few (any (eqb k) seen) (omega arith)
     (cond-all Few (soundRecord v p d k) (cond-all Few (eqb d 17) (omega arith) on) (omega arith)))
 
-pub policy-few : (v p : List ℕ) → policyRefusal v p ≤ 8
+pub policyRefusal-≤ : (v p : List ℕ) → policyRefusal v p ≤ 8
 unfolding policyRefusal
-policy-few v p =
+policyRefusal-≤ v p =
     cond-all (λ n. n ≤ 8) (isSized 6 mostPolicyWords (length p))
-    (cond-all (λ n. n ≤ 8) (headedPolicy p) (walk-few (length p) v p 0 (firstTerm p) []) (omega arith)) (omega arith)
+    (cond-all (λ n. n ≤ 8) (headedPolicy p) (walk-≤ (length p) v p 0 (firstTerm p) []) (omega arith)) (omega arith)
 
 -- and a vocabulary's at most 3
-axioms-few : (f : ℕ) (v : List ℕ) (k : ℕ) → axiomsRefusal f v k ≤ 3
-axioms-few zero v k = omega arith
-axioms-few (suc f) v k =
-    cond-all (λ n. n ≤ 3) (eqb k 0) (omega arith) (cond-all (λ n. n ≤ 3) (soundAxiom v k) (axioms-few f v (axiomNext v k)) (omega arith))
+axiomsRefusal-≤ : (f : ℕ) (v : List ℕ) (k : ℕ) → axiomsRefusal f v k ≤ 3
+axiomsRefusal-≤ zero v k = omega arith
+axiomsRefusal-≤ (suc f) v k =
+    cond-all (λ n. n ≤ 3) (eqb k 0) (omega arith) (cond-all (λ n. n ≤ 3) (soundAxiom v k) (axiomsRefusal-≤ f v (axiomNext v k)) (omega arith))
 
-pub vocabulary-few : (v : List ℕ) → vocabularyRefusal v ≤ 3
+pub vocabularyRefusal-≤ : (v : List ℕ) → vocabularyRefusal v ≤ 3
 unfolding vocabularyRefusal
-vocabulary-few v =
-    cond-all (λ n. n ≤ 3) (isSized 4 mostVocabularyWords (length v)) (cond-all (λ n. n ≤ 3) (headedVocabulary v) (axioms-few (length v) v (firstAxiom v)) (omega arith)) (omega arith)
+vocabularyRefusal-≤ v =
+    cond-all (λ n. n ≤ 3) (isSized 4 mostVocabularyWords (length v)) (cond-all (λ n. n ≤ 3) (headedVocabulary v) (axiomsRefusal-≤ (length v) v (firstAxiom v)) (omega arith)) (omega arith)
 
-pub or-few : (n a b : ℕ) → a ≤ n → b ≤ n → orElse a b ≤ n
-or-few n zero b h k = k
-or-few n (suc a) b h k = h
+pub orElse-≤ : (n a b : ℕ) → a ≤ n → b ≤ n → orElse a b ≤ n
+orElse-≤ n zero b h k = k
+orElse-≤ n (suc a) b h k = h
 
 -- the vocabulary and both policies are accepted
 pub accepted-input : (v p q : List ℕ) → inputRefusal v p q ≡ 0 → AcceptedInput v p q
 unfolding inputRefusal
 accepted-input v p q e =
-    let a = or-zero (vocabularyRefusal v) (orElse (policyRefusal v p) (secondRefusal (policyRefusal v q))) e in
-    let b = or-zero (policyRefusal v p) (secondRefusal (policyRefusal v q)) (a .1) in
+    let a = orElse-zero (vocabularyRefusal v) (orElse (policyRefusal v p) (secondRefusal (policyRefusal v q))) e in
+    let b = orElse-zero (policyRefusal v p) (secondRefusal (policyRefusal v q)) (a .1) in
     record { vocabulary = a .0; firstPolicy = b .0; secondPolicy = secondRefusal-zero (policyRefusal v q) (b .1) }
 
 -- what holds of every refusal, and of what comes when there is none, holds of the outcome

@@ -3,14 +3,14 @@ use Prim.Native.Nat.{ℕ}
 use mathlib.Core.Bool.{Bool, _&&_, cond, false, not, true}
 use mathlib.Core.List.{List, [], _∷_}
 use mathlib.Core.Path.{_≡_, subst, sym}
-use lib.Dec.{T, eqb, eqb→eq, leb, le→leb, not-T}
-use native.Mathlib.Omega.{arith}
+use lib.Dec.{T, eqb, eqb→eq, not-T}
 use Rattle.meaning.proofs.Closure.{below-sound}
 use Rattle.meaning.proofs.Forms.{Has, HoldsForm, HoldsNode, HoldsSuccessors}
+use Rattle.meaning.proofs.Intervals.{isNonEmpty-iff, meet-within, within-meet, within-nonEmpty}
 use Rattle.meaning.proofs.Rules.{T-and, all-in, all-mono, all-of, and-T, and-not, any-at, any-out, head, not-or, tail}
 use Rattle.meaning.proofs.Stated.{all-stated}
 use Rattle.meaning.specs.Interpretation.{Holds, Interpretation, Obeys, Satisfies}
-use Rattle.meaning.specs.Intervals.{Constraint, meet}
+use Rattle.meaning.specs.Intervals.{Constraint, Within, isNonEmpty, meet}
 use Rattle.meaning.specs.Lists.{All, all, cons, nil}
 use Rattle.meaning.specs.NormalForm.{Form, Node, Successors, add, areNonEmpty, bare, clash, cleanNode, cleanSuccessors}
 use Rattle.meaning.specs.NormalForm.{compatible, graft, hasBottom, none, normalForm, placeConstraint, placeSuccessor}
@@ -23,11 +23,11 @@ in-ranges : (I : Interpretation) (K : Vocabulary) → Satisfies I K → (r d e :
 in-ranges I K s r d e h = all-of (ranges K r) (λ c m. all-stated K (s .stated) .ranged r c m d e h)
 
 -- rule 5
-interval-in : (I : Interpretation) (one : Bool) (s : Constraint) (d : ℕ) → (T one → Obeys I (functionalFeature (s .feature))) →
+constraint-in : (I : Interpretation) (one : Bool) (s : Constraint) (d : ℕ) → (T one → Obeys I (functionalFeature (s .feature))) →
     Has I d s → (l : List Constraint) → All (Has I d) l → All (Has I d) (placeConstraint one s l)
-interval-in I one s d law h [] k = cons h nil
-interval-in I one s d law h (x ∷ l) k =
-    go (one && eqb (x .feature) (s .feature)) (λ t. T-and one (eqb (x .feature) (s .feature)) t) (interval-in I one s d law h l (tail k))
+constraint-in I one s d law h [] k = cons h nil
+constraint-in I one s d law h (x ∷ l) k =
+    go (one && eqb (x .feature) (s .feature)) (λ t. T-and one (eqb (x .feature) (s .feature)) t) (constraint-in I one s d law h l (tail k))
   where
     go : (b : Bool) → (T b → T one × T (eqb (x .feature) (s .feature))) → All (Has I d) (placeConstraint one s l) →
         All (Has I d) (cond b (meet x s ∷ l) (x ∷ placeConstraint one s l))
@@ -36,19 +36,20 @@ interval-in I one s d law h (x ∷ l) k =
         let e : x .feature ≡ s .feature = eqb→eq _ _ (g .1) in
         let v = head k in
         let same : v .0 ≡ h .0 = law (g .0) d (v .0) (h .0) (subst (λ (k : ℕ). I .hasValue k d (v .0)) e (v .1)) (h .1) in
-        cons {x = meet x s} (v .0, v .1, omega arith) (tail k)
+        cons {x = meet x s} (v .0, v .1, within-meet x s (v .0) (v .2) (subst (λ (k : ℕ). Within (s .lo) (s .hi) k) (sym same) (h .2))) (tail k)
     go false f r = cons (head k) r
 
-interval-out : (I : Interpretation) (one : Bool) (s : Constraint) (d : ℕ) (l : List Constraint) → All (Has I d) (placeConstraint one s l) → Has I d s × All (Has I d) l
-interval-out I one s d [] k = (head k, nil)
-interval-out I one s d (x ∷ l) k =
-    go (one && eqb (x .feature) (s .feature)) (λ t. eqb→eq _ _ (T-and one (eqb (x .feature) (s .feature)) t .1)) (interval-out I one s d l) k
+constraint-out : (I : Interpretation) (one : Bool) (s : Constraint) (d : ℕ) (l : List Constraint) → All (Has I d) (placeConstraint one s l) → Has I d s × All (Has I d) l
+constraint-out I one s d [] k = (head k, nil)
+constraint-out I one s d (x ∷ l) k =
+    go (one && eqb (x .feature) (s .feature)) (λ t. eqb→eq _ _ (T-and one (eqb (x .feature) (s .feature)) t .1)) (constraint-out I one s d l) k
   where
     go : (b : Bool) → (T b → x .feature ≡ s .feature) → (All (Has I d) (placeConstraint one s l) → Has I d s × All (Has I d) l) →
         All (Has I d) (cond b (meet x s ∷ l) (x ∷ placeConstraint one s l)) → Has I d s × All (Has I d) (x ∷ l)
     go true f r k =
         let v = head k in
-        ((v .0, subst (λ (k : ℕ). I .hasValue k d (v .0)) (f tt) (v .1), omega arith), cons {x = x} (v .0, v .1, omega arith) (tail k))
+        let w = meet-within x s (v .0) (v .2) in
+        ((v .0, subst (λ (k : ℕ). I .hasValue k d (v .0)) (f tt) (v .1), w .1), cons {x = x} (v .0, v .1, w .0) (tail k))
     go false f r k = let g = r (tail k) in (g .0, cons (head k) (g .1))
 
 -- rules 4 and 6
@@ -99,7 +100,7 @@ add-in I K s (some r child next) t d h k =
 add-in I K s (interval f lo hi next) t d h k =
     let new : Constraint = record { feature = f; lo = lo; hi = hi } in
     add-in I K s next (withConstraint K new t) d (h .1) (record {
-      node = record { classes = k .node .classes; constraints = interval-in I (isFunctionalFeature K f) new d (all-stated K (s .stated) .feature f) (h .0) (t .node .constraints) (k .node .constraints) };
+      node = record { classes = k .node .classes; constraints = constraint-in I (isFunctionalFeature K f) new d (all-stated K (s .stated) .feature f) (h .0) (t .node .constraints) (k .node .constraints) };
       successors = k .successors;
     })
 
@@ -117,7 +118,7 @@ add-out I K (some r child next) t d u k =
 add-out I K (interval f lo hi next) t d u k =
     let new : Constraint = record { feature = f; lo = lo; hi = hi } in
     let r = add-out I K next (withConstraint K new t) d u k in
-    let g = interval-out I (isFunctionalFeature K f) new d (t .node .constraints) (r .1 .node .constraints) in
+    let g = constraint-out I (isFunctionalFeature K f) new d (t .node .constraints) (r .1 .node .constraints) in
     let v = g .0 in
     ((v, r .0), record { node = record { classes = r .1 .node .classes; constraints = g .1 }; successors = r .1 .successors })
 
@@ -133,7 +134,7 @@ clash-free I K s a b d h k =
 fits-clean : (I : Interpretation) (K : Vocabulary) → Satisfies I K → (n : Node) (d : ℕ) → HoldsNode I n d → T (cleanNode K n)
 fits-clean I K s n d h =
     and-T (areNonEmpty (n .constraints)) (compatible K (n .classes))
-    (all-in (λ x. leb (x .lo) (x .hi)) (all-mono (λ x v. le→leb (x .lo) (x .hi) (omega arith)) (h .constraints)))
+    (all-in (λ x. isNonEmpty (x .lo) (x .hi)) (all-mono (λ x v. isNonEmpty-iff (x .lo) (x .hi) .1 (within-nonEmpty (x .lo) (x .hi) (v .0) (v .2))) (h .constraints)))
     (all-in (λ a. all (λ b. not (clash K a b)) (n .classes))
     (all-mono (λ a ha. all-in (λ b. not (clash K a b)) (all-mono (λ b hb. clash-free I K s a b d ha hb) (h .classes))) (h .classes)))
 

@@ -42,10 +42,10 @@ size-weight none = omega arith
 size-weight (successor r n under next) = omega (arith, size-weight under, size-weight next)
 
 -- a constraint adds at most one
-place-length : (one : Bool) (s : Constraint) (l : List Constraint) → length (placeConstraint one s l) ≤ suc (length l)
-place-length one s [] = omega arith
-place-length one s (t ∷ l) =
-    let h = place-length one s l in
+length-placeConstraint-≤ : (one : Bool) (s : Constraint) (l : List Constraint) → length (placeConstraint one s l) ≤ suc (length l)
+length-placeConstraint-≤ one s [] = omega arith
+length-placeConstraint-≤ one s (t ∷ l) =
+    let h = length-placeConstraint-≤ one s l in
     cond-all (λ (m : List Constraint). length m ≤ suc (suc (length l))) (one && eqb (t .feature) (s .feature)) (omega arith) (omega arith)
 
 -- a successor adds at most one, and what its inner conjuncts add
@@ -70,7 +70,7 @@ add-weight K (some r child next) t =
     )
 add-weight K (interval f lo hi next) t =
     let s : Constraint = record { feature = f; lo = lo; hi = hi } in
-    omega (arith, add-weight K next (withConstraint K s t), place-length (isFunctionalFeature K f) s (t .node .constraints))
+    omega (arith, add-weight K next (withConstraint K s t), length-placeConstraint-≤ (isFunctionalFeature K f) s (t .node .constraints))
 
 pub normal-weight : (K : Vocabulary) (c : Chain) → formWeight (normalForm K c) ≤ count c
 unfolding normalForm
@@ -79,21 +79,21 @@ normal-weight K c = omega (arith, add-weight K c (bare []))
 -- ---- its roles are among 1 to R, its features among 1 to F
 
 module _ (R F : ℕ) where
-  abbrev pub NamedIntervals : List Constraint → Type 0
-  NamedIntervals l = All (λ s. Name F (s .feature)) l
+  abbrev pub NamedConstraints : List Constraint → Type 0
+  NamedConstraints l = All (λ s. Name F (s .feature)) l
 
   abbrev pub NamedSuccessors : Successors → Type 0
   NamedSuccessors none = Unit {0}
-  NamedSuccessors (successor r n under next) = Name R r × NamedIntervals (n .constraints) × NamedSuccessors under × NamedSuccessors next
+  NamedSuccessors (successor r n under next) = Name R r × NamedConstraints (n .constraints) × NamedSuccessors under × NamedSuccessors next
 
   pub record NamedForm (t : Form) : Type 0 where
-    pub node : NamedIntervals (t .node .constraints)
+    pub node : NamedConstraints (t .node .constraints)
     pub successors : NamedSuccessors (t .successors)
 
-  interval-named : (one : Bool) (s : Constraint) → Name F (s .feature) → (l : List Constraint) → NamedIntervals l → NamedIntervals (placeConstraint one s l)
-  interval-named one s h [] k = cons h nil
-  interval-named one s h (t ∷ l) k =
-      cond-all NamedIntervals (one && eqb (t .feature) (s .feature)) (cons (head k) (tail k)) (cons (head k) (interval-named one s h l (tail k)))
+  constraint-named : (one : Bool) (s : Constraint) → Name F (s .feature) → (l : List Constraint) → NamedConstraints l → NamedConstraints (placeConstraint one s l)
+  constraint-named one s h [] k = cons h nil
+  constraint-named one s h (t ∷ l) k =
+      cond-all NamedConstraints (one && eqb (t .feature) (s .feature)) (cons (head k) (tail k)) (cons (head k) (constraint-named one s h l (tail k)))
 
   successor-named : (one : Bool) (r : ℕ) (fresh : Form) (grow : Form → Form) → Name R r → NamedForm fresh → ((t : Form) → NamedForm t → NamedForm (grow t)) →
       (under : Successors) → NamedSuccessors under → NamedSuccessors (placeSuccessor one r fresh grow under)
@@ -115,7 +115,7 @@ module _ (R F : ℕ) where
   add-named N K (interval f lo hi next) h t k =
       let s : Constraint = record { feature = f; lo = lo; hi = hi } in
       add-named N K next (h .1) (withConstraint K s t)
-      (record { node = interval-named (isFunctionalFeature K f) s (h .0) (t .node .constraints) (k .node); successors = k .successors })
+      (record { node = constraint-named (isFunctionalFeature K f) s (h .0) (t .node .constraints) (k .node); successors = k .successors })
 
   pub normal-named : (N : ℕ) (K : Vocabulary) (c : Chain) → NamedChain N R F c → NamedForm (normalForm K c)
   unfolding normalForm
@@ -136,7 +136,7 @@ module _ {Q : Policy} where
   form-picked p = omega (arith, parts-length (p .node .constraints), weight-picked (p .successors))
 
   module _ (R F : ℕ) where
-    parts-named : {l m : List Constraint} → Parts Q l m → NamedIntervals R F l → NamedIntervals R F m
+    parts-named : {l m : List Constraint} → Parts Q l m → NamedConstraints R F l → NamedConstraints R F m
     parts-named no-parts h = nil
     parts-named (parts a b) h = cons (subst (λ (f : ℕ). Name F f) (sym (a .inside .same)) (head h)) (parts-named b (tail h))
 
@@ -192,9 +192,9 @@ module _ (K : Vocabulary) where
         mul-add (K .classes) 1 (size under),
       )
 
-  pub model-few : (t : Form) → length (canonicalModel K t) ≤ K .classes * individuals t + formWeight t
+  pub length-canonicalModel-≤ : (t : Form) → length (canonicalModel K t) ≤ K .classes * individuals t + formWeight t
   unfolding canonicalModel
-  model-few t =
+  length-canonicalModel-≤ t =
       omega (
         arith,
         node-few (t .node) (t .successors) 1,
@@ -224,7 +224,7 @@ module _ (R F : ℕ) (K : Vocabulary) where
   edges-counted none i k h = nil
   edges-counted (successor r n under next) i k h = cons {x = edge r i k} (h .0) (edges-counted next i (suc k + size under) (h .3))
 
-  node-counted : (n : Node) (under : Successors) (i : ℕ) → NamedIntervals R F (n .constraints) → NamedSuccessors R F under → All Counted (recordsOf K n under i)
+  node-counted : (n : Node) (under : Successors) (i : ℕ) → NamedConstraints R F (n .constraints) → NamedSuccessors R F under → All Counted (recordsOf K n under i)
   node-counted n under i h k =
       all-append (all-map (λ c. member c i) (all-kept (λ b. any (λ c. isBelow K c b) (n .classes)) (counting-named (K .classes) 1 (K .classes) (omega arith) (omega arith))))
       (all-append (all-map (λ s. value (s .feature) i (valueOf s)) (pairs-in (λ f v. Name F f) (n .constraints) h)) (edges-counted under i (suc i) k))

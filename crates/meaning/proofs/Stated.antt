@@ -5,7 +5,7 @@ use mathlib.Core.List.{List, [], _∷_}
 use mathlib.Core.Logic.{_⊎_, inl, inr}
 use mathlib.Core.Path.{_≡_, ap, ap₂, refl, subst, sym}
 use lib.Dec.{T, eqb, eqb-refl, eqb→eq}
-use borrow.Author.Tests.{ne-eqb}
+use borrow.Author.Tests.{eqb-true}
 use native.Mathlib.Omega.{arith}
 use lib.ListN.{length}
 use Rattle.meaning.proofs.Links.{choose, split, tests}
@@ -180,45 +180,39 @@ disjointPair-one (range r c) = omega arith
 -- ---- what record k states, by its kind
 
 module _ (v : List ℕ) (k : ℕ) where
+  by-kind : (P : Axiom → Type 0) →
+      (axiomKind v k ≡ 1 → P (below (axiomLeft v k) (axiomRight v k))) → (axiomKind v k ≡ 2 → P (disjoint (axiomLeft v k) (axiomRight v k))) →
+      (axiomKind v k ≡ 3 → P (functionalRole (axiomLeft v k))) → (axiomKind v k ≡ 4 → P (functionalFeature (axiomLeft v k))) →
+      P (range (axiomLeft v k) (axiomRight v k)) → P (axiomAt v k)
+  by-kind P one two three four five =
+      split P (eqb (axiomKind v k) 1) (λ t. one (eqb-true (axiomKind v k) 1 t)) (λ _.
+      split P (eqb (axiomKind v k) 2) (λ t. two (eqb-true (axiomKind v k) 2 t)) (λ _.
+      split P (eqb (axiomKind v k) 3) (λ t. three (eqb-true (axiomKind v k) 3 t)) (λ _.
+      split P (eqb (axiomKind v k) 4) (λ t. four (eqb-true (axiomKind v k) 4 t)) (λ _. five))))
+
   pub subclass-at : axiomKind v k ≡ 1 → subclass (axiomAt v k) ≡ (axiomLeft v k, axiomRight v k) ∷ []
   subclass-at e = rw e
 
   pub subclass-other : (axiomKind v k ≡ 1 → ⊥) → subclass (axiomAt v k) ≡ []
-  subclass-other n = rw (ne-eqb (axiomKind v k) 1 n) (
-      split P (eqb (axiomKind v k) 2) (λ _. refl) (λ _. split P (eqb (axiomKind v k) 3) (λ _. refl) (λ _. split P (eqb (axiomKind v k) 4) (λ _. refl) (λ _. refl))))
-    where
-      P : Axiom → Type 0
-      P x = subclass x ≡ []
+  subclass-other n = by-kind (λ x. subclass x ≡ []) (λ e. absurd (n e)) (λ _. refl) (λ _. refl) (λ _. refl) refl
 
   pub disjointPair-at : axiomKind v k ≡ 2 → disjointPair (axiomAt v k) ≡ (axiomLeft v k, axiomRight v k) ∷ []
   disjointPair-at e = rw e
 
   pub disjointPair-other : (axiomKind v k ≡ 2 → ⊥) → disjointPair (axiomAt v k) ≡ []
-  disjointPair-other n = rw (ne-eqb (axiomKind v k) 2 n) (
-      split P (eqb (axiomKind v k) 1) (λ _. refl) (λ _. split P (eqb (axiomKind v k) 3) (λ _. refl) (λ _. split P (eqb (axiomKind v k) 4) (λ _. refl) (λ _. refl))))
-    where
-      P : Axiom → Type 0
-      P x = disjointPair x ≡ []
+  disjointPair-other n = by-kind (λ x. disjointPair x ≡ []) (λ _. refl) (λ e. absurd (n e)) (λ _. refl) (λ _. refl) refl
 
   pub functionalRoleName-at : axiomKind v k ≡ 3 → functionalRoleName (axiomAt v k) ≡ axiomLeft v k ∷ []
   functionalRoleName-at e = rw e
 
   pub functionalRoleName-other : (axiomKind v k ≡ 3 → ⊥) → functionalRoleName (axiomAt v k) ≡ []
-  functionalRoleName-other n = rw (ne-eqb (axiomKind v k) 3 n) (
-      split P (eqb (axiomKind v k) 1) (λ _. refl) (λ _. split P (eqb (axiomKind v k) 2) (λ _. refl) (λ _. split P (eqb (axiomKind v k) 4) (λ _. refl) (λ _. refl))))
-    where
-      P : Axiom → Type 0
-      P x = functionalRoleName x ≡ []
+  functionalRoleName-other n = by-kind (λ x. functionalRoleName x ≡ []) (λ _. refl) (λ _. refl) (λ e. absurd (n e)) (λ _. refl) refl
 
   pub functionalFeatureName-at : axiomKind v k ≡ 4 → functionalFeatureName (axiomAt v k) ≡ axiomLeft v k ∷ []
   functionalFeatureName-at e = rw e
 
   pub functionalFeatureName-other : (axiomKind v k ≡ 4 → ⊥) → functionalFeatureName (axiomAt v k) ≡ []
-  functionalFeatureName-other n = rw (ne-eqb (axiomKind v k) 4 n) (
-      split P (eqb (axiomKind v k) 1) (λ _. refl) (λ _. split P (eqb (axiomKind v k) 2) (λ _. refl) (λ _. split P (eqb (axiomKind v k) 3) (λ _. refl) (λ _. refl))))
-    where
-      P : Axiom → Type 0
-      P x = functionalFeatureName x ≡ []
+  functionalFeatureName-other n = by-kind (λ x. functionalFeatureName x ≡ []) (λ _. refl) (λ _. refl) (λ _. refl) (λ e. absurd (n e)) refl
 
   pub rangePair-at : axiomKind v k ≡ 5 → rangePair (axiomAt v k) ≡ (axiomLeft v k, axiomRight v k) ∷ []
   rangePair-at e = rw e

@@ -1,23 +1,23 @@
 -- Algorithm 1: its yes is right in every interpretation; and Lemma 3, on a combination it is truth in the canonical model.
-use Prim.Native.Nat.{_+_, _≤_, suc, ℕ}
+use Prim.Native.Nat.{_+_, suc, ℕ}
 use mathlib.Core.Bool.{Bool, _&&_, cond, false, true}
 use mathlib.Core.List.{List, [], _∷_}
 use mathlib.Core.Logic.{_↔_, _⊎_, inl, inr}
 use mathlib.Core.Path.{_≡_, refl, subst, sym}
-use lib.Dec.{T, eqb, eqb-refl, eqb→eq, leb, leb→le, le→leb}
-use native.Mathlib.Omega.{arith}
+use lib.Dec.{T, eqb, eqb-refl, eqb→eq}
 use Rattle.meaning.proofs.Canonical.{formed, satisfied}
 use Rattle.meaning.proofs.Closure.{below-sound}
 use Rattle.meaning.proofs.Forms.{HoldsForm, HoldsNode, HoldsSuccessors}
-use Rattle.meaning.proofs.Picks.{Parts, Picked, PickedForm, PickedNode, Ready, clean-nonEmpty, no-parts, none-picked, parts}
-use Rattle.meaning.proofs.Picks.{picked}
+use Rattle.meaning.proofs.Intervals.{inside-within, isInside-refl, value-within}
+use Rattle.meaning.proofs.Picks.{AllNonEmpty, Parts, Picked, PickedForm, PickedNode, Consistent, clean-nonEmpty, no-parts}
+use Rattle.meaning.proofs.Picks.{none-picked, parts, picked}
 use Rattle.meaning.proofs.Places.{Child, Place, True, places}
-use Rattle.meaning.proofs.Points.{Unparted, value-inside}
+use Rattle.meaning.proofs.Points.{Unparted, unparted-inside}
 use Rattle.meaning.proofs.Rules.{T-and, T-or, all-any, all-at, and-T, any-both, any-flatMap, any-in, any-left, any-mono}
 use Rattle.meaning.proofs.Rules.{any-none, any-out, any-right, at-any, eqb-of, or-left, or-right}
 use Rattle.meaning.specs.Countermodel.{canonicalModel, individuals, size}
 use Rattle.meaning.specs.Interpretation.{Holds, Interpretation, Satisfies}
-use Rattle.meaning.specs.Intervals.{Constraint, Within, valueOf}
+use Rattle.meaning.specs.Intervals.{Constraint, NonEmpty, Within, isInside, valueOf}
 use Rattle.meaning.specs.Lists.{All, _∈_, any, cons, flatMap, here, nil, there}
 use Rattle.meaning.specs.Model.{Fact, stands}
 use Rattle.meaning.specs.Normal.{Bounded}
@@ -59,15 +59,12 @@ subsumed-sound I K s (some r child next) n under d t f g =
 subsumed-sound I K s (interval h lo hi next) n under d t f g =
     let u = T-and (any (includes h lo hi) (n .constraints)) (subsumed K next n under) t in
     let v = all-any (f .constraints) (any-out (includes h lo hi) (n .constraints) (u .0)) in
-    let w = T-and (eqb h (v .0 .feature)) (leb lo (v .0 .lo) && leb (v .0 .hi) hi) (v .2) in
-    let z = T-and (leb lo (v .0 .lo)) (leb (v .0 .hi) hi) (w .1) in
-    let a : lo ≤ v .0 .lo = leb→le _ _ (z .0) in
-    let b : v .0 .hi ≤ hi = leb→le _ _ (z .1) in
-    ((v .1 .0, subst (λ (x : ℕ). I .hasValue x d (v .1 .0)) (sym (eqb→eq _ _ (w .0))) (v .1 .1), (omega arith, omega arith)), subsumed-sound I K s next n under d (u .1) f g)
+    let w = T-and (eqb h (v .0 .feature)) (isInside lo hi (v .0 .lo) (v .0 .hi)) (v .2) in
+    ((v .1 .0, subst (λ (x : ℕ). I .hasValue x d (v .1 .0)) (sym (eqb→eq _ _ (w .0))) (v .1 .1), inside-within lo hi (v .0 .lo) (v .0 .hi) (v .1 .0) (w .1) (v .1 .2)), subsumed-sound I K s next n under d (u .1) f g)
 
 -- interval safe: no end of Q parts a piece
 abbrev pub SafePiece : Policy → Constraint → Type 0
-SafePiece Q p = (p .lo ≤ p .hi) × ((e : ℕ) → e ∈ flatMap (ends (p .feature)) Q → Unparted p e)
+SafePiece Q p = NonEmpty (p .lo) (p .hi) × ((e : ℕ) → e ∈ flatMap (ends (p .feature)) Q → Unparted p e)
 
 abbrev pub Safe : Policy → Successors → Type 0
 Safe Q none = Unit {0}
@@ -76,7 +73,7 @@ Safe Q (successor r n under next) = All (SafePiece Q) (n .constraints) × Safe Q
 parts-safe : {Q : Policy} {l m : List Constraint} → Parts Q l m → All (SafePiece Q) m
 parts-safe no-parts = nil
 parts-safe {Q} (parts {p = p} a b) =
-    cons (a .inside .filled, λ e m. a .safe e (subst (λ (f : ℕ). e ∈ flatMap (ends f) Q) (a .inside .same) m)) (parts-safe b)
+    cons (a .inside .nonEmpty, λ e m. a .safe e (subst (λ (f : ℕ). e ∈ flatMap (ends f) Q) (a .inside .same) m)) (parts-safe b)
 
 pub picked-safe : {Q : Policy} {under inner : Successors} → Picked Q under inner → Safe Q inner
 picked-safe none-picked = tt
@@ -116,10 +113,8 @@ module _ (K : Vocabulary) (Q : Policy) (m : ℕ) (F : List Fact) (h : ℕ → Pl
   piece-in f lo hi v s l u w a e =
       let x = a .1 lo (subst (λ (g : ℕ). lo ∈ flatMap (ends g) Q) (e .0) l) in
       let y = a .1 hi (subst (λ (g : ℕ). hi ∈ flatMap (ends g) Q) (e .0) u) in
-      let z = value-inside s (a .0) in
-      let p : v ≡ valueOf s = e .1 in
-      and-T (eqb f (s .feature)) (leb lo (s .lo) && leb (s .hi) hi) (eqb-of f (s .feature) (e .0))
-      (and-T (leb lo (s .lo)) (leb (s .hi) hi) (le→leb lo (s .lo) (x .0 (omega arith))) (le→leb (s .hi) hi (y .1 (omega arith))))
+      and-T (eqb f (s .feature)) (isInside lo hi (s .lo) (s .hi)) (eqb-of f (s .feature) (e .0))
+      (unparted-inside s lo hi v x y w (subst (λ (k : ℕ). Within (s .lo) (s .hi) k) (sym (e .1)) (value-within s (a .0))))
 
   subsumed-at : (q : Chain) → EndsIn Q q → (i : ℕ) → All (SafePiece Q) (h i .node .constraints) → Safe Q (h i .successors) → Holds (stands m F) q i →
       T (subsumed K q (h i .node) (h i .successors))
@@ -142,7 +137,7 @@ module _ (K : Vocabulary) (Q : Policy) (m : ℕ) (F : List Fact) (h : ℕ → Pl
       (subsumed-at next (g .2) i a b (t .1))
 
 -- from the canonical model to Algorithm 1
-pub subsumed-complete : (K : Vocabulary) (Q : Policy) (t u : Form) → Ready K u → PickedForm Q t u → (q : Chain) → q ∈ Q →
+pub subsumed-complete : (K : Vocabulary) (Q : Policy) (t u : Form) → Consistent K u → PickedForm Q t u → (q : Chain) → q ∈ Q →
     Holds (stands (individuals u) (canonicalModel K u)) q 1 → T (subsumed K q (u .node) (u .successors))
 subsumed-complete K Q t u r p q m h =
     let w = places K u r in
@@ -153,9 +148,9 @@ subsumed-complete K Q t u r p q m h =
     (subst (λ (x : Place K). All (SafePiece Q) (x .node .constraints)) (sym e) safe) (subst (λ (x : Place K). Safe Q (x .successors)) (sym e) (picked-safe (p .successors))) h)
 
 -- a form with no empty constraint is a combination of itself against no policy
-self-parts : {l : List Constraint} → All (λ s. s .lo ≤ s .hi) l → Parts [] l l
+self-parts : {l : List Constraint} → AllNonEmpty l → Parts [] l l
 self-parts nil = no-parts
-self-parts (cons {x = s} h k) = parts {s = s} {p = s} (record { inside = record { same = refl; low = omega arith; filled = h; high = omega arith }; safe = λ e m. absurd (any-none m) }) (self-parts k)
+self-parts (cons {x = s} h k) = parts {s = s} {p = s} (record { inside = record { same = refl; inside = isInside-refl (s .lo) (s .hi); nonEmpty = h }; safe = λ e m. absurd (any-none m) }) (self-parts k)
 
 self-node : (K : Vocabulary) (n : Node) → T (cleanNode K n) → PickedNode [] n n
 self-node K n t = record { classes = refl; constraints = self-parts (clean-nonEmpty K n t) }
@@ -168,7 +163,7 @@ self-picked K (successor r n under next) t =
     picked (self-node K n (a .0)) (self-picked K under (b .0)) (self-picked K next (b .1))
 
 -- Lemma 3: on a combination Algorithm 1 answers yes exactly where the canonical model has individual 1 in the term
-pub lemma3 : (K : Vocabulary) → Bounded K → (Q : Policy) (t u : Form) → Ready K u → PickedForm Q t u → (q : Chain) → q ∈ Q →
+pub lemma3 : (K : Vocabulary) → Bounded K → (Q : Policy) (t u : Form) → Consistent K u → PickedForm Q t u → (q : Chain) → q ∈ Q →
     T (subsumed K q (u .node) (u .successors)) ↔ Holds (stands (individuals u) (canonicalModel K u)) q 1
 lemma3 K w Q t u r p q m = (
   λ s. subsumed-sound (stands (individuals u) (canonicalModel K u)) K (satisfied K w u r) q (u .node) (u .successors) 1 s (itself .node) (itself .successors),

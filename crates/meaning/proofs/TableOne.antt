@@ -4,13 +4,13 @@ use mathlib.Core.Bool.{_&&_, false, not}
 use mathlib.Core.List.{List}
 use mathlib.Core.Logic.{_↔_, _⊎_, inl, inr, ⊎-elim, ⊎-map}
 use mathlib.Core.Path.{_∙_, _≡_, subst, sym}
-use lib.Dec.{T, T-not, leb, nleb→lt, not-T}
-use native.Mathlib.Omega.{arith}
+use lib.Dec.{T, T-not, not-T}
+use Rattle.meaning.proofs.Intervals.{empty-nonEmpty, not-isNonEmpty}
 use Rattle.meaning.proofs.Normal.{normalForm-normal-unbounded}
 use Rattle.meaning.proofs.Picks.{clean-nonEmpty, no-clash}
 use Rattle.meaning.proofs.Rules.{T-and, all-any, all-at, any-at, any-mono, any-out, at-any, isFalse, not-all, not-and}
 use Rattle.meaning.proofs.Rules.{not-not, notTrue}
-use Rattle.meaning.specs.Intervals.{Constraint, Empty}
+use Rattle.meaning.specs.Intervals.{Constraint, Empty, isNonEmpty}
 use Rattle.meaning.specs.Lists.{Any, _∈_, all}
 use Rattle.meaning.specs.Normal.{Distinct, Fresh, NormalNode, NormalSuccessors}
 use Rattle.meaning.specs.NormalForm.{Form, Node, Successors, areNonEmpty, clash, cleanNode, cleanSuccessors, compatible}
@@ -49,7 +49,7 @@ module _ (B : ℕ → Type 0) (K : Vocabulary) where
 module _ (K : Vocabulary) where
   -- in a clean form neither of the two does
   clean-at : {k : ℕ} {n : Node} → T (cleanNode K n) → AppliesAt K k n → T (not (collapses k))
-  clean-at {n = n} t (rule3 h) = let e = all-any (clean-nonEmpty K n t) h in absurd (omega arith)
+  clean-at {n = n} t (rule3 h) = let e = all-any (clean-nonEmpty K n t) h in absurd (empty-nonEmpty (e .0 .lo) (e .0 .hi) (e .2) (e .1))
   clean-at t (rule5 u h) = tt
   clean-at {n = n} t (rule7 {x = x} {y = y} m a b) = absurd (no-clash K n t x y m a b)
 
@@ -71,7 +71,7 @@ module _ (K : Vocabulary) where
   unclean-at n t = ⊎-map (λ u. rule3 (empty u)) clashes (not-and (areNonEmpty (n .constraints)) (compatible K (n .classes)) t)
     where
       empty : T (not (areNonEmpty (n .constraints))) → Any (λ s. Empty (s .lo) (s .hi)) (n .constraints)
-      empty u = any-mono (λ s v. nleb→lt (s .lo) (s .hi) v) (not-all (λ s. leb (s .lo) (s .hi)) (n .constraints) u)
+      empty u = any-mono (λ s v. not-isNonEmpty (s .lo) (s .hi) v) (not-all (λ s. isNonEmpty (s .lo) (s .hi)) (n .constraints) u)
 
       clashes : T (not (compatible K (n .classes))) → AppliesAt K 7 n
       clashes u =

@@ -15,9 +15,9 @@ use Rattle.meaning.specs.Policy.{Chain, Policy, chainFrom, childOf, conj
 use Rattle.meaning.specs.Records.{Enough, falling, lastOf}
 
 -- so each chain is shorter than the policy
-pub each-few : (P : Policy) (n : ℕ) → total P ≤ n → All (λ c. count c < n) P
-each-few [] n h = nil
-each-few (c ∷ P) n h = cons {x = c} (omega arith) (each-few P n (omega arith))
+pub count-< : (P : Policy) (n : ℕ) → total P ≤ n → All (λ c. count c < n) P
+count-< [] n h = nil
+count-< (c ∷ P) n h = cons {x = c} (omega arith) (count-< P n (omega arith))
 
 module _ {p : List ℕ} where
   -- fuel falls from a record to its links

@@ -31,7 +31,7 @@ module _ {w : ℕ} {R : ℕ → Type 0} {l l′ : List ℕ} (S : Same (suc w) R 
   agree : {k : ℕ} → R k → Agree w l l′ k
   agree {k} r = (words (suc w) l l′ 0 w (S .headers) (omega arith), words (suc w) l l′ k w (S .records r) (omega arith))
 
-  -- induction on the fuel: what holds without fuel, at a chain's end, and at a reached record when it holds behind its links,
+  -- induction on the fuel: what holds without fuel, at a chain's end, and at a reached record when it holds after its links,
   -- holds wherever a link leads
   along : (P : ℕ → ℕ → Type 0) → ((k : ℕ) → P 0 k) → ((f : ℕ) → P (suc f) 0) →
       ((f k : ℕ) → Agree w l l′ k → R k → 1 ≤ k → ((j : ℕ) → R j → P f j) → P (suc f) k) → (f k : ℕ) → R k → P f k

@@ -7,7 +7,7 @@ use lib.Dec.{eqb, eqb·suc-zero}
 use lib.ListN.{length}
 use native.Mathlib.Omega.{arith}
 use borrow.Author.Tests.{eqb-false}
-use Rattle.meaning.proofs.Links.{Once, choose, enough-end, falling-le, once-few, once-more, once-none, passed, split, tests}
+use Rattle.meaning.proofs.Links.{Once, choose, enough-end, falling-le, length-once-≤, once-more, once-none, passed, split, tests}
 use Rattle.meaning.proofs.Terms.{chain-at, chain-is, child-enough, next-enough}
 use Rattle.meaning.specs.Accepted.{Accepted, AxiomOf, ChainOf, Here, NamedChain, Reads, ReadsTerms, count, depth, reads-class}
 use Rattle.meaning.specs.Accepted.{reads-end, reads-impossible, reads-interval, reads-none, reads-some, reads-term, total}
@@ -151,7 +151,7 @@ module _ (v p : List ℕ) where
     once = λ s. later .once (inner .once (once-more (w .here .inside) (w .new) s));
   }
 
-  -- the walk from a simple policy on
+  -- the walk from a term on
   pub terms-walked : (f k : ℕ) (seen : List ℕ) → Enough (lastOf 6 p) f k → Walked (λ s. Termed v p k seen s (termsFrom f p k)) (walk f v p 0 k seen)
   unfolding walk
   terms-walked zero k seen h = arrived (no-terms (enough-end (lastOf 6 p) k h))
@@ -173,7 +173,7 @@ accepted v p h =
       reads = a .reads;
       named = a .named;
       shallow = a .shallow;
-      few = let c = a .counted in omega (arith, once-few (a .once once-none));
+      few = let c = a .counted in omega (arith, length-once-≤ (a .once once-none));
       small = omega arith;
     }
 

@@ -4,15 +4,15 @@ use mathlib.Core.Bool.{Bool, _&&_, _||_, true}
 use mathlib.Core.List.{List}
 use mathlib.Core.Logic.{_⊎_, inl, inr}
 use mathlib.Core.Path.{_∙_, _≡_, refl, subst, sym}
-use native.Mathlib.Omega.{arith}
-use lib.Dec.{T, eqb, eqb→eq, leb, leb→le, le→leb}
+use lib.Dec.{T, eqb, eqb→eq}
+use Rattle.meaning.proofs.Intervals.{isInside-trans}
 use Rattle.meaning.proofs.Picks.{AllNonEmpty, Parts, Picked, PickedForm, PickedNode, combinations-picked, no-parts}
 use Rattle.meaning.proofs.Picks.{none-picked, parts, picked}
 use Rattle.meaning.proofs.Points.{Inside}
 use Rattle.meaning.proofs.Rules.{T-and, T-or, all-mono, and-T, any-in, any-mono, any-out, eqb-of, isTrue, or-left, or-right}
 use Rattle.meaning.proofs.Rules.{same-test}
 use Rattle.meaning.specs.Containment.{passes}
-use Rattle.meaning.specs.Intervals.{Constraint}
+use Rattle.meaning.specs.Intervals.{Constraint, isInside}
 use Rattle.meaning.specs.Lists.{All, any, cons, firstFailing, nil, nowhere}
 use Rattle.meaning.specs.NormalForm.{Form, Node, Successors}
 use Rattle.meaning.specs.Policy.{Chain, Policy, class, end, impossible, interval, some}
@@ -25,15 +25,9 @@ use Rattle.meaning.specs.Vocabulary.{Vocabulary}
 
 inside-includes : (f lo hi : ℕ) (s p : Constraint) → Inside s p → T (includes f lo hi s) → T (includes f lo hi p)
 inside-includes f lo hi s p i t =
-    let a = T-and (eqb f (s .feature)) (leb lo (s .lo) && leb (s .hi) hi) t in
-    let b = T-and (leb lo (s .lo)) (leb (s .hi) hi) (a .1) in
-    let e = eqb→eq f (s .feature) (a .0) in
-    let x = leb→le lo (s .lo) (b .0) in
-    let y = leb→le (s .hi) hi (b .1) in
-    let l = i .low in
-    let h = i .high in
-    and-T (eqb f (p .feature)) (leb lo (p .lo) && leb (p .hi) hi) (eqb-of f (p .feature) (e ∙ sym (i .same)))
-    (and-T (leb lo (p .lo)) (leb (p .hi) hi) (le→leb lo (p .lo) (omega arith)) (le→leb (p .hi) hi (omega arith)))
+    let a = T-and (eqb f (s .feature)) (isInside lo hi (s .lo) (s .hi)) t in
+    and-T (eqb f (p .feature)) (isInside lo hi (p .lo) (p .hi)) (eqb-of f (p .feature) (eqb→eq f (s .feature) (a .0) ∙ sym (i .same)))
+    (isInside-trans lo hi (s .lo) (s .hi) (p .lo) (p .hi) (a .1) (i .inside))
 
 module _ {Q : Policy} where
   parts-include : (f lo hi : ℕ) {l m : List Constraint} → Parts Q l m → T (any (includes f lo hi) l) → T (any (includes f lo hi) m)

@@ -16,10 +16,10 @@ use Rattle.meaning.proofs.Containment.{witness}
 use Rattle.meaning.proofs.Equality.{equality-compared}
 use Rattle.meaning.proofs.ModelWords.{model-accepted}
 use Rattle.meaning.proofs.Picks.{PickedForm}
-use Rattle.meaning.proofs.Refusals.{accepted-input, cond-all, or-zero, unless-all}
+use Rattle.meaning.proofs.Refusals.{accepted-input, cond-all, orElse-zero, unless-all}
 use Rattle.meaning.proofs.Rules.{all-at, any-right}
-use Rattle.meaning.proofs.Sizes.{form-picked, model-few, model-named, named-picked, normal-named, normal-weight, size-weight}
-use Rattle.meaning.proofs.Terms.{each-few}
+use Rattle.meaning.proofs.Sizes.{form-picked, length-canonicalModel-≤, model-named, named-picked, normal-named, normal-weight, size-weight}
+use Rattle.meaning.proofs.Terms.{count-<}
 use Rattle.meaning.proofs.Wellformed.{accepted, accepted-counts}
 use Rattle.meaning.specs.Accepted.{count}
 use Rattle.meaning.specs.Answers.{Answer, CheckResult, ComparisonResult, VerdictResult, differs, outside, result, yes}
@@ -47,10 +47,10 @@ module _ (v p : List ℕ) (e : vocabularyRefusal v ≡ 0) (h : policyRefusal v p
   combination-accepted c m u k =
       let K = vocabularyOf v in
       let a = accepted v p h in
-      let l : count c < mostRecords = all-at (each-few (policyOf p) mostRecords (omega arith)) m in
+      let l : count c < mostRecords = all-at (count-< (policyOf p) mostRecords (omega arith)) m in
       let b = accepted-counts v e in
       let small : individuals u ≤ mostIndividuals = omega (arith, size-weight (u .successors), form-picked k, normal-weight K c) in
-      let few : length (canonicalModel K u) ≤ mostFacts = omega (arith, model-few K u, mul-le-mul (b .0 .1) small, form-picked k, normal-weight K c) in
+      let few : length (canonicalModel K u) ≤ mostFacts = omega (arith, length-canonicalModel-≤ K u, mul-le-mul (b .0 .1) small, form-picked k, normal-weight K c) in
       model-accepted v (individuals u) (canonicalModel K u) (omega arith) small few
       (model-named (roleCount v) (featureCount v) K u (named-picked (roleCount v) (featureCount v) k (normal-named (roleCount v) (featureCount v) (classCount v) K c (all-at (a .named) m))))
 
@@ -92,7 +92,7 @@ upheld {v} {p} {q} a {words = words} x =
 answered-input : {A : Type 0} (v p q : List ℕ) (w : ℕ) (later : Outcome A) → (IsRefusal (unless refuses (orElse (inputRefusal v p q) (workRefusal w)) later .answer) → ⊥) → AcceptedInput v p q
 answered-input {A} v p q w later =
     unless-all (λ (r : Outcome A). (IsRefusal (r .answer) → ⊥) → AcceptedInput v p q) refuses (orElse (inputRefusal v p q) (workRefusal w)) later
-    (λ k t. absurd (t (k, refl))) (λ e t. accepted-input v p q (or-zero (inputRefusal v p q) (workRefusal w) e .0))
+    (λ k t. absurd (t (k, refl))) (λ e t. accepted-input v p q (orElse-zero (inputRefusal v p q) (workRefusal w) e .0))
 
 module _ (v p q : List ℕ) (w o : ℕ) where
   abbrev K : Vocabulary

@@ -21,7 +21,7 @@ NamedAxiom N R F (functionalRole r) = Name R r
 NamedAxiom N R F (functionalFeature f) = Name F f
 NamedAxiom N R F (range r c) = Name R r × Name N c
 
--- by the counts of v
+-- an axiom's names are by the counts of v
 abbrev pub AxiomOf : List ℕ → Axiom → Type 0
 AxiomOf v x = NamedAxiom (classCount v) (roleCount v) (featureCount v) x
 
@@ -35,7 +35,7 @@ NamedChain N R F (impossible next) = NamedChain N R F next
 NamedChain N R F (some r child next) = Name R r × NamedChain N R F child × NamedChain N R F next
 NamedChain N R F (interval f lo hi next) = Name F f × NamedChain N R F next
 
--- by the counts of v
+-- a chain's names are by the counts of v
 abbrev pub ChainOf : List ℕ → Chain → Type 0
 ChainOf v c = NamedChain (classCount v) (roleCount v) (featureCount v) c
 
@@ -47,7 +47,7 @@ depth (impossible next) = max 1 (depth next)
 depth (some r child next) = max (suc (depth child)) (depth next)
 depth (interval f lo hi next) = max 1 (depth next)
 
--- how many records a chain is made of, and how many simple policies and conjuncts a policy
+-- how many records a chain is made of, and how many terms and conjuncts a policy
 abbrev pub count : Chain → ℕ
 count end = 0
 count (class a next) = suc (count next)
@@ -70,10 +70,12 @@ pub data Reads (p : List ℕ) : ℕ → Chain → Type 0 where
   reads-end : {k : ℕ} → k ≡ 0 → Reads p k end
   reads-class : {k : ℕ} {c : Chain} → Here p k → kindOf p k ≡ 1 → Reads p (nextOf p k) c → Reads p k (class (nameOf p k) c)
   reads-impossible : {k : ℕ} {c : Chain} → Here p k → kindOf p k ≡ 2 → Reads p (nextOf p k) c → Reads p k (impossible c)
-  reads-some : {k : ℕ} {b c : Chain} → Here p k → kindOf p k ≡ 3 → Reads p (childOf p k) b → Reads p (nextOf p k) c → Reads p k (some (nameOf p k) b c)
-  reads-interval : {k : ℕ} {c : Chain} → Here p k → kindOf p k ≡ 4 → Reads p (nextOf p k) c → Reads p k (interval (nameOf p k) (loOf p k) (hiOf p k) c)
+  reads-some : {k : ℕ} {b c : Chain} → Here p k → kindOf p k ≡ 3 → Reads p (childOf p k) b → Reads p (nextOf p k) c →
+      Reads p k (some (nameOf p k) b c)
+  reads-interval : {k : ℕ} {c : Chain} → Here p k → kindOf p k ≡ 4 → Reads p (nextOf p k) c →
+      Reads p k (interval (nameOf p k) (loOf p k) (hiOf p k) c)
 
--- the words from record k on are the simple policies
+-- the words from record k on are the terms
 pub data ReadsTerms (p : List ℕ) : ℕ → Policy → Type 0 where
   reads-none : {k : ℕ} → k ≡ 0 → ReadsTerms p k []
   reads-term : {k : ℕ} {c : Chain} {P : Policy} → Here p k → (kindOf p k ≡ 5) × (nameOf p k ≡ 0) →

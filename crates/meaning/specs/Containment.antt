@@ -18,7 +18,7 @@ use Rattle.meaning.specs.Vocabulary.{Vocabulary}
 abbrev pub Contained : Vocabulary → Policy → Policy → Type 1
 Contained K P Q = (I : Interpretation) → Proper I → Satisfies I K → (d : ℕ) → I .individual d → In I P d → In I Q d
 
--- the same over interpretations given by tests, and over finite ones given by their facts
+-- containment over interpretations given by tests, and over finite ones given by their facts
 abbrev pub ContainedTested : Vocabulary → Policy → Policy → Type 0
 ContainedTested K P Q =
     (M : Tested) → Proper (interpreted M) → Satisfies (interpreted M) K →
@@ -59,11 +59,11 @@ pub record Refutes (K : Vocabulary) (P Q : Policy) (n : ℕ) (F : List Fact) : T
   pub within : In (stands n F) P 1
   pub without : In (stands n F) Q 1 → ⊥
 
--- a combination passes Algorithm 1 against some simple policy of the second
+-- a combination passes Algorithm 1 against some term of the second
 unfoldable pub passes : Vocabulary → Policy → Form → Bool
 passes K Q u = any (λ q. subsumed K q (u .node) (u .successors)) Q
 
--- the first combination to fail, counted from 1, of a possible simple policy
+-- the first combination to fail, counted from 1, of a possible term
 unfoldable pub firstFailure : Vocabulary → Policy → Chain → Found Form
 firstFailure K Q p =
     let tried = firstFailing (passes K Q) 1 (combinations Q (normalForm K p)) in

@@ -29,7 +29,8 @@ pub record NormalNode (B : ℕ → Type 0) (K : Vocabulary) (n : Node) : Type 0 
 abbrev pub NormalSuccessors : (ℕ → Type 0) → Vocabulary → Successors → Type 0
 NormalSuccessors B K none = Unit {0}
 NormalSuccessors B K (successor r n under next) =
-    (T (isFunctionalRole K r) → Fresh r next) × All (λ c. c ∈ n .classes) (ranges K r) × NormalNode B K n × NormalSuccessors B K under × NormalSuccessors B K next
+    (T (isFunctionalRole K r) → Fresh r next) × All (λ c. c ∈ n .classes) (ranges K r) × NormalNode B K n
+    × NormalSuccessors B K under × NormalSuccessors B K next
 
 pub record Normal (B : ℕ → Type 0) (K : Vocabulary) (t : Form) : Type 0 where
   pub node : NormalNode B K (t .node)

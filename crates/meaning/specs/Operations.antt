@@ -74,7 +74,7 @@ refuses n = record { answer = refused n; words = [] }
 abbrev pub written : {A : Type 0} → ℕ → (ℕ → A) → List ℕ → Outcome A
 written o tell words = cond (leb (length words) o) (record { answer = result (tell (length words)); words = words }) (refuses 23)
 
--- what a decision reports: simple policy s and combination q with the words written, or what comes when there is none
+-- what a decision reports: term s and combination q with the words written, or what comes when there is none
 abbrev pub reported : {A : Type 0} → Vocabulary → ℕ → (ℕ → ℕ → ℕ → A) → Decision → Outcome A → Outcome A
 reported K o tell contained rest = rest
 reported K o tell (escapes s q u) rest = written o (tell s q) (countermodel K u)

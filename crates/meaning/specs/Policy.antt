@@ -18,7 +18,7 @@ pub data Chain : Type 0 where
   some : ℕ → Chain → Chain → Chain
   interval : ℕ → ℕ → ℕ → Chain → Chain
 
--- its simple policies, each the chain of its conjuncts: "A header link of 0 means no individual."
+-- a policy is its terms, document 01's simple policies, each the chain of its conjuncts: "A header link of 0 means no individual."
 abbrev pub Policy : Type 0
 Policy = List Chain
 
@@ -126,6 +126,6 @@ termsFrom (suc f) p k =
     let this = chainFrom (length p) p (childOf p k) ∷ termsFrom f p (nextOf p k) in
     cond (eqb k 0) [] this
 
--- the simple policies of the header's chain
+-- the terms of the header's chain
 unfoldable pub policyOf : List ℕ → Policy
 policyOf p = termsFrom (length p) p (firstTerm p)

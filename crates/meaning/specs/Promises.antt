@@ -34,7 +34,7 @@ pub record Satisfiable (K : Vocabulary) (p : Chain) : Type 0 where
   pub satisfies : Satisfies (stands number facts) K
   pub holds : Holds (stands number facts) p 1
 
--- an answer of Possible is correct: the first simple policy that some interpretation has an individual in, or that there is none
+-- an answer of Possible is correct: the first term that some interpretation has an individual in, or that there is none
 pub data CorrectPossibility (K : Vocabulary) (P : Policy) : Answer PossibilityResult → Type 1 where
   unsaidPossibility : (n : ℕ) → CorrectPossibility K P (refused n)
   vacant : Vacant K P → CorrectPossibility K P (result nonePossible)
@@ -54,7 +54,7 @@ pub record First {A : Type 0} (p : A → Bool) (l : List A) (k : ℕ) (x : A) : 
   pub passed : All (λ y. T (p y)) before
   pub fails : T (not (p x))
 
--- simple policy p of P at the place s, and its combination u at the place q, are the first to fail
+-- term p of P at the place s, and its combination u at the place q, are the first to fail
 pub record FirstFailure (K : Vocabulary) (P Q : Policy) (s q : ℕ) (u : Form) : Type 0 where
   pub before : Policy
   pub term : Chain

@@ -17,14 +17,14 @@ pub enum Reading {
     Refused(u32),
 }
 
-// Possible: the first simple policy that is possible, or none is.
+// Possible: the first term that is possible, or none is.
 pub enum Possibility {
     Possible(u32),
     Impossible,
     Refused(u32),
 }
 
-// Compliance: compliant, or simple policy s and combination q with the words written.
+// Compliance: compliant, or term s and combination q with the words written.
 pub enum Verdict {
     Compliant,
     Outside(u32, u32, usize),

@@ -1,4 +1,4 @@
-// A model's words: records of five words behind a header, chained by links that rise.
+// A model's words: records of five words after a header, chained by links that rise.
 use meaning::ClassNo;
 use meaning::FeatureNo;
 use meaning::RoleNo;

@@ -9,7 +9,7 @@ use lib.Dec.{eqb}
 use lib.ListN.{length}
 use Rattle.extension.specs.Places.{setsAt, setsSize}
 use Rattle.meaning.proofs.Checking.{check-judged}
-use Rattle.meaning.proofs.Refusals.{accepted-input, cond-all, or-assoc, or-first, or-zero, unless-some}
+use Rattle.meaning.proofs.Refusals.{accepted-input, cond-all, orElse-assoc, orElse-first, orElse-zero, unless-some}
 use Rattle.meaning.specs.Answers.{Answer, CheckResult, checkedAnswer, no, refused, result, yes}
 use Rattle.meaning.specs.Limits.{mostModelWords, workSize}
 use Rattle.meaning.specs.Model.{Fact, factNext, factsOf, factsRefusal, firstFact, headedModel, modelRefusal, soundFact}
@@ -23,12 +23,12 @@ use Rattle.meaning.specs.declared.Checked.{Checked}
 use Rattle.model_check.specs.Judging.{ModelCheckPost}
 use Rattle.satisfaction.specs.Places.{tablesEnd}
 use Rattle.workspace.proofs.Changes.{cleared-beyond, only-beyond}
-use Rattle.workspace.proofs.Laws.{beyond-then, input-few, none-before, none-full, work-few}
+use Rattle.workspace.proofs.Laws.{beyond-then, inputRefusal-≤, none-before, none-full, workRefusal-≤}
 use Rattle.workspace.specs.Work.{Beyond, Cleared, Only}
 
 -- ---- what is refuted
 
--- what stands behind the sets and tables is left alone
+-- what stands after the sets and tables is left alone
 pub beyond-tables : {w w′ : List ℕ} → Only 0 tablesEnd w w′ → Beyond w w′
 beyond-tables a = only-beyond a (omega arith)
 
@@ -53,7 +53,7 @@ module _ (F : List Fact) (K : Vocabulary) (P Q : Policy) {b : Bool} (e : b ≡ i
 
 module _ (v p q m : List ℕ) {n : ℕ} (e : n ≡ inputRefusal v p q) where
   pub refused-input : (n ≡ 0 → ⊥) → n ≡ orElse (inputRefusal v p q) (modelRefusal v m)
-  refused-input h = e ∙ or-first (inputRefusal v p q) (modelRefusal v m) (λ z. h (e ∙ z))
+  refused-input h = e ∙ orElse-first (inputRefusal v p q) (modelRefusal v m) (λ z. h (e ∙ z))
 
   pub refused-model : {k : ℕ} → n ≡ 0 → k ≡ modelRefusal v m → k ≡ orElse (inputRefusal v p q) (modelRefusal v m)
   refused-model z f = f ∙ rw (sym e ∙ z)
@@ -87,7 +87,7 @@ module _ (v p q m : List ℕ) (w : ℕ) {n r : ℕ} (e : n ≡ orElse (inputRefu
 
   in-order : modelCheck v p q m w ≡ unless refused r told
   unfolding modelCheck
-  in-order = ap (λ (k : ℕ). unless refused k told) (or-assoc (inputRefusal v p q) (modelRefusal v m) (workRefusal w) ∙ sym (f ∙ ap (λ (k : ℕ). orElse k (workRefusal w)) e))
+  in-order = ap (λ (k : ℕ). unless refused k told) (orElse-assoc (inputRefusal v p q) (modelRefusal v m) (workRefusal w) ∙ sym (f ∙ ap (λ (k : ℕ). orElse k (workRefusal w)) e))
 
   pub refuses : (r ≡ 0 → ⊥) → refused r ≡ modelCheck v p q m w
   refuses h = unless-some refused r told h ∙ sym in-order
@@ -95,14 +95,14 @@ module _ (v p q m : List ℕ) (w : ℕ) {n r : ℕ} (e : n ≡ orElse (inputRefu
   pub early-work : (x : List ℕ) → x ≡ workAfter {A = CheckResult} (refused r) x
   unfolding workAfter
   early-work x =
-      let few = few-other (inputRefusal v p q) (let a = input-few v p q in omega arith) in
+      let few = few-other (inputRefusal v p q) (let a = inputRefusal-≤ v p q in omega arith) in
       let tables = either-other (inputRefusal v p q) (modelRefusal v m) few (model-other v m) in
-      let o : Other r = rw (f, e) (either-other (orElse (inputRefusal v p q) (modelRefusal v m)) (workRefusal w) tables (few-other (workRefusal w) (work-few w))) in
+      let o : Other r = rw (f, e) (either-other (orElse (inputRefusal v p q) (modelRefusal v m)) (workRefusal w) tables (few-other (workRefusal w) (workRefusal-≤ w))) in
       rw (ne-eqb r 22 (o .0), ne-eqb r 23 (o .1))
 
   module _ (z : r ≡ 0) where
     both-taken : (inputRefusal v p q ≡ 0) × (modelRefusal v m ≡ 0)
-    both-taken = or-zero (inputRefusal v p q) (modelRefusal v m) (sym e ∙ none-before n w (sym f ∙ z))
+    both-taken = orElse-zero (inputRefusal v p q) (modelRefusal v m) (sym e ∙ none-before n w (sym f ∙ z))
 
     pub input-taken : AcceptedInput v p q
     input-taken = accepted-input v p q (both-taken .0)

@@ -22,7 +22,7 @@ use Rattle.meaning.specs.Records.{Name}
 use Rattle.normal_form.proofs.Laws.{front-kept, front-row, intervals-kept, live-append, words-append, words-eq, words-kept}
 use Rattle.normal_form.specs.Parts.{Arm, armAt, bottomHere, chainAt, classesIn, conjuncts, headAt, intervalCount, intervalsIn}
 use Rattle.normal_form.specs.Parts.{joins, live, roles, wordsAt}
-use Rattle.normal_form.specs.Steps.{Adding, Adds, Entry, Good, Kept, Placed, ReadyFor, Sure, Told, front, intervalOf}
+use Rattle.normal_form.specs.Steps.{Adding, Adds, Entry, Good, OnlyNewRows, Placed, HasRoomFor, Sure, Told, front, intervalOf}
 use Rattle.normal_form.specs.Tables.{heldBy, pendingAt, rowsAt, tablesEnd}
 use Rattle.normal_form.specs.declared.Draft.{Draft}
 use Rattle.words.specs.Rows.{classWords}
@@ -111,7 +111,7 @@ cut p k z (reads-interval h i n) m = let e = chain-is n in let d = head-interval
 
 -- ---- adding
 
-pub kept-same : (j e u n m : ℕ) (w : List ℕ) → Kept j e u n m w w
+pub kept-same : (j e u n m : ℕ) (w : List ℕ) → OnlyNewRows j e u n m w w
 kept-same j e u n m w = record {
   before = λ i h. refl;
   low = λ i h. refl;
@@ -122,7 +122,7 @@ kept-same j e u n m w = record {
   same = refl;
 }
 
-pub front-same : {j e u n m : ℕ} {w w′ : List ℕ} → Kept j e u n m w w′ → front w′ ≡ front w
+pub front-same : {j e u n m : ℕ} {w w′ : List ℕ} → OnlyNewRows j e u n m w w′ → front w′ ≡ front w
 front-same {w = w} {w′ = w′} k = front-kept w w′ (k .same) (k .before)
 
 turn : (a s x : Bool) → (a || s) || x ≡ (x || a) || s
@@ -305,7 +305,7 @@ adds-less p x j e m h s = record {
 
 -- ---- one conjunct
 
-module _ (one : ℕ → Bool) (p : List ℕ) (x m k : ℕ) (w : List ℕ) (g : Draft) (z : k ≡ 0 → ⊥) (r : Good p k) (d : ReadyFor w m g (chainAt p k)) where
+module _ (one : ℕ → Bool) (p : List ℕ) (x m k : ℕ) (w : List ℕ) (g : Draft) (z : k ≡ 0 → ⊥) (r : Good p k) (d : HasRoomFor w m g (chainAt p k)) where
   cut-here : Cut p k (chainAt p k)
   cut-here = cut p k z (r .reads) (r .named)
 
@@ -375,10 +375,10 @@ module _ (one : ℕ → Bool) (p : List ℕ) (x m k : ℕ) (w : List ℕ) (g : D
   next-falls q = rw (e, ← q) (cut p k z (r .reads) (r .named) .less)
 
   module _ {w′ : List ℕ} {g′ : Draft} (s : Adding one p x m (headAt p k) w w′ g g′) where
-    pub next-ready : ReadyFor w m g (chainAt p k) → ReadyFor w′ m g′ (chainAt p y)
+    pub next-ready : HasRoomFor w m g (chainAt p k) → HasRoomFor w′ m g′ (chainAt p y)
     next-ready d = rw e (go (cut p k z (r .reads) (r .named)))
       where
-        go : Cut p k (chainAt p k) → ReadyFor w′ m g′ (chainAt p (nextOf p k))
+        go : Cut p k (chainAt p k) → HasRoomFor w′ m g′ (chainAt p (nextOf p k))
         go u =
             let a = u .arms in
             let b = u .constraints in

@@ -1,4 +1,4 @@
--- A normal form by groups: the first arm of a functional role takes those that join it, the others stand behind it. The numbers, names
+-- A normal form by groups: the first arm of a functional role takes those that join it, the others stand after it. The numbers, names
 -- and impossible concepts of a group, and its classes.
 use Prim.Native.Nat.{_+_, _<_, _≤_, suc, ℕ}
 use mathlib.Core.Bool.{Bool, _||_, cond, false, not, or-assoc, true}
@@ -29,7 +29,7 @@ use Rattle.normal_form.proofs.Laws.{front-row, row-kept}
 use Rattle.normal_form.specs.Parts.{Arm, bottomHere, bottomHereAll, classesAll, classesIn, countAll, hasBottomAll}
 use Rattle.normal_form.specs.Parts.{intervalCount, intervalsAll, intervalsIn, joins, parts, placeAll, roles, rolesAll}
 use Rattle.normal_form.specs.Parts.{successorsOf, weigh}
-use Rattle.normal_form.specs.Steps.{ArmOf, Kept, Told, front, startOf}
+use Rattle.normal_form.specs.Steps.{ArmOf, OnlyNewRows, Told, front, startOf}
 use Rattle.normal_form.specs.Tables.{Above, Prepared, pendingAt, tablesEnd}
 use Rattle.words.proofs.Laws.{in-zeros}
 use Rattle.words.specs.Rows.{classWords}
@@ -83,7 +83,7 @@ groups K (a ∷ l) s n ks next = go (joins (isFunctionalRole K) s a) (λ n′ ks
     go true f g = f _ _
     go false f g = g _
 
--- a first arm and those behind it
+-- a first arm and those after it
 by-groups : (K : Vocabulary) (a : Arm) (l : List Arm) →
     let every = a ∷ filter (joins (isFunctionalRole K) (a .role)) l in
     successorsOf K (a ∷ l) ≡ successor (a .role) (record { classes = classesAll every (ranges K (a .role)); constraints = intervalsAll (isFunctionalFeature K) every [] })
@@ -239,7 +239,7 @@ all-append-classes : (l : List Arm) (cs ds : List ℕ) → classesAll l (cs ++ d
 all-append-classes [] cs ds = refl
 all-append-classes (a ∷ l) cs ds = ap (classesAll l) (classes-append (a .child) cs ds) ∙ all-append-classes l (classesIn (a .child) cs) ds
 
--- ---- what writes behind the rows keeps them
+-- ---- what writes after the rows keeps them
 
 module _ (w w′ : List ℕ) (e : length w′ ≡ length w) (before : (i : ℕ) → i < pairsAt → getD w′ i 0 ≡ getD w i 0) where
   same-row : (i : ℕ) → i ≤ roleRow mostRoles → rowOf w′ i ≡ rowOf w i
@@ -265,7 +265,7 @@ prepared-same {w = w} {w′ = w′} e before g = record {
   closed = closed-kept w w′ e (λ i l. before i (omega arith)) (g .accepted) (g .closed);
   ranged = ranged-kept w w′ e (λ i l. before i (omega arith)) (g .accepted) (g .ranged);
   paired = pairs-kept w w′ before (g .paired);
-  singles = g .singles;
+  functional = g .functional;
 }
 
 -- what the rows say is what the vocabulary says
@@ -277,7 +277,7 @@ module _ {v w : List ℕ} {f : Functional} (prepared : Prepared v w f) where
   unfolding ranges
   unranged = no-range (rangePairs-named v (prepared .accepted))
 
-  pub prepared-kept : {j e u n m : ℕ} {w′ : List ℕ} → Kept j e u n m w w′ → Prepared v w′ f
+  pub prepared-kept : {j e u n m : ℕ} {w′ : List ℕ} → OnlyNewRows j e u n m w w′ → Prepared v w′ f
   prepared-kept k = prepared-same (k .same) (k .before) prepared
 
   module _ (long : tablesEnd ≤ length w) (b : ℕ) where

@@ -16,7 +16,7 @@ use Rattle.normal_form.proofs.Chains.{add-none, adds-then}
 use Rattle.normal_form.proofs.Laws.{front-kept, intervals-kept, words-eq, words-kept, words-next}
 use Rattle.normal_form.specs.Parts.{Arm, armAt, bottomHere, chainAt, classesIn, intervalCount, intervalsIn, joins, live}
 use Rattle.normal_form.specs.Parts.{parts, roles, rolesAll, wordsAt}
-use Rattle.normal_form.specs.Steps.{Adding, Adds, Entry, Gathering, Good, ReadyFor, ReadyForAll, Struck, Sure, front, restAt}
+use Rattle.normal_form.specs.Steps.{Adding, Adds, Entry, Gathering, Good, HasRoomFor, HasRoomForAll, Struck, Sure, front, restAt}
 use Rattle.normal_form.specs.Tables.{IntervalsStand, heldBy, pendingAt, rowsAt}
 use Rattle.normal_form.specs.declared.Draft.{Draft}
 
@@ -84,7 +84,7 @@ lower s = record {
 module _ (one two : ℕ → Bool) (p : List ℕ) (x r j stop m : ℕ) (w : List ℕ) (g : Draft) where
   -- what `gather` asks
   abbrev Can : ℕ → List ℕ → Draft → Type 0
-  Can i u h = (i ≤ stop) × (stop ≤ h .pending) × (pendingAt ≤ i) × Sure p (wordsAt u i (stop - i)) × ReadyForAll u m h (restAt p u i stop)
+  Can i u h = (i ≤ stop) × (stop ≤ h .pending) × (pendingAt ≤ i) × Sure p (wordsAt u i (stop - i)) × HasRoomForAll u m h (restAt p u i stop)
 
   -- what it gives
   abbrev Done : ℕ → List ℕ → List ℕ → Draft → Draft → Type 0
@@ -132,7 +132,7 @@ module _ (one two : ℕ → Bool) (p : List ℕ) (x r j stop m : ℕ) (w : List 
         rest = rest-arm p w j stop less k nk ek
 
         -- room for record k's chain and for the others
-        room : ReadyForAll w m g (armAt p k ∷ restAt p w (j + 1) stop)
+        room : HasRoomForAll w m g (armAt p k ∷ restAt p w (j + 1) stop)
         room = rw rest at (can .4)
 
         -- not of the role
@@ -175,7 +175,7 @@ module _ (one two : ℕ → Bool) (p : List ℕ) (x r j stop m : ℕ) (w : List 
           u-length : length u ≡ length w
           u-length = ap length eu ∙ length-set w j 0
 
-          pub take-chain : Good p y × ReadyFor u m g (chainAt p y)
+          pub take-chain : Good p y × HasRoomFor u m g (chainAt p y)
           take-chain =
               let e = length-append (roles (chainAt p (childOf p k))) (rolesAll (restAt p w (j + 1) stop)) in
               let z = u-length in

@@ -115,7 +115,7 @@ interval-kept w w′ m h f s = record {
   hi = f (intervalPlace m + 3) (omega arith) (omega arith) ∙ s .hi;
 }
 
--- whatever stands in the two words behind each
+-- whatever stands in the two words after each
 pub intervals-same : (w w′ : List ℕ) (m : ℕ) (l : List Held) → ((n : ℕ) → m ≤ n → n < m + length l → Same w w′ (intervalPlace n) (intervalPlace n + 4)) →
     IntervalsStand w m l → IntervalsStand w′ m l
 intervals-same w w′ m [] f s = tt
@@ -179,9 +179,9 @@ module _ (w : List ℕ) (i x f lo hi : ℕ) where
 
 -- ---- a constraint placed
 
-second : (a b : Bool) → (a && b) ≡ true → b ≡ true
-second true b h = h
-second false b h = cc
+and-right : (a b : Bool) → (a && b) ≡ true → b ≡ true
+and-right true b h = h
+and-right false b h = cc
 
 length-zero : (l : List Constraint) → length l ≡ 0 → l ≡ []
 length-zero [] e = refl
@@ -230,14 +230,14 @@ module _ (one : Bool) (x i top f lo hi : ℕ) (w w′ : List ℕ) (small : top <
             rw e (
               record {
                 individual = u .individual;
-                feature = u .feature ∙ sym (eqb-true (s .feature) f (second one (eqb (s .feature) f) e));
+                feature = u .feature ∙ sym (eqb-true (s .feature) f (and-right one (eqb (s .feature) f) e));
                 lo = u .lo ∙ ea ∙ ap (λ (y : ℕ). max y lo) (q .0 .lo);
                 hi = u .hi ∙ eb ∙ ap (λ (y : ℕ). min y hi) (q .0 .hi);
               },
               intervals-kept w (intervalPut w i x f a b) (suc i) (heldBy x l) (λ k g h. put-other w i x f a b k (inr (omega arith))) (q .1),
             )
 
-    -- one behind it does
+    -- one after it does
     pub placed-on : {r : ℕ} → t ≡ false → Placed one x (i + 1) top f lo hi w w′ r → Placed one x i top f lo hi w w′ r
     placed-on {r} t u = record {
       ends = λ l p q. ends l p q;

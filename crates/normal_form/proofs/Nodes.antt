@@ -26,7 +26,7 @@ use Rattle.normal_form.proofs.Joining.{rest-arm, rest-none, rest-zero, 
 use Rattle.normal_form.proofs.Laws.{held-length, intervals-append, intervals-kept, row-kept, words-eq, words-kept}
 use Rattle.normal_form.specs.Parts.{Arm, armAt, bottomHereAll, chainAt, classesAll, countAll, hasBottomAll, intervalsAll}
 use Rattle.normal_form.specs.Parts.{joins, live, parts, roles, rolesAll, successorsOf, weigh, wordsAt}
-use Rattle.normal_form.specs.Steps.{Adding, ArmOf, Built, Entry, Gathering, Good, Grown, Kept, Noded, ReadyFor, ReadyForAll}
+use Rattle.normal_form.specs.Steps.{Adding, ArmOf, Built, Entry, Gathering, Good, Grown, OnlyNewRows, Noded, HasRoomFor, HasRoomForAll}
 use Rattle.normal_form.specs.Steps.{Room, RowPut, Struck, Sure, everyAt, front, othersAt, restAt, startOf}
 use Rattle.normal_form.specs.Tables.{Fit, IntervalsStand, Normalised, Prepared, RowStands, RowsStand, Tabled, heldBelow}
 use Rattle.normal_form.specs.Tables.{heldBy, heldIn, individualPlace, pendingAt, rowsAt, tablesEnd, termAt}
@@ -86,7 +86,7 @@ module _ (one two : ℕ → Bool) (p w : List ℕ) (j stop n m k : ℕ) (less : 
   role-small = entry-in .role
 
   module _ {start : Draft} (sp : start .pending ≡ stop) (ss : start .constraints ≡ m) {y : ℕ} (ey : y ≡ childOf p k) where
-    pub own-ready : Good p y × ReadyFor w m start (chainAt p y)
+    pub own-ready : Good p y × HasRoomFor w m start (chainAt p y)
     own-ready =
         let s1 = sums .heavy in
         let s2 = sums .all in
@@ -106,7 +106,7 @@ module _ (one two : ℕ → Bool) (p w : List ℕ) (j stop n m k : ℕ) (less : 
       same-rest : restAt p w1 (j + 1) stop ≡ R
       same-rest = ap (live p) same-words
 
-      pub gather-can : (j + 1 ≤ stop) × (stop ≤ mine .pending) × (pendingAt ≤ j + 1) × Sure p (wordsAt w1 (j + 1) (stop - (j + 1))) × ReadyForAll w1 m mine (restAt p w1 (j + 1) stop)
+      pub gather-can : (j + 1 ≤ stop) × (stop ≤ mine .pending) × (pendingAt ≤ j + 1) × Sure p (wordsAt w1 (j + 1) (stop - (j + 1))) × HasRoomForAll w1 m mine (restAt p w1 (j + 1) stop)
       gather-can =
           let s1 = sums .heavy in
           let s2 = sums .all in
@@ -528,7 +528,7 @@ module _ (f : Functional) (p w : List ℕ) (j stop i : ℕ) (t : Tables) (room :
               unfolding me under next
               node-grown =
                   subst (λ (y : Successors). Grown K y i (t .individuals) (t .constraints) w3 u3)
-                  (sym (successors-cons K (fun-ext (q .singles .role)) (fun-ext (q .singles .feature)) (armAt p k) (restAt p w (j + 1) stop))) together
+                  (sym (successors-cons K (fun-ext (q .functional .role)) (fun-ext (q .functional .feature)) (armAt p k) (restAt p w (j + 1) stop))) together
 
             bars-all : u3 .impossible ≡ t .impossible || hasBottomAll (armAt p k ∷ restAt p w (j + 1) stop)
             bars-all =
@@ -637,7 +637,7 @@ module _ (p w : List ℕ) (s : ℕ) (fit : Fit p w s) where
       other : (h : ℕ) → (h ≡ pendingAt → ⊥) → getD (set w pendingAt s) h 0 ≡ getD w h 0
       other h n = getD-set-other w pendingAt h s 0 n
 
-      root : Kept pendingAt 0 0 0 0 w (set w pendingAt s)
+      root : OnlyNewRows pendingAt 0 0 0 0 w (set w pendingAt s)
       root = record {
         before = λ h a. other h (λ e. omega arith);
         low = λ h a. other h (λ e. omega arith);

@@ -31,7 +31,7 @@ hasBoth ws p = inSet ws (p .0) && inSet ws (p .1)
 unfoldable pub agreeIn : List ℕ → List ℕ → Bool
 agreeIn w ws = all (λ i. not (hasBoth ws (pairAt w i))) (counting 0 (pairCount w))
 
--- nor of any two that the vocabulary makes disjoint
+-- the set has both of no two classes that the vocabulary makes disjoint
 unfoldable pub agree : Vocabulary → List ℕ → Bool
 agree K ws = all (λ p. not (hasBoth ws p)) (disjointPairs K)
 

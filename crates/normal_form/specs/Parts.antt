@@ -72,7 +72,7 @@ conjuncts (impossible next) = suc (conjuncts next)
 conjuncts (some r child next) = suc (conjuncts next)
 conjuncts (interval f lo hi next) = suc (conjuncts next)
 
--- the same of the arms that go to one individual
+-- the classes, constraints, roles and numbers of the arms that go to one individual
 abbrev pub classesAll : List Arm → List ℕ → List ℕ
 classesAll [] cs = cs
 classesAll (a ∷ l) cs = classesAll l (classesIn (a .child) cs)

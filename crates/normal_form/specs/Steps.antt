@@ -62,9 +62,9 @@ Told h s ws cs = (b : ℕ) → inSet ws b ≡ any (λ c. inSet (rowOf h c) b) cs
 
 -- ---- the work slice
 
--- the rows before the tables, the words below j and from e to before u, the first n rows and m constraints, and what lies behind
+-- the rows before the tables, the words below j and from e to before u, the first n rows and m constraints, and what lies after
 -- the tables are as they were
-pub record Kept (j e u n m : ℕ) (w w′ : List ℕ) : Type 0 where
+pub record OnlyNewRows (j e u n m : ℕ) (w w′ : List ℕ) : Type 0 where
   pub before : (i : ℕ) → i < pendingAt → getD w′ i 0 ≡ getD w i 0
   pub low : (i : ℕ) → i < j → getD w′ i 0 ≡ getD w i 0
   pub upper : (i : ℕ) → e ≤ i → i < u → getD w′ i 0 ≡ getD w i 0
@@ -92,7 +92,7 @@ pub record Placed (one : Bool) (x i top f lo hi : ℕ) (w w′ : List ℕ) (r : 
   pub same : length w′ ≡ length w
 
 -- there is room for so many arms and constraints
-pub record Ready (w : List ℕ) (m : ℕ) (g : Draft) (nr ns : ℕ) : Type 0 where
+pub record HasRoom (w : List ℕ) (m : ℕ) (g : Draft) (nr ns : ℕ) : Type 0 where
   pub long : tablesEnd ≤ length w
   pub low : pendingAt ≤ g .pending
   pub pending : g .pending + nr ≤ rowsAt
@@ -111,9 +111,9 @@ pub record Adds (p : List ℕ) (x j e m : ℕ) (fc : List ℕ → List ℕ) (rs 
   pub few : g′ .constraints ≤ g .constraints + ns
   pub first : g .constraints ≤ g′ .constraints
   pub bottom : g′ .impossible ≡ g .impossible || b
-  pub kept : Kept j e (g .pending) mostRecords m w w′
+  pub kept : OnlyNewRows j e (g .pending) mostRecords m w w′
 
--- those of a chain, and those of arms; `one` tells the functional features
+-- the conjuncts of a chain, and those of arms, have been added; `one` tells the functional features
 abbrev pub Adding : (ℕ → Bool) → List ℕ → ℕ → ℕ → Chain → List ℕ → List ℕ → Draft → Draft → Type 0
 Adding one p x m c w w′ g g′ = Adds p x 0 0 m (classesIn c) (roles c) (intervalsIn one c) (intervalCount c) (bottomHere c) w w′ g g′
 
@@ -122,11 +122,11 @@ Gathering one p x j stop m l w w′ g g′ =
     Adds p x j stop m (classesAll l) (rolesAll l) (intervalsAll one l) (countAll l) (bottomHereAll l) w w′ g g′
 
 -- room for a chain, and for all arms of a list
-abbrev pub ReadyFor : List ℕ → ℕ → Draft → Chain → Type 0
-ReadyFor w m g c = Ready w m g (length (roles c)) (intervalCount c)
+abbrev pub HasRoomFor : List ℕ → ℕ → Draft → Chain → Type 0
+HasRoomFor w m g c = HasRoom w m g (length (roles c)) (intervalCount c)
 
-abbrev pub ReadyForAll : List ℕ → ℕ → Draft → List Arm → Type 0
-ReadyForAll w m g l = Ready w m g (length (rolesAll l)) (countAll l)
+abbrev pub HasRoomForAll : List ℕ → ℕ → Draft → List Arm → Type 0
+HasRoomForAll w m g l = HasRoom w m g (length (rolesAll l)) (countAll l)
 
 -- of the arms pending from j on, those that join role r have been struck out
 pub record Struck (one : ℕ → Bool) (p : List ℕ) (r j stop : ℕ) (w w′ : List ℕ) : Type 0 where
@@ -136,9 +136,9 @@ pub record Struck (one : ℕ → Bool) (p : List ℕ) (r j stop : ℕ) (w w′ :
 -- arms pending from j to stop, with room for all that they hold
 abbrev pub Gatherable : List ℕ → List ℕ → ℕ → ℕ → ℕ → Draft → Type 0
 Gatherable p w j stop m g =
-    (j ≤ stop) × (stop ≤ g .pending) × (pendingAt ≤ j) × Sure p (wordsAt w j (stop - j)) × ReadyForAll w m g (restAt p w j stop)
+    (j ≤ stop) × (stop ≤ g .pending) × (pendingAt ≤ j) × Sure p (wordsAt w j (stop - j)) × HasRoomForAll w m g (restAt p w j stop)
 
--- those of them that join role r have gone to individual x, and are struck out
+-- of the arms pending from j to stop, those that join role r have gone to individual x, and are struck out
 abbrev pub Gathered : Functional → List ℕ → ℕ → ℕ → ℕ → ℕ → ℕ → List ℕ → List ℕ → Draft → Draft → Type 0
 Gathered f p r j stop x m w w′ g g′ =
     Gathering (inSet (f .features)) p x j stop m (filter (joins (inSet (f .roles)) r) (restAt p w j stop)) w w′ g g′
@@ -153,7 +153,7 @@ pub record RowPut (n i r : ℕ) (s w w′ : List ℕ) : Type 0 where
   pub high : (k : ℕ) → individualPlace n + rowWidth ≤ k → getD w′ k 0 ≡ getD w k 0
   pub same : length w′ ≡ length w
 
--- arms pending from j to stop, and room for what lies below them, behind n individuals and m constraints
+-- arms pending from j to stop, and room for what lies below them, after n individuals and m constraints
 pub record Room (p w : List ℕ) (j stop n m : ℕ) : Type 0 where
   pub long : tablesEnd ≤ length w
   pub low : pendingAt ≤ j
@@ -177,7 +177,7 @@ pub record Noded (one : ℕ → Bool) (p : List ℕ) (every others : List Arm) (
   pub left : restAt p w′ (j + 1) stop ≡ others
   pub left-sure : Sure p (wordsAt w′ (j + 1) (stop - (j + 1)))
   pub bottom : g .impossible ≡ b || bottomHereAll every
-  pub kept : Kept j j j n m w w′
+  pub kept : OnlyNewRows j j j n m w w′
 
 -- the arms that go to the individual of record k's arm, and the others, of those pending from j on
 abbrev pub everyAt : (ℕ → Bool) → List ℕ → List ℕ → ℕ → ℕ → ℕ → List Arm
@@ -186,13 +186,13 @@ everyAt one p w j stop k = armAt p k ∷ filter (joins one (nameOf p k)) (restAt
 abbrev pub othersAt : (ℕ → Bool) → List ℕ → List ℕ → ℕ → ℕ → ℕ → List Arm
 othersAt one p w j stop k = filter (parts one (nameOf p k)) (restAt p w (j + 1) stop)
 
--- so for record k, pending at j, behind what t counts
+-- the individual of record k, pending at j, has been made, after what t counts
 abbrev pub NodedFrom : Functional → List ℕ → ℕ → ℕ → ℕ → ℕ → Tables → List ℕ → List ℕ → Draft → Type 0
 NodedFrom f p j k stop i t w w′ g =
     Noded (inSet (f .features)) p (everyAt (inSet (f .roles)) p w j stop k) (othersAt (inSet (f .roles)) p w j stop k) (nameOf p k) j stop i
     (t .individuals) (t .constraints) (t .impossible) w w′ g
 
--- the tables hold the individuals ks below individual i, behind n individuals and m constraints
+-- the tables hold the individuals ks below individual i, after n individuals and m constraints
 pub record Grown (K : Vocabulary) (ks : Successors) (i n m : ℕ) (w : List ℕ) (t : Tables) : Type 0 where
   pub count : t .individuals ≡ n + size ks
   pub top : t .constraints ≡ m + length (constraintsBelow ks)
@@ -210,8 +210,8 @@ pub record Built (f : Functional) (l : List Arm) (j i n m : ℕ) (b : Bool) (w w
   pub few : t .individuals ≤ n + length l + weigh l
   pub fewer : t .constraints ≤ m + weigh l
   pub bottom : t .impossible ≡ b || hasBottomAll l
-  pub kept : Kept j j j n m w w′
+  pub kept : OnlyNewRows j j j n m w w′
 
--- those of the arms pending from j to stop, behind what t counts
+-- the individuals of the arms pending from j to stop have been built, after what t counts
 abbrev pub BuiltFrom : Functional → List ℕ → ℕ → ℕ → ℕ → Tables → List ℕ → List ℕ → Tables → Type 0
 BuiltFrom f p j stop i t w w′ u = Built f (restAt p w j stop) j i (t .individuals) (t .constraints) (t .impossible) w w′ u

@@ -5,7 +5,7 @@ use mathlib.Core.Path.{_≡_}
 use lib.ListN.{getD, length}
 use Rattle.hierarchy.specs.Pairs.{PairRows, pairsEnd}
 use Rattle.hierarchy.specs.Rows.{ClosedRows, RangeRows}
-use Rattle.hierarchy.specs.Singles.{Singles}
+use Rattle.hierarchy.specs.FunctionalNames.{FunctionalNames}
 use Rattle.hierarchy.specs.declared.Functional.{Functional}
 use Rattle.meaning.specs.Accepted.{ChainOf, NamedChain, Reads, count}
 use Rattle.meaning.specs.Countermodel.{individuals, size}
@@ -21,7 +21,7 @@ use Rattle.normal_form.specs.declared.Tables.{Tables}
 use Rattle.words.specs.Rows.{classWords, rowAt}
 use Rattle.words.specs.Sets.{inSet}
 
--- ---- where the tables stand: behind what hierarchy writes
+-- ---- where the tables stand: after what hierarchy writes
 
 -- records of roles that are still to be followed, a word each
 abbrev pub pendingAt : ℕ
@@ -56,13 +56,13 @@ pub record Prepared (v w : List ℕ) (f : Functional) : Type 0 where
   pub closed : ClosedRows v w
   pub ranged : RangeRows v w
   pub paired : PairRows v w
-  pub singles : Singles v f
+  pub functional : FunctionalNames v f
 
--- the conjuncts of the simple policy at record s
+-- the conjuncts of the term at record s
 abbrev pub termAt : List ℕ → ℕ → Chain
 termAt p s = chainFrom (length p) p (childOf p s)
 
--- what the readers tell of a simple policy at record s, and room for the tables
+-- what the readers tell of a term at record s, and room for the tables
 pub record Fit (p w : List ℕ) (s : ℕ) : Type 0 where
   pub long : tablesEnd ≤ length w
   pub here : s ≡ 0 → ⊥
@@ -98,7 +98,7 @@ abbrev pub heldBy : ℕ → List Constraint → List Held
 heldBy x [] = []
 heldBy x (s ∷ l) = record { individual = x; constraint = s } ∷ heldBy x l
 
--- those of individuals that have the numbers from k on
+-- the constraints of individuals that have the numbers from k on
 abbrev pub heldBelow : Successors → ℕ → List Held
 heldBelow none k = []
 heldBelow (successor r n under next) k = heldBy k (n .constraints) ++ (heldBelow under (suc k) ++ heldBelow next (suc k + size under))
@@ -126,7 +126,7 @@ pub record Tabled (K : Vocabulary) (t : Form) (w : List ℕ) (r : Tables) : Type
   pub held : IntervalsStand w 0 (heldIn t)
 
 -- whatever vocabulary the rows, the pairs and the functional names are prepared for, the tables hold the term's normal form by it;
--- what stands before and behind the tables is as it was
+-- what stands before and after the tables is as it was
 pub record Normalised (f : Functional) (c : Chain) (w w′ : List ℕ) (r : Tables) : Type 0 where
   pub tabled : (v : List ℕ) → Prepared v w f → ChainOf v c → Tabled (vocabularyOf v) (normalForm (vocabularyOf v) c) w′ r
   pub bottom : r .impossible ≡ hasBottom c

@@ -1,10 +1,11 @@
-// The normal form of a simple policy, as flat tables of the work slice: one walk, no tree, no numbering afterwards.
+// The normal form of a term, as flat tables of the work slice: one walk, no tree, no numbering afterwards.
 use hierarchy::Functional;
 use hierarchy::PAIRS;
 use hierarchy::PAIRS_END;
 use hierarchy::above;
 use hierarchy::pair_at;
 use hierarchy::range_above;
+use intervals::is_nonempty;
 use meaning::ClassNo;
 use meaning::FeatureNo;
 use meaning::RoleNo;
@@ -26,7 +27,7 @@ ghost use Rattle.meaning.specs.Limits.{mostRecords, mostRoles};
 ghost use Rattle.meaning.specs.Lists.{all, counting};
 ghost use Rattle.normal_form.specs.Clean.{DecidesClean, agreeIn, hasBoth, nonEmptyAt, setAt};
 ghost use Rattle.normal_form.specs.Parts.{armAt, chainAt, headAt, joins};
-ghost use Rattle.normal_form.specs.Steps.{Adding, BuiltFrom, Gatherable, Gathered, Good, NodedFrom, Placed, ReadyFor, Room};
+ghost use Rattle.normal_form.specs.Steps.{Adding, BuiltFrom, Gatherable, Gathered, Good, NodedFrom, Placed, HasRoomFor, Room};
 ghost use Rattle.normal_form.specs.Steps.{RowPut, front, intervalPut, startOf};
 ghost use Rattle.normal_form.specs.Tables.{Fit, Normalised, tablesEnd, termAt};
 ghost use Rattle.words.specs.Sets.{inSet};
@@ -151,7 +152,7 @@ fn conjunct(
     first: usize,
     g: Draft,
 ) -> Draft
-    requires { ⌜ (k ≡ 0 → ⊥) × Good (now p) k × ReadyFor (now work) first g (chainAt (now p) k) ⌝ }
+    requires { ⌜ (k ≡ 0 → ⊥) × Good (now p) k × HasRoomFor (now work) first g (chainAt (now p) k) ⌝ }
     ensures { λ r. ⌜ Adding (inSet (f .features)) (now (p .entry)) x first (headAt (now (p .entry)) k) (now (work .entry)) (now (work .exit)) g r ⌝ }
 {
     let kind = kind_of(p, k);
@@ -215,7 +216,7 @@ fn chain(
     first: usize,
     g: Draft,
 ) -> Draft
-    requires { ⌜ Good (now p) k × ReadyFor (now work) first g (chainAt (now p) k) ⌝ }
+    requires { ⌜ Good (now p) k × HasRoomFor (now work) first g (chainAt (now p) k) ⌝ }
     ensures { λ r. ⌜ Adding (inSet (f .features)) (now (p .entry)) x first (chainAt (now (p .entry)) k) (now (work .entry)) (now (work .exit)) g r ⌝ }
 {
     if k == 0 {
@@ -333,7 +334,7 @@ fn successors(
     successors(p, work, f, j + 1, stop, parent, u)
 }
 
-// The simple policy at record s. Its record is the first pending role, with no name. Time grows with the term's records, times the
+// The term at record s. Its record is the first pending role, with no name. Time grows with the term's records, times the
 // roles that wait beside one another and the constraints of one individual.
 pub fn normalise(p: &[u32], work: &mut [u32], f: Functional, s: u32) -> Tables
     requires { ⌜ Fit (now p) (now work) s ⌝ }
@@ -403,7 +404,7 @@ pub fn are_nonempty(work: &[u32], n: usize) -> bool
         let at = INTERVALS + INTERVAL * i;
         let lo = work[at + 2];
         let hi = work[at + 3];
-        if hi < lo {
+        if !is_nonempty(lo, hi) {
             return false;
         }
     }

@@ -9,7 +9,7 @@ use native.Mathlib.Numerals.{add-one}
 use native.Mathlib.Omega.{arith}
 use borrow.Author.Tests.{eq-eqb, eqb-false, eqb-true, ne-eqb, not-false, not-true}
 use Rattle.meaning.proofs.Links.{enough-end, falling-le, falls, onward-le, tests}
-use Rattle.meaning.proofs.Refusals.{or-assoc, or-first, policy-few}
+use Rattle.meaning.proofs.Refusals.{orElse-assoc, orElse-first, policyRefusal-≤}
 use Rattle.meaning.proofs.Terms.{child-enough, next-enough}
 use Rattle.meaning.specs.Accepted.{Here}
 use Rattle.meaning.specs.Answers.{Answer, ReadingResult, accepted, refused, result}
@@ -270,12 +270,12 @@ module _ (v p : List ℕ) {t : Bool} (e : t ≡ isSized 6 mostPolicyWords (lengt
 -- ---- the refusals in order
 
 pub small : (v p : List ℕ) {b : ℕ} → b ≡ policyRefusal v p → b ≤ 8
-small v p e = rw e (policy-few v p)
+small v p e = rw e (policyRefusal-≤ v p)
 
 -- a is the vocabulary's refusal
 module _ (v p : List ℕ) (latter : Bool) {a : ℕ} (ea : a ≡ vocabularyRefusal v) where
   pub vocabulary-first : (a ≡ 0 → ⊥) → a ≡ orElse (vocabularyRefusal v) (numbered latter (policyRefusal v p))
-  vocabulary-first n = rw (sym ea) (or-first a _ n)
+  vocabulary-first n = rw (sym ea) (orElse-first a _ n)
 
   -- and b the policy's
   module _ {b : ℕ} (z : a ≡ 0) (eb : b ≡ policyRefusal v p) where
@@ -289,11 +289,11 @@ module _ (v p : List ℕ) (latter : Bool) {a : ℕ} (ea : a ≡ vocabularyRefusa
 module _ (v p q : List ℕ) {a : ℕ} (ea : a ≡ orElse (vocabularyRefusal v) (policyRefusal v p)) where
   pub input-former : (a ≡ 0 → ⊥) → a ≡ inputRefusal v p q
   unfolding inputRefusal
-  input-former n = rw (or-assoc (vocabularyRefusal v) (policyRefusal v p), sym ea) (or-first a _ n)
+  input-former n = rw (orElse-assoc (vocabularyRefusal v) (policyRefusal v p), sym ea) (orElse-first a _ n)
 
   pub input-latter : {b r : ℕ} → a ≡ 0 → b ≡ policyRefusal v q → r ≡ secondRefusal b → r ≡ inputRefusal v p q
   unfolding inputRefusal
-  input-latter z eb er = rw (or-assoc (vocabularyRefusal v) (policyRefusal v p), sym ea ∙ z) (er ∙ ap secondRefusal eb)
+  input-latter z eb er = rw (orElse-assoc (vocabularyRefusal v) (policyRefusal v p), sym ea ∙ z) (er ∙ ap secondRefusal eb)
 
 -- n is the first refusal, and x its answer
 module _ (v p : List ℕ) {n : ℕ} {x : Answer ReadingResult} (h : x ≡ unless refused n (result accepted)) where

@@ -1,4 +1,4 @@
-// Read policy: records of six words behind a header, walked a record, its child chain, its next.
+// Read policy: records of six words after a header, walked a record, its child chain, its next.
 use meaning::ClassNo;
 use meaning::FeatureNo;
 use meaning::Reading;

@@ -43,7 +43,7 @@ const VOCABULARY: [u32; 36] = [
     0,
 ];
 
-// Two simple policies with a record of each kind, and a record that nothing reaches.
+// Two terms with a record of each kind, and a record that nothing reaches.
 const POLICY: [u32; 60] = [
     1,
     0,
@@ -165,7 +165,7 @@ fn policies() {
     }
 }
 
-// A simple policy of n roles, each the child of the one before: 16 are read, and one more is too deep.
+// A term of n roles, each the child of the one before: 16 are read, and one more is too deep.
 fn nested(n: usize)
     requires { ⌜ n < 20 ⌝ }
 {

@@ -83,7 +83,7 @@ module _ {w : List ℕ} {L l : List Link} {x : Link} (h : Holding w L (x ∷ l))
           split true d g = let z : _≡_ {A = ℕ} 0 1 = cc in omega arith
           split false d g = eqb-false (valueOf w i) j g (f i j refl (eqb-false (flagOf w i) 0 d))
 
--- the loop goes on behind a value that agrees
+-- the loop goes on after a value that agrees
 module _ {w : List ℕ} {L l : List Link} where
   skip-none : Holding w L (none ∷ l) → Holding w L l
   skip-none h = record {

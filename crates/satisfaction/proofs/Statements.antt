@@ -94,12 +94,12 @@ module _ {m w : List ℕ} (r : Readable m) (c : Classed m w) (a b : ℕ) where
   in-iff : (i d : ℕ) → Name (individualCount m) i → T (inSet (classesOf w i) d) ↔ (member d i ∈ F)
   in-iff i d n = rw (c .rows i d n) (member-iff F d i)
 
-  abbrev second : Bool → ℕ → Bool
-  second apart i = cond apart (not (inSet (classesOf w i) b)) (inSet (classesOf w i) b)
+  abbrev concludes : Bool → ℕ → Bool
+  concludes apart i = cond apart (not (inSet (classesOf w i) b)) (inSet (classesOf w i) b)
 
   module _ (apart : Bool) where
-    pairs : T (all (follows w a b apart) (counting 1 (individualCount m))) ↔ ((i : ℕ) → Name (individualCount m) i → member a i ∈ F → T (second apart i))
-    pairs = (λ t i n e. out (inSet (classesOf w i) a) (second apart i) (at t i n) (in-iff i a n .1 e), λ f. isTrue (sym (counted-all (follows w a b apart) (individualCount m) (λ d p q. back f d (p, q)))))
+    pairs : T (all (follows w a b apart) (counting 1 (individualCount m))) ↔ ((i : ℕ) → Name (individualCount m) i → member a i ∈ F → T (concludes apart i))
+    pairs = (λ t i n e. out (inSet (classesOf w i) a) (concludes apart i) (at t i n) (in-iff i a n .1 e), λ f. isTrue (sym (counted-all (follows w a b apart) (individualCount m) (λ d p q. back f d (p, q)))))
       where
         out : (s t : Bool) → T (not s || t) → T s → T t
         out true t h k = h
@@ -112,8 +112,8 @@ module _ {m w : List ℕ} (r : Readable m) (c : Classed m w) (a b : ℕ) where
             go true e = tt
             go false e = subst T (sym (counted-fails (follows w a b apart) (individualCount m) i (n .0) (n .1) e)) t
 
-        back : ((i : ℕ) → Name (individualCount m) i → member a i ∈ F → T (second apart i)) → (d : ℕ) → Name (individualCount m) d → follows w a b apart d ≡ true
-        back f d n = go (inSet (classesOf w d) a) (second apart d) (λ t. f d n (in-iff d a n .0 t))
+        back : ((i : ℕ) → Name (individualCount m) i → member a i ∈ F → T (concludes apart i)) → (d : ℕ) → Name (individualCount m) d → follows w a b apart d ≡ true
+        back f d n = go (inSet (classesOf w d) a) (concludes apart d) (λ t. f d n (in-iff d a n .0 t))
           where
             go : (s t : Bool) → (T s → T t) → not s || t ≡ true
             go true true h = refl

@@ -25,7 +25,7 @@ use Rattle.normal_form.specs.Tables.{Held, IntervalsStand, Tabled, heldIn}
 use Rattle.normal_form.specs.declared.Tables.{Tables}
 use Rattle.splitting.proofs.Storing.{full-kept}
 use Rattle.splitting.specs.Ends.{Collectable, endWords}
-use Rattle.splitting.specs.Odometer.{Full, Kept, Splittable, constraintAt, constraintsAt}
+use Rattle.splitting.specs.Odometer.{Full, OnlyPieces, Splittable, constraintAt, constraintsAt}
 pub use Rattle.splitting.proofs.Places.{stands-combination, stands-lt}
 pub use Rattle.splitting.proofs.Storing.{constraints-kept, kept-refl, kept-trans}
 pub use Rattle.splitting.proofs.Whole.{widened-form}
@@ -45,9 +45,9 @@ unfolding constraintAt
 stand-at w m [] s = refl
 stand-at w m (h ∷ l) s = ap₂ (λ x k. x ∷ k) (interval-is (h .constraint) (s .0 .feature) (s .0 .lo) (s .0 .hi)) (stand-at w (suc m) l (s .1))
 
-pub full-filled : (w : List ℕ) (n : ℕ) → all (nonEmptyAt w) (counting 0 n) ≡ true → Full w n
+pub full-nonEmpty : (w : List ℕ) (n : ℕ) → all (nonEmptyAt w) (counting 0 n) ≡ true → Full w n
 unfolding constraintAt
-full-filled w n q m h = let z : 0 + m ≡ m = omega arith in leb→le _ _ (rw z at (each 0 n m (isTrue q) h))
+full-nonEmpty w n q m h = let z : 0 + m ≡ m = omega arith in leb→le _ _ (rw z at (each 0 n m (isTrue q) h))
   where
     each : (o n m : ℕ) → T (all (nonEmptyAt w) (counting o n)) → m < n → T (nonEmptyAt w (o + m))
     each o zero m h b = absurd (omega arith)
@@ -70,15 +70,15 @@ module _ {K : Vocabulary} {F : Form} {w : List ℕ} {t : Tables} (s : Tabled K F
   full-clean e = full (all (nonEmptyAt w) (counting 0 (t .constraints))) refl
     where
       full : (b : Bool) → all (nonEmptyAt w) (counting 0 (t .constraints)) ≡ b → Full w (t .constraints)
-      full true q = full-filled w (t .constraints) q
+      full true q = full-nonEmpty w (t .constraints) q
       full false q = let z : _≡_ {A = Bool} false true = clean-not K w t (sym q) refl F s ∙ e in absurd (let y : _≡_ {A = ℕ} 0 1 = cc in omega arith)
 
   -- ---- the tables stay
 
-  pub tabled-turned : {n : ℕ} {w′ : List ℕ} → Kept n w w′ → (t .individuals ≤ mostRecords) × (t .constraints ≤ mostRecords) → Tabled K F w′ t
+  pub tabled-turned : {n : ℕ} {w′ : List ℕ} → OnlyPieces n w w′ → (t .individuals ≤ mostRecords) × (t .constraints ≤ mostRecords) → Tabled K F w′ t
   tabled-turned {n} {w′} k most =
       tabled-kept K F w w′ t most (k .same) (λ i a b. k .others i (λ m c. (λ z. omega arith, λ z. omega arith)))
       (λ m i a b c. k .others i (λ j d. (λ z. omega arith, λ z. omega arith))) s
 
-pub splittable-kept : {m n : ℕ} {w w′ : List ℕ} → Kept m w w′ → Splittable w n → Splittable w′ n
+pub splittable-kept : {m n : ℕ} {w w′ : List ℕ} → OnlyPieces m w w′ → Splittable w n → Splittable w′ n
 splittable-kept {n = n} k s = record { few = s .few; long = let a = s .long in omega (arith, k .same); full = full-kept k n (s .full) }

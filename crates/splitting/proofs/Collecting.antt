@@ -44,7 +44,7 @@ module _ (f : ℕ) where
       go true e m h = rw (eq-eqb f g (sym (eqb-true g f e))) (ap (λ (x : List ℕ). lo ∷ (hi ∷ x)) h)
       go false e m h = rw (ne-eqb f g (λ z. eqb-false g f e (sym z))) h
 
--- ---- a record and what is behind it
+-- ---- a record and what is after it
 
 -- what the first record of a chain leaves to do
 record Cut (q : List ℕ) (k : ℕ) (c : Chain) : Type 0 where

@@ -1,7 +1,7 @@
 -- A constraint has at most as many pieces as the ends have words, and three more; so n constraints have few combinations where there
 -- are few ends.
 use Prim.Native.Nat.{_*_, _+_, _-_, _/_, _≤_, suc, ℕ}
-use mathlib.Core.Bool.{Bool, _&&_, cond, false, true}
+use mathlib.Core.Bool.{Bool, cond, false, true}
 use mathlib.Core.List.{List, [], _∷_}
 use mathlib.Core.Path.{_≡_, ap}
 use native.Mathlib.Nat.{div-mul-le-self, mul-le-mul, mul-le-mul-right}
@@ -10,7 +10,7 @@ use native.Mathlib.Omega.{arith}
 use lib.Dec.{eqb, leb, ltb}
 use lib.ListN.{length}
 use Rattle.meaning.proofs.Count.{count-pieces}
-use Rattle.meaning.specs.Intervals.{Constraint}
+use Rattle.meaning.specs.Intervals.{Constraint, isWithin}
 use Rattle.meaning.specs.Limits.{mostCombinations}
 use Rattle.meaning.specs.Lists.{filter, flatMap}
 use Rattle.meaning.specs.Policy.{Policy}
@@ -45,7 +45,7 @@ filter-most p (x ∷ l) = go (p x) (filter-most p l)
 
 points-most : (Q : Policy) (s : Constraint) → length (points Q s) ≤ length (flatMap (ends (s .feature)) Q) + 2
 points-most Q s =
-    let p : ℕ → Bool = λ e. leb (s .lo) e && leb e (s .hi) in
+    let p : ℕ → Bool = isWithin (s .lo) (s .hi) in
     let l = flatMap (ends (s .feature)) Q in
     omega (arith, inserts-most (filter p l) (insert (s .hi) (s .lo ∷ [])), filter-most p l, insert-most (s .hi) (s .lo ∷ []))
 

@@ -1,18 +1,19 @@
 -- The pieces of a constraint, each from the one before it.
 use Prim.Native.Nat.{_+_, _<_, _≤_, pred, suc, ℕ}
-use mathlib.Core.Bool.{Bool, _&&_, cond, false, true}
+use mathlib.Core.Bool.{Bool, cond, false, true}
 use mathlib.Core.List.{List, [], _++_, _∷_}
 use mathlib.Core.Logic.{_⊎_, inl, inr}
 use mathlib.Core.Path.{_∙_, _≡_, ap, ap₂, refl, subst, sym}
 use native.Mathlib.Omega.{arith}
-use lib.Dec.{T, leb, leb→le, le→leb, ltb}
+use lib.Dec.{T, ltb}
 use lib.ListN.{length}
 use borrow.Author.Tests.{ltb-false, ltb-true}
+use Rattle.meaning.proofs.Intervals.{isWithin-iff}
 use Rattle.meaning.proofs.Odometer.{at-lt}
 use Rattle.meaning.proofs.Points.{Rising, Sorted, above, insert-all, insert-here, insert-sorted, insert-there, inserts-all}
 use Rattle.meaning.proofs.Points.{inserts-here, inserts-sorted, inserts-there}
-use Rattle.meaning.proofs.Rules.{T-and, all-at, all-mono, all-of, and-T, any-cases, any-none, head, in-filter, tail}
-use Rattle.meaning.specs.Intervals.{Constraint}
+use Rattle.meaning.proofs.Rules.{all-at, all-mono, all-of, any-cases, any-none, head, in-filter, tail}
+use Rattle.meaning.specs.Intervals.{Constraint, NonEmpty, isWithin}
 use Rattle.meaning.specs.Lists.{All, At, _∈_, atHere, atThere, cons, filter, flatMap, here, nil}
 use Rattle.meaning.specs.Policy.{Policy}
 use Rattle.meaning.specs.Splitting.{ends, gap, insert, insertAll, only, pieces, piecesAt, piecesFrom}
@@ -22,7 +23,7 @@ use Rattle.splitting.specs.Ends.{Ends, endsIn, upper}
 
 -- ---- a run
 
--- behind the piece s come the pieces of the list, and then no more
+-- after the piece s come the pieces of the list, and then no more
 abbrev Run : List ℕ → ℕ → ℕ → Constraint → List Constraint → Type 0
 Run E f h s [] = s .hi ≡ h
 Run E f h s (t ∷ l) = (s .hi < h) × (t ≡ intervalOf f (suc (s .hi)) (upper E h (s .hi))) × Run E f h t l
@@ -120,9 +121,9 @@ filtered {P} p (x ∷ l) h = go (p x) refl (filtered p l (tail h))
 abbrev Pieces : List ℕ → Constraint → List Constraint → Type 0
 Pieces E s l = (rest : List Constraint) × (l ≡ only (s .feature) (s .lo) ∷ rest) × Run E (s .feature) (s .hi) (only (s .feature) (s .lo)) rest
 
-module _ (E : List ℕ) (s : Constraint) (a : s .lo ≤ s .hi) where
+module _ (E : List ℕ) (s : Constraint) (a : NonEmpty (s .lo) (s .hi)) where
   abbrev inside : ℕ → Bool
-  inside e = leb (s .lo) e && leb e (s .hi)
+  inside e = isWithin (s .lo) (s .hi) e
 
   abbrev X : List ℕ
   X = insertAll (filter inside E) (insert (s .hi) (s .lo ∷ []))
@@ -133,14 +134,14 @@ module _ (E : List ℕ) (s : Constraint) (a : s .lo ≤ s .hi) where
   X-inside : All In-span X
   X-inside =
       inserts-all (filter inside E) (insert (s .hi) (s .lo ∷ []))
-      (all-mono (λ e t. let u = T-and (leb (s .lo) e) (leb e (s .hi)) (t .0) in (leb→le _ _ (u .0), inr (leb→le _ _ (u .1), inr (t .1))))
+      (all-mono (λ e t. let u = isWithin-iff (s .lo) (s .hi) e .0 (t .0) in (u .0, inr (u .1, inr (t .1))))
       (filtered inside E (all-of E (λ x m. m))))
       (insert-all (s .hi) (s .lo ∷ []) (a, inr (omega arith, inl refl)) (cons (omega arith, inl refl) nil))
 
   X-all : All (λ e. s .lo < e → e ≤ s .hi → e ∈ X) E
   X-all =
       all-of E (λ e m i j. inserts-here (filter inside E) (insert (s .hi) (s .lo ∷ []))
-      (in-filter inside m (and-T (leb (s .lo) e) (leb e (s .hi)) (le→leb (s .lo) e (omega arith)) (le→leb e (s .hi) j))))
+      (in-filter inside m (isWithin-iff (s .lo) (s .hi) e .1 (omega arith, j))))
 
   X-low : s .lo ∈ X
   X-low = inserts-there (filter inside E) (insert (s .hi) (s .lo ∷ [])) (insert-there (s .hi) (s .lo ∷ []) (here refl))
@@ -184,10 +185,10 @@ module _ (E : List ℕ) (s : Constraint) (a : s .lo ≤ s .hi) where
 
 -- ---- first, next, last
 
-pub piece-first : (Q : Policy) (s : Constraint) → s .lo ≤ s .hi → At (only (s .feature) (s .lo)) (pieces Q s) 0
+pub piece-first : (Q : Policy) (s : Constraint) → NonEmpty (s .lo) (s .hi) → At (only (s .feature) (s .lo)) (pieces Q s) 0
 piece-first Q s a = let k = run-all (flatMap (ends (s .feature)) Q) s a in rw (k .1) (atHere refl)
 
-module _ (Q : Policy) (e : List ℕ) (s : Constraint) (n : Ends Q e) (a : s .lo ≤ s .hi) where
+module _ (Q : Policy) (e : List ℕ) (s : Constraint) (n : Ends Q e) (a : NonEmpty (s .lo) (s .hi)) where
   abbrev E : List ℕ
   E = endsIn e (s .feature)
 

@@ -1,4 +1,4 @@
--- The pairs of a policy, one simple policy after another, are its ends.
+-- The pairs of a policy, one term after another, are its ends.
 use Prim.Native.Nat.{_*_, _+_, _<_, _≤_, ℕ}
 use mathlib.Core.List.{List, [], _++_, _∷_, append-assoc, append-nil}
 use mathlib.Core.Path.{_∙_, _≡_, ap, refl, subst, sym}
@@ -23,7 +23,7 @@ unfolding endsIn
 pairs-ends [] f = refl
 pairs-ends (c ∷ Q) f = pairs-end f c (pairsIn Q) ∙ ap (λ (m : List ℕ). ends f c ++ m) (pairs-ends Q f)
 
--- the first of the simple policies from record k on
+-- the first of the terms from record k on
 record Term (q : List ℕ) (k : ℕ) (P : Policy) : Type 0 where
   pub rest : Policy
   pub whole : P ≡ chainAt q (childOf q k) ∷ rest
@@ -41,7 +41,7 @@ term {q} {k} z (reads-term {P = P} h e r t) = record {
   fewer = falls (lastOf 6 q) k (nextOf q k) (h .inside) (h .next);
 }
 
--- before the simple policy at record k: n words are written, of the slice that was e₀
+-- before the term at record k: n words are written, of the slice that was e₀
 pub record Collecting (q e₀ e : List ℕ) (n k : ℕ) : Type 0 where
   pub left : Policy
   pub same : length e ≡ length e₀

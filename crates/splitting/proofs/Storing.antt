@@ -12,21 +12,21 @@ use Rattle.meaning.specs.Policy.{Policy}
 use Rattle.meaning.specs.Splitting.{pieces}
 use Rattle.normal_form.specs.Steps.{intervalOf}
 use Rattle.normal_form.specs.Tables.{intervalPlace}
-use Rattle.splitting.specs.Odometer.{Full, Kept, Stands, constraintAt, constraintsAt, pieceCount, piecePut}
+use Rattle.splitting.specs.Odometer.{Full, OnlyPieces, Stands, constraintAt, constraintsAt, pieceCount, piecePut}
 
 interval-path : {f g a b x y : ℕ} → f ≡ g → a ≡ b → x ≡ y → intervalOf f a x ≡ intervalOf g b y
 interval-path p q r = cc
 
 -- ---- what is kept
 
-pub kept-refl : (n : ℕ) (w : List ℕ) → Kept n w w
+pub kept-refl : (n : ℕ) (w : List ℕ) → OnlyPieces n w w
 kept-refl n w = record { same = refl; others = λ i h. refl }
 
-pub kept-trans : {n : ℕ} {w v u : List ℕ} → Kept n w v → Kept n v u → Kept n w u
+pub kept-trans : {n : ℕ} {w v u : List ℕ} → OnlyPieces n w v → OnlyPieces n v u → OnlyPieces n w u
 kept-trans a b = record { same = b .same ∙ a .same; others = λ i h. b .others i h ∙ a .others i h }
 
 -- the constraints, however many
-module _ {n : ℕ} {w v : List ℕ} (k : Kept n w v) where
+module _ {n : ℕ} {w v : List ℕ} (k : OnlyPieces n w v) where
   pub constraint-kept : (j : ℕ) → constraintAt v j ≡ constraintAt w j
   unfolding constraintAt
   constraint-kept j =
@@ -44,7 +44,7 @@ module _ {n : ℕ} {w v : List ℕ} (k : Kept n w v) where
   pub full-kept : (m : ℕ) → Full w m → Full v m
   full-kept m f j h = rw (constraint-kept j) (f j h)
 
-  -- the pieces of those behind the first n
+  -- the pieces of those after the first n
   pub piece-kept : (j : ℕ) → n ≤ j → pieceAt v j ≡ pieceAt w j
   unfolding pieceAt
   piece-kept j h =
@@ -52,7 +52,7 @@ module _ {n : ℕ} {w v : List ℕ} (k : Kept n w v) where
       (k .others (intervalPlace j + 4) (λ m b. (λ z. omega arith, λ z. omega arith)))
       (k .others (intervalPlace j + 5) (λ m b. (λ z. omega arith, λ z. omega arith)))
 
-pub kept-more : {m n : ℕ} {w v : List ℕ} → m ≤ n → Kept m w v → Kept n w v
+pub kept-more : {m n : ℕ} {w v : List ℕ} → m ≤ n → OnlyPieces m w v → OnlyPieces n w v
 kept-more h k = record { same = k .same; others = λ i f. k .others i (λ j b. f j (omega arith)) }
 
 -- ---- one piece
@@ -67,7 +67,7 @@ module _ (w : List ℕ) (i a b : ℕ) where
   unfolding piecePut
   length-put = simp length-set
 
-  pub kept-put : Kept (suc i) w (piecePut w i a b)
+  pub kept-put : OnlyPieces (suc i) w (piecePut w i a b)
   kept-put = record { same = length-put; others = λ k f. let g = f i (omega arith) in word-put k (g .0) (g .1) }
 
   pub piece-other : (j : ℕ) → (j ≡ i → ⊥) → pieceAt (piecePut w i a b) j ≡ pieceAt w j

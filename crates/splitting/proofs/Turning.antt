@@ -10,6 +10,7 @@ use lib.Dec.{ltb}
 use lib.ListN.{getD, length}
 use borrow.Author.Tests.{le-ltb, lt-ltb, ltb-false, ltb-true}
 use Rattle.combination.specs.Combination.{pieceAt}
+use Rattle.meaning.specs.Intervals.{NonEmpty}
 use Rattle.meaning.specs.Policy.{Policy}
 use Rattle.meaning.specs.Splitting.{only}
 use Rattle.normal_form.specs.Tables.{intervalPlace}
@@ -18,7 +19,7 @@ use Rattle.splitting.proofs.Storing.{constraint-kept, full-kept, kept-m
 use Rattle.splitting.proofs.Storing.{piece-here, piece-kept, piece-other, stands-at, stands-frame}
 use Rattle.splitting.proofs.Ways.{ways, ways-product, ways-same}
 use Rattle.splitting.specs.Ends.{Ends, endsIn, upper}
-use Rattle.splitting.specs.Odometer.{Full, Kept, Splittable, Stands, Started, Stepped, Turned, constraintAt, pieceCount}
+use Rattle.splitting.specs.Odometer.{Full, OnlyPieces, Splittable, Stands, Started, Stepped, Turned, constraintAt, pieceCount}
 use Rattle.splitting.specs.Odometer.{piecePut}
 
 -- ---- the loops
@@ -35,7 +36,7 @@ advanced e w i =
 abbrev restarted : List ℕ → ℕ → List ℕ
 restarted w i = piecePut w i (constraintAt w i .lo) (constraintAt w i .lo)
 
--- a step over the first i constraints: the last that has a next piece takes it, those behind it start again
+-- a step over the first i constraints: the last that has a next piece takes it, those after it start again
 unfoldable pub turn : List ℕ → List ℕ → ℕ → List ℕ
 turn e w zero = w
 turn e w (suc i) = let rest = turn e (restarted w i) i in cond (onward w i) (advanced e w i) rest
@@ -52,16 +53,16 @@ begun w (suc i) = restarted (begun w i) i
 
 -- ---- what they keep
 
-turn-kept : (e w : List ℕ) (i : ℕ) → Kept i w (turn e w i)
+turn-kept : (e w : List ℕ) (i : ℕ) → OnlyPieces i w (turn e w i)
 unfolding turn
 turn-kept e w zero = kept-refl 0 w
 turn-kept e w (suc i) = go (onward w i) (turn-kept e (restarted w i) i)
   where
-    go : (b : Bool) → Kept i (restarted w i) (turn e (restarted w i) i) → Kept (suc i) w (cond b (advanced e w i) (turn e (restarted w i) i))
+    go : (b : Bool) → OnlyPieces i (restarted w i) (turn e (restarted w i) i) → OnlyPieces (suc i) w (cond b (advanced e w i) (turn e (restarted w i) i))
     go true r = kept-put w i _ _
     go false r = kept-trans (kept-put w i _ _) (kept-more (omega arith) r)
 
-begun-kept : (w : List ℕ) (i : ℕ) → Kept i w (begun w i)
+begun-kept : (w : List ℕ) (i : ℕ) → OnlyPieces i w (begun w i)
 unfolding begun
 begun-kept w zero = kept-refl 0 w
 begun-kept w (suc i) = kept-trans (kept-more (omega arith) (begun-kept w i)) (kept-put (begun w i) i _ _)
@@ -69,7 +70,7 @@ begun-kept w (suc i) = kept-trans (kept-more (omega arith) (begun-kept w i)) (ke
 -- ---- the first combination
 
 -- constraint i at its first piece, those before it at combination j
-first-digit : (Q : Policy) (w v : List ℕ) (i j : ℕ) → constraintAt v i ≡ constraintAt w i → constraintAt w i .lo ≤ constraintAt w i .hi →
+first-digit : (Q : Policy) (w v : List ℕ) (i j : ℕ) → constraintAt v i ≡ constraintAt w i → NonEmpty (constraintAt w i .lo) (constraintAt w i .hi) →
     pieceAt v i ≡ only (constraintAt w i .feature) (constraintAt w i .lo) → Stands Q v i j → Stands Q v (suc i) (j * pieceCount Q w i)
 first-digit Q w v i j same full fresh s =
     stands-at Q w v i j 0 (j * pieceCount Q w i) same (rw fresh (piece-first Q (constraintAt w i) full)) (omega arith) s
@@ -80,7 +81,7 @@ begun-stands Q w zero l f = refl
 begun-stands Q w (suc i) l f =
     let b = begun w i in
     let k = kept-put b i (constraintAt b i .lo) (constraintAt b i .lo) in
-    let full : constraintAt b i .lo ≤ constraintAt b i .hi = rw (constraint-kept (begun-kept w i) i) (f i (omega arith)) in
+    let full : NonEmpty (constraintAt b i .lo) (constraintAt b i .hi) = rw (constraint-kept (begun-kept w i) i) (f i (omega arith)) in
     let below = begun-stands Q w i (omega arith) (λ j h. f j (omega arith)) in
     subst (λ (x : ℕ). Stands Q (restarted b i) (suc i) x) (zero-mul _)
     (first-digit Q b (restarted b i) i 0 (constraint-kept k i) full (piece-here b i _ _ (omega (arith, begun-kept w i .same)))
@@ -100,7 +101,7 @@ Outcome Q w v i k true = Stands Q v i (suc k)
 Outcome Q w v i k false = (suc k ≡ ways Q w i) × Stands Q v i 0
 
 -- constraint i has started again, as have those of the first i that had to
-module _ (Q : Policy) (w v : List ℕ) (i : ℕ) (same : constraintAt v i ≡ constraintAt w i) (full : constraintAt w i .lo ≤ constraintAt w i .hi)
+module _ (Q : Policy) (w v : List ℕ) (i : ℕ) (same : constraintAt v i ≡ constraintAt w i) (full : NonEmpty (constraintAt w i .lo) (constraintAt w i .hi))
     (fresh : pieceAt v i ≡ only (constraintAt w i .feature) (constraintAt w i .lo)) where
   restart-right : (j k : ℕ) → suc k ≡ suc j * pieceCount Q w i → (b : Bool) → Outcome Q w v i j b → Outcome Q w v (suc i) k b
   restart-right j k next true h = subst (λ (x : ℕ). Stands Q v (suc i) x) (sym next) (first-digit Q w v i (suc j) same full fresh h)
@@ -115,7 +116,7 @@ outcome-same Q w u v i k same true h = h
 outcome-same Q w u v i k same false h = (h .0 ∙ ways-same Q w u i same, h .1)
 
 module _ (Q : Policy) (e : List ℕ) (n : Ends Q e) where
-  advance-right : (w : List ℕ) (i k : ℕ) → intervalPlace (suc i) ≤ length w → constraintAt w i .lo ≤ constraintAt w i .hi →
+  advance-right : (w : List ℕ) (i k : ℕ) → intervalPlace (suc i) ≤ length w → NonEmpty (constraintAt w i .lo) (constraintAt w i .hi) →
       pieceAt w i .hi < constraintAt w i .hi → Stands Q w (suc i) k → Stands Q (advanced e w i) (suc i) (suc k)
   advance-right w i k l f h s =
       let kept = kept-put w i (suc (pieceAt w i .hi)) (upper (endsIn e (constraintAt w i .feature)) (constraintAt w i .hi) (pieceAt w i .hi)) in
@@ -138,7 +139,7 @@ module _ (Q : Policy) (e : List ℕ) (n : Ends Q e) where
       v : List ℕ
       v = turn e u i
 
-      kept : Kept (suc i) w u
+      kept : OnlyPieces (suc i) w u
       kept = kept-put w i (constraintAt w i .lo) (constraintAt w i .lo)
 
       go : (b : Bool) → onward w i ≡ b → Outcome Q w v i (s .0) (turns u i) →

@@ -25,7 +25,7 @@ pub ways-same : (Q : Policy) (w v : List ℕ) (i : ℕ) → ((j : ℕ) → const
 ways-same Q w v zero h = refl
 ways-same Q w v (suc i) h = ap₂ (λ (x : ℕ) (s : Constraint). x * length (pieces Q s)) (ways-same Q w v i h) (h i)
 
--- one constraint more, behind the others
+-- one constraint more, after the others
 pub counted-more : (w : List ℕ) (n : ℕ) → constraintsAt w (suc n) ≡ constraintsAt w n ++ (constraintAt w n ∷ [])
 counted-more w n = go 0 n ∙ ap (λ (x : ℕ). constraintsAt w n ++ (constraintAt w x ∷ [])) (zero-add n)
   where

@@ -40,7 +40,7 @@ endWords = 4 * mostRecords
 unfoldable pub pairsPut : List ℕ → ℕ → ℕ → ℕ → ℕ → List ℕ
 pairsPut e n f lo hi = set (set (set (set e n f) (n + 1) lo) (n + 2) f) (n + 3) hi
 
--- what a chain from record k on asks, and what it gives: its pairs behind the first n words
+-- what a chain from record k on asks, and what it gives: its pairs after the first n words
 pub record Chained (q e : List ℕ) (k n : ℕ) : Type 0 where
   pub reads : Reads q k (chainAt q k)
   pub room : n + 4 * count (chainAt q k) ≤ length e
@@ -77,6 +77,6 @@ nearer g f y x h = cond (eqb g f) (cond (ltb x y) (cond (ltb y h) y h) h) h
 abbrev pub upTo : ℕ → ℕ → ℕ
 upTo p y = cond (eqb y (suc p)) y (pred y)
 
--- the upper end of the piece behind p, of a constraint with upper end h and the ends l
+-- the upper end of the piece after p, of a constraint with upper end h and the ends l
 unfoldable pub upper : List ℕ → ℕ → ℕ → ℕ
 upper l h p = upTo p (least l p h)

@@ -50,14 +50,14 @@ unfoldable pub piecePut : List ℕ → ℕ → ℕ → ℕ → List ℕ
 piecePut w m lo hi = set (set w (intervalPlace m + 4) lo) (intervalPlace m + 5) hi
 
 -- no words but the pieces of the first n constraints have changed
-pub record Kept (n : ℕ) (w w′ : List ℕ) : Type 0 where
+pub record OnlyPieces (n : ℕ) (w w′ : List ℕ) : Type 0 where
   pub same : length w′ ≡ length w
   pub others : (i : ℕ) → ((m : ℕ) → m < n → (i ≡ intervalPlace m + 4 → ⊥) × (i ≡ intervalPlace m + 5 → ⊥)) → getD w′ i 0 ≡ getD w i 0
 
 -- the piece of each of the first n constraints is the constraint
 pub record Widened (n : ℕ) (w w′ : List ℕ) : Type 0 where
   pub whole : (m : ℕ) → m < n → pieceAt w′ m ≡ constraintAt w′ m
-  pub kept : Kept n w w′
+  pub kept : OnlyPieces n w w′
 
 -- what a step's answer says, from combination q, counted from 1: the next one's number, and 0 after the last
 abbrev pub Turned : Policy → ℕ → List ℕ → List ℕ → ℕ → ℕ → Type 0
@@ -67,9 +67,9 @@ Turned Q n w w′ q (suc r) = (r ≡ q) × Stands Q w′ n q
 -- the first combination, whatever the second policy is
 pub record Started (n : ℕ) (w w′ : List ℕ) : Type 0 where
   pub stands : (Q : Policy) → Stands Q w′ n 0
-  pub kept : Kept n w w′
+  pub kept : OnlyPieces n w w′
 
 -- one step, for whatever policy the pairs are the ends of
 pub record Stepped (e : List ℕ) (n q : ℕ) (w w′ : List ℕ) (r : ℕ) : Type 0 where
   pub turned : (Q : Policy) (k : ℕ) → Ends Q e → q ≡ suc k → Stands Q w n k → Turned Q n w w′ q r
-  pub kept : Kept n w w′
+  pub kept : OnlyPieces n w w′

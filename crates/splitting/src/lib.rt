@@ -1,5 +1,5 @@
 // Splitting: the ends of the second policy, the pieces of a constraint between them, and the odometer over the combinations.
-// A piece needs no more than its two ends: the one behind it starts at the next number, and one look over the ends tells where it
+// A piece needs no more than its two ends: the one after it starts at the next number, and one look over the ends tells where it
 // stops.
 use meaning::limits::MOST_COMBINATIONS;
 use normal_form::INTERVAL;
@@ -15,6 +15,7 @@ ghost use mathlib.Core.Bool.{false};
 ghost use mathlib.Core.Path.{_≡_};
 ghost use Prim.Native.Nat.{_+_, _<_, _≤_, min, suc};
 ghost use lib.ListN.{length};
+ghost use Rattle.meaning.specs.Intervals.{NonEmpty};
 ghost use Rattle.meaning.specs.Limits.{mostCombinations, mostRecords};
 ghost use Rattle.meaning.specs.Policy.{Policy, policyOf};
 ghost use Rattle.meaning.specs.Splitting.{pieces, product};
@@ -35,7 +36,7 @@ fn put_pairs(ends: &mut [u32], n: usize, f: u32, lo: u32, hi: u32)
     ends[n + 3] = hi;
 }
 
-// The pairs of the chain from record k on, behind n words: a record, its child chain, its next.
+// The pairs of the chain from record k on, after n words: a record, its child chain, its next.
 fn collect_from(q: &[u32], ends: &mut [u32], k: u32, n: usize) -> usize
     requires { ⌜ Chained (now q) (now ends) k n ⌝ }
     ensures { λ r. ⌜ Paired (chainAt (now (q .entry)) k) n (now (ends .entry)) (now (ends .exit)) r ⌝ }
@@ -102,7 +103,7 @@ fn next_end(ends: &[u32], f: u32, x: u32, hi: u32) -> u32
     best
 }
 
-// The upper end of the piece behind the one that ends at p: the next end itself, or the gap in front of it.
+// The upper end of the piece after the one that ends at p: the next end itself, or the gap in front of it.
 fn next_upper(ends: &[u32], f: u32, hi: u32, p: u32) -> u32
     requires { ⌜ p < hi ⌝ }
     ensures { λ r. ⌜ r ≡ upper (endsIn (now (ends .entry)) f) hi p ⌝ }
@@ -116,7 +117,7 @@ fn next_upper(ends: &[u32], f: u32, hi: u32, p: u32) -> u32
 
 // How many pieces the constraint lo..hi on f has.
 fn count(ends: &[u32], f: u32, lo: u32, hi: u32) -> usize
-    requires { ⌜ lo ≤ hi ⌝ }
+    requires { ⌜ NonEmpty lo hi ⌝ }
     ensures { λ r. ⌜ (1 ≤ r) × (r ≤ 4294967296) ⌝ }
     ensures { λ r. ⌜ ((Q : Policy) → Ends Q (now (ends .entry)) → r ≡ length (pieces Q (intervalOf f lo hi))) ⌝ }
 {
@@ -196,7 +197,7 @@ pub fn start(work: &mut [u32], n: usize)
 }
 
 // From combination q, counted from 1, to the next, whose number is told, or 0 after the last: the last constraint that has a next
-// piece takes it, and those behind it start again.
+// piece takes it, and those after it start again.
 pub fn step(ends: &[u32], work: &mut [u32], n: usize, q: u32) -> u32
     requires { ⌜ Splittable (now work) n × (q < 4294967295) ⌝ }
     ensures { λ r. ⌜ Stepped (now (ends .entry)) n q (now (work .entry)) (now (work .exit)) r ⌝ }

@@ -12,7 +12,7 @@ use Rattle.normal_form.specs.declared.Tables.{Tables}
 use Rattle.subsumption.specs.Tests.{DecidesAll, conjunctsAt}
 
 module _ {K : Vocabulary} {u : Form} {w : List ℕ} {t : Tables} (d : Combined K u w t) where
-  -- the rows end behind all that is below the first individual
+  -- the rows end after all that is below the first individual
   pub root-tells : (q : List ℕ) (k : ℕ) {b : Bool} → DecidesAll q w t k 1 b → b ≡ subsumed K (conjunctsAt q k) (u .node) (u .successors)
   root-tells q k f =
       let e = d .count in

@@ -4,10 +4,11 @@ use mathlib.Core.Bool.{Bool, _&&_, _||_, cond, false, true}
 use mathlib.Core.List.{List, _∷_}
 use mathlib.Core.Path.{_∙_, _≡_, refl, sym}
 use native.Mathlib.Omega.{arith}
-use borrow.Author.Tests.{eq-eqb, le-leb, lt-leb, ne-eqb}
-use lib.Dec.{eqb, leb}
+use borrow.Author.Tests.{eq-eqb, ne-eqb}
+use lib.Dec.{eqb}
 use lib.ListN.{getD}
 use Rattle.combination.specs.Combination.{holderAt, pieceAt, piecesFrom, piecesOf}
+use Rattle.meaning.specs.Intervals.{isInside}
 use Rattle.meaning.specs.Lists.{any}
 use Rattle.meaning.specs.Subsumption.{includes}
 use Rattle.normal_form.specs.Tables.{intervalPlace}
@@ -15,8 +16,8 @@ use Rattle.normal_form.specs.Tables.{intervalPlace}
 -- ---- one constraint
 
 module _ (w : List ℕ) (x f lo hi : ℕ) where
-  abbrev pub isInside : ℕ → Bool
-  isInside m = eqb (holderAt w m) x && includes f lo hi (pieceAt w m)
+  abbrev pub isPieceInside : ℕ → Bool
+  isPieceInside m = eqb (holderAt w m) x && includes f lo hi (pieceAt w m)
 
   module _ (m : ℕ) where
     abbrev featureAt : ℕ
@@ -28,22 +29,18 @@ module _ (w : List ℕ) (x f lo hi : ℕ) where
     abbrev hiAt : ℕ
     hiAt = getD w (intervalPlace m + 5) 0
 
-    pub of-another : (holderAt w m ≡ x → ⊥) → false ≡ isInside m
+    pub of-another : (holderAt w m ≡ x → ⊥) → false ≡ isPieceInside m
     of-another h = rw (ne-eqb (holderAt w m) x h)
 
     module _ (own : holderAt w m ≡ x) where
-      pub other-feature : (featureAt ≡ f → ⊥) → false ≡ isInside m
+      pub other-feature : (featureAt ≡ f → ⊥) → false ≡ isPieceInside m
       unfolding pieceAt
       other-feature h = rw (eq-eqb (holderAt w m) x own, ne-eqb f featureAt (λ e. h (sym e)))
 
       module _ (same : featureAt ≡ f) where
-        pub from-below : loAt < lo → leb lo loAt ≡ isInside m
+        pub by-ends : {t : Bool} → t ≡ isInside lo hi loAt hiAt → t ≡ isPieceInside m
         unfolding pieceAt
-        from-below h = rw (eq-eqb (holderAt w m) x own, eq-eqb f featureAt (sym same), lt-leb lo loAt h)
-
-        pub by-upper : lo ≤ loAt → leb hiAt hi ≡ isInside m
-        unfolding pieceAt
-        by-upper h = rw (eq-eqb (holderAt w m) x own, eq-eqb f featureAt (sym same), le-leb lo loAt h)
+        by-ends h = h ∙ rw (eq-eqb (holderAt w m) x own, eq-eqb f featureAt (sym same))
 
   -- ---- one after another
 
@@ -55,7 +52,7 @@ module _ (w : List ℕ) (x f lo hi : ℕ) where
   some-starts n = let e : n - 0 ≡ n = omega arith in rw e
 
   module _ (n m : ℕ) where
-    some-step : m < n → someFrom (n - m) m ≡ isInside m || someFrom (n - (m + 1)) (m + 1)
+    some-step : m < n → someFrom (n - m) m ≡ isPieceInside m || someFrom (n - (m + 1)) (m + 1)
     unfolding piecesFrom
     some-step h =
         let e : n - m ≡ suc (n - (m + 1)) = omega arith in
@@ -72,7 +69,7 @@ module _ (w : List ℕ) (x f lo hi : ℕ) where
       unfolding piecesFrom
       some-ends h = let e : n - m ≡ 0 = omega arith in sym (so ∙ rw e)
 
-      module _ {b : Bool} (more : m < n) (told : b ≡ isInside m) where
+      module _ {b : Bool} (more : m < n) (told : b ≡ isPieceInside m) where
         pub some-found : b ≡ true → true ≡ any (includes f lo hi) (piecesOf w n x)
         some-found h = sym (so ∙ some-step more ∙ rw (sym told ∙ h))
 

@@ -25,17 +25,17 @@ next-least w x (suc left) j e =
     (λ h. split (λ (i : ℕ). j ≤ i) (eqb (parentAt w j) x) (λ d. omega arith) (λ d. omega (arith, next-least w x left (suc j) refl))))
 
 -- the answer of a walk that stands at row j: of whatever successors are left from a row i on, from which row j is the next one's
-abbrev pub TellsFrom : List ℕ → List ℕ → Tables → ℕ → ℕ → ℕ → ℕ → Bool → Type 0
-TellsFrom q w t k x r j b =
+abbrev pub DecidesFrom : List ℕ → List ℕ → Tables → ℕ → ℕ → ℕ → ℕ → Bool → Type 0
+DecidesFrom q w t k x r j b =
     (K : Vocabulary) (ks : Successors) (i : ℕ) → x ≤ i → Kin K w t x i ks → j ≡ nextSuccessor w x (t .individuals - i) i →
     b ≡ anySuccessor r (subsumed K (conjunctsAt q k)) ks
 
 module _ (q w : List ℕ) (t : Tables) (k x r : ℕ) {n : ℕ} (en : n ≡ t .individuals) where
-  pub walk-starts : {i j : ℕ} {b : Bool} → i ≡ x → j ≡ nextSuccessor w x (n - i) i → TellsFrom q w t k x r j b → DecidesSome q w t k x r b
+  pub walk-starts : {i j : ℕ} {b : Bool} → i ≡ x → j ≡ nextSuccessor w x (n - i) i → DecidesFrom q w t k x r j b → DecidesSome q w t k x r b
   walk-starts ei ej f K under s = f K under x (omega arith) s (rw (en, ei) at ej)
 
   module _ {j : ℕ} where
-    pub walk-ends : n ≤ j → TellsFrom q w t k x r j false
+    pub walk-ends : n ≤ j → DecidesFrom q w t k x r j false
     walk-ends h K none i own s e = refl
     walk-ends h K (successor p m under next) i own s e = absurd (omega (arith, kin-first s, kin-inside s))
 
@@ -48,7 +48,7 @@ module _ (q w : List ℕ) (t : Tables) (k x r : ℕ) {n : ℕ} (en : n ≡ t .in
           let z : y ≡ suc i = omega arith in
           f K i m under z (kin-individual s) (subst (λ (l : ℕ). Kin K w t l l under) (sym z) (kin-child s own))
 
-      pub walk-found : roleAt w j ≡ r → DecidesAll q w t k y true → TellsFrom q w t k x r j true
+      pub walk-found : roleAt w j ≡ r → DecidesAll q w t k y true → DecidesFrom q w t k x r j true
       walk-found er f K none i own s e = absurd (omega (arith, kin-none s))
       walk-found er f K (successor p m under next) i own s e =
           let z : j ≡ i = e ∙ kin-first s in
@@ -56,7 +56,7 @@ module _ (q w : List ℕ) (t : Tables) (k x r : ℕ) {n : ℕ} (en : n ≡ t .in
           rw (eq-eqb r p ep, ← at-first own s z f)
 
       pub walk-on : {l : ℕ} {b : Bool} → (roleAt w j ≡ r → DecidesAll q w t k y false) → l ≡ nextSuccessor w x (n - (j + 1)) (j + 1) →
-          TellsFrom q w t k x r l b → TellsFrom q w t k x r j b
+          DecidesFrom q w t k x r l b → DecidesFrom q w t k x r j b
       walk-on f el g K none i own s e = absurd (omega (arith, kin-none s))
       walk-on {l} {b} f el g K (successor p m under next) i own s e =
           g K next (suc i + size under) (omega arith) (kin-rest s) (el ∙ rw (en, z) (kin-next s own)) ∙ sym (go (eqb r p) refl)

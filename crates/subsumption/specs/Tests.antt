@@ -25,7 +25,7 @@ pub record Testable (q w : List ℕ) (t : Tables) (k : ℕ) : Type 0 where
   pub constraints : t .constraints ≤ mostRecords
   pub reads : Reads q k (conjunctsAt q k)
 
--- the conjunct at record k, with nothing behind it
+-- the conjunct at record k, with nothing after it
 abbrev pub conjunctOf : List ℕ → ℕ → Chain
 conjunctOf q k = conjunctAt q k (conjunctsAt q (childOf q k)) end
 
@@ -35,11 +35,11 @@ Answers w t x c b =
     (K : Vocabulary) (n : ℕ) (m : Node) (under : Successors) → x ≡ suc n → Individual K w (t .constraints) n m → Kin K w t x x under →
     b ≡ subsumed K c m under
 
--- for the conjuncts from record k on
+-- b is the answer for individual x and the conjuncts from record k on
 abbrev pub DecidesAll : List ℕ → List ℕ → Tables → ℕ → ℕ → Bool → Type 0
 DecidesAll q w t k x b = Answers w t x (conjunctsAt q k) b
 
--- for record k's alone
+-- b is the answer for individual x and record k's conjunct alone
 abbrev pub DecidesOne : List ℕ → List ℕ → Tables → ℕ → ℕ → Bool → Type 0
 DecidesOne q w t k x b = Answers w t x (conjunctOf q k) b
 

@@ -1,5 +1,6 @@
 // Algorithm 1: the structural test of a combination, which the tables of the work slice hold, against a term.
 use combination::next_successor;
+use intervals::is_inside;
 use meaning::ClassNo;
 use normal_form::INTERVAL;
 use normal_form::INTERVALS;
@@ -37,7 +38,7 @@ fn has_class(work: &[u32], x: u32, c: ClassNo) -> bool
 }
 
 // Whether constraint m is of individual x and feature f and its piece lies from lo to hi.
-fn is_inside(work: &[u32], m: usize, x: u32, f: u32, lo: u32, hi: u32) -> bool
+fn is_piece_inside(work: &[u32], m: usize, x: u32, f: u32, lo: u32, hi: u32) -> bool
     requires { ⌜ (m < mostRecords) × (tablesEnd ≤ length (now work)) ⌝ }
     ensures { λ r. ⌜ r ≡ (eqb (holderAt (now (work .entry)) m) x && includes f lo hi (pieceAt (now (work .entry)) m)) ⌝ }
 {
@@ -48,7 +49,7 @@ fn is_inside(work: &[u32], m: usize, x: u32, f: u32, lo: u32, hi: u32) -> bool
     if work[at + 1] != f {
         return false;
     }
-    lo <= work[at + 4] && work[at + 5] <= hi
+    is_inside(lo, hi, work[at + 4], work[at + 5])
 }
 
 // Line 4: some piece of individual x, of n constraints.
@@ -57,7 +58,7 @@ fn has_piece(work: &[u32], n: usize, x: u32, f: u32, lo: u32, hi: u32) -> bool
     ensures { λ r. ⌜ r ≡ any (includes f lo hi) (piecesOf (now (work .entry)) n x) ⌝ }
 {
     for m in 0..n {
-        if is_inside(work, m, x, f, lo, hi) {
+        if is_piece_inside(work, m, x, f, lo, hi) {
             return true;
         }
     }

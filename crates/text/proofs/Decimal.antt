@@ -1,4 +1,4 @@
--- Numbers in base ten: the last digit stands behind the others, and a word has at most ten. Assumes nothing.
+-- Numbers in base ten: the last digit stands after the others, and a word has at most ten. Assumes nothing.
 use Prim.Native.Nat.{_%_, _+_, _/_, _<_, _^_, _≤_, suc, zero, ℕ}
 use borrow.Author.Tests.{le-ltb, lt-ltb, ltb-false, ltb-true}
 use lib.Dec.{ltb}

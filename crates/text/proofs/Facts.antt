@@ -1,4 +1,4 @@
--- The records of a model's words, one behind the other, and the lines printed for them. Assumes nothing.
+-- The records of a model's words, one after the other, and the lines printed for them. Assumes nothing.
 use Prim.Native.Nat.{_*_, _+_, _-_, _/_, _≤_, suc, ℕ}
 use borrow.Author.Tests.{eq-eqb, ne-eqb}
 use lib.ListN.{drop, length, take-append-drop}

@@ -13,7 +13,7 @@ ghost use Rattle.text.specs.Text.{Put, Reported, mostLine, recordsTo, sh
 // The bytes of a text that every answer fits in.
 pub const TEXT: usize = 41 * 3277;
 
-// One byte, and the place behind it.
+// One byte, and the place after it.
 fn put_byte(text: &mut [u8], at: usize, x: u8) -> usize
     requires { ⌜ at < length (now text) ⌝ }
     ensures { λ r. ⌜ Put (now (text .entry)) at (x ∷ []) (now (text .exit)) r ⌝ }

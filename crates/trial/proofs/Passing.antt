@@ -1,4 +1,4 @@
--- Laws of the test of one combination against the simple policies of the other policy, one after another.
+-- Laws of the test of one combination against the terms of the other policy, one after another.
 use Prim.Native.Nat.{_+_, ℕ}
 use mathlib.Core.Bool.{Bool, _||_, false, true}
 use mathlib.Core.List.{List, [], _∷_}
@@ -18,7 +18,7 @@ use Rattle.subsumption.proofs.Callers.{root-tells}
 use Rattle.subsumption.specs.Tests.{DecidesAll, Testable, conjunctsAt}
 use Rattle.trial.specs.Trials.{Askable, Taker, Term}
 
--- the rest are simple policies of q, and of whatever combination the tables hold, what the rest tells is what all tell
+-- the rest are terms of q, and of whatever combination the tables hold, what the rest tells is what all tell
 pub record Rest (q w : List ℕ) (t : Tables) (s : ℕ) (l : Policy) : Type 0 where
   pub within : All (λ c. c ∈ policyOf q) l
   pub told : (K : Vocabulary) (u : Form) → Combined K u w t → any (λ c. subsumed K c (u .node) (u .successors)) l ≡ passes K (policyOf q) u
@@ -31,7 +31,7 @@ module _ (q w : List ℕ) (t : Tables) where
   pub rest-ends : (s : ℕ) → Rest q w t s [] → Taker q w t 0
   rest-ends s r = record { known = λ z. absurd (z refl); takes = λ z. absurd (z refl); none = λ z K u d. sym (r .told K u d) }
 
-  -- the simple policy at record k
+  -- the term at record k
   module _ (k : ℕ) {j : ℕ} (e : j ≡ childOf q k) where
     pub testable-term : Askable q w t → Reads q (childOf q k) (termAt q k) → Testable q w t j
     testable-term a r = record { long = a .long; individuals = a .individuals; constraints = a .constraints; reads = rw e r }

@@ -22,7 +22,7 @@ use Rattle.normal_form.specs.Tables.{Tabled}
 use Rattle.normal_form.specs.declared.Tables.{Tables}
 use Rattle.splitting.proofs.Callers.{constraints-at, constraints-kept, kept-refl, kept-trans, splittable-kept, stands-combination}
 use Rattle.splitting.proofs.Callers.{stands-lt, tabled-turned, widened-form}
-use Rattle.splitting.specs.Odometer.{Kept, Splittable, Stands, Started, Stepped, Turned, Widened, constraintsAt}
+use Rattle.splitting.specs.Odometer.{OnlyPieces, Splittable, Stands, Started, Stepped, Turned, Widened, constraintsAt}
 use Rattle.trial.proofs.Whole.{constraints-nonEmpty}
 use Rattle.trial.specs.Trials.{Askable, Triable, Tried}
 
@@ -59,7 +59,7 @@ counted Q F = count-combinations Q F
 
 -- ---- the loop
 
-askable-kept : {q w w′ : List ℕ} {t : Tables} {n : ℕ} → Kept n w w′ → Askable q w t → Askable q w′ t
+askable-kept : {q w w′ : List ℕ} {t : Tables} {n : ℕ} → OnlyPieces n w w′ → Askable q w t → Askable q w′ t
 askable-kept k a =
     let s = k .same in
     record {
@@ -83,7 +83,7 @@ left (suc k) = suc (mostCombinations - k)
 
 -- nothing but pieces has changed, and what was tried has passed, for whatever form the tables held at first
 pub record Trying (q w₀ w : List ℕ) (t : Tables) (c : ℕ) : Type 0 where
-  pub kept : Kept (t .constraints) w₀ w
+  pub kept : OnlyPieces (t .constraints) w₀ w
   pub standing : Standing (policyOf q) w (t .constraints) c
   pub going : (K : Vocabulary) (F : Form) → Tabled K F w₀ t → Going K (policyOf q) F c
 
@@ -193,7 +193,7 @@ module _ {q e w₀ : List ℕ} {t : Tables} (r : Triable q e w₀ t) where
 
 -- ---- before the first combination stands there
 
-module _ {q e w w₀ : List ℕ} {t : Tables} (r : Triable q e w t) (k : Kept (t .constraints) w w₀) where
+module _ {q e w w₀ : List ℕ} {t : Tables} (r : Triable q e w t) (k : OnlyPieces (t .constraints) w w₀) where
   pub kept-triable : Triable q e w₀ t
   kept-triable = record {
     askable = askable-kept k (r .askable);

@@ -1,4 +1,4 @@
--- Trying the combinations of a simple policy one after another: what is asked, and what the answer says.
+-- Trying the combinations of a term one after another: what is asked, and what the answer says.
 use Prim.Native.Nat.{_≤_, suc, zero, ℕ}
 use mathlib.Core.Bool.{false, true}
 use mathlib.Core.List.{List}
@@ -17,7 +17,7 @@ use Rattle.meaning.specs.Vocabulary.{Vocabulary}
 use Rattle.normal_form.specs.Tables.{Tabled, tablesEnd, termAt}
 use Rattle.normal_form.specs.declared.Tables.{Tables}
 use Rattle.splitting.specs.Ends.{Ends}
-use Rattle.splitting.specs.Odometer.{Kept, Splittable, constraintsAt}
+use Rattle.splitting.specs.Odometer.{OnlyPieces, Splittable, constraintsAt}
 
 -- the tables have an individual, and q is a policy that was accepted by some vocabulary
 pub record Askable (q w : List ℕ) (t : Tables) : Type 0 where
@@ -28,22 +28,22 @@ pub record Askable (q w : List ℕ) (t : Tables) : Type 0 where
   pub vocabulary : List ℕ
   pub accepted : policyRefusal vocabulary q ≡ 0
 
--- record k is a simple policy of q
+-- record k is a term of q
 pub record Term (q : List ℕ) (k : ℕ) : Type 0 where
   pub reads : Reads q (childOf q k) (termAt q k)
   pub within : termAt q k ∈ policyOf q
 
--- unless k is 0
+-- record k is a term of q, unless k is 0
 abbrev pub Known : List ℕ → ℕ → Type 0
 Known q k = (k ≡ 0 → ⊥) → Term q k
 
--- k is a simple policy of q that takes the combination, whichever the tables hold, by whatever vocabulary; 0: none does
+-- k is a term of q that takes the combination, whichever the tables hold, by whatever vocabulary; 0: none does
 pub record Taker (q w : List ℕ) (t : Tables) (k : ℕ) : Type 0 where
   pub known : Known q k
   pub takes : (k ≡ 0 → ⊥) → (K : Vocabulary) (u : Form) → Combined K u w t → subsumed K (termAt q k) (u .node) (u .successors) ≡ true
   pub none : k ≡ 0 → (K : Vocabulary) (u : Form) → Combined K u w t → passes K (policyOf q) u ≡ false
 
--- the tables are a simple policy's, with few enough combinations, and e has the ends of the other policy q
+-- the tables are a term's, with few enough combinations, and e has the ends of the other policy q
 pub record Triable (q e w : List ℕ) (t : Tables) : Type 0 where
   pub askable : Askable q w t
   pub splittable : Splittable w (t .constraints)
@@ -55,7 +55,7 @@ abbrev pub Failure : Vocabulary → Policy → Form → List ℕ → Tables → 
 Failure K Q F w t zero = firstFailing (passes K Q) 1 (combinations Q F) ≡ nowhere
 Failure K Q F w t (suc k) = (u : Form) × (firstFailing (passes K Q) 1 (combinations Q F) ≡ found (suc k) u) × Combined K u w t
 
--- so for whatever form the tables hold, by whatever vocabulary; nothing but pieces has changed
+-- the answer is that for whatever form the tables hold, by whatever vocabulary; nothing but pieces has changed
 pub record Tried (Q : Policy) (w w′ : List ℕ) (t : Tables) (r : ℕ) : Type 0 where
   pub told : (K : Vocabulary) (F : Form) → Tabled K F w t → Failure K Q F w′ t r
-  pub kept : Kept (t .constraints) w w′
+  pub kept : OnlyPieces (t .constraints) w w′

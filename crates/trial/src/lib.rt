@@ -1,4 +1,4 @@
-// A simple policy against the other policy: its constraints whole, else its combinations, one after another.
+// A term against the other policy: its constraints whole, else its combinations, one after another.
 use normal_form::Tables;
 use policy::child_of;
 use policy::first_term;
@@ -10,7 +10,7 @@ use subsumption::is_subsumed;
 ghost use Rattle.meaning.specs.Policy.{policyOf};
 ghost use Rattle.trial.specs.Trials.{Askable, Known, Taker, Triable, Tried};
 
-// A simple policy of q that takes the combination that the tables hold, asked from the first on, or 0.
+// A term of q that takes the combination that the tables hold, asked from the first on, or 0.
 fn first_taker(q: &[u32], work: &[u32], t: Tables) -> u32
     requires { ⌜ Askable (now q) (now work) t ⌝ }
     ensures { λ r. ⌜ Taker (now (q .entry)) (now (work .entry)) t r ⌝ }

@@ -1,4 +1,4 @@
-// Read vocabulary: records of four words behind a header, chained by links that rise.
+// Read vocabulary: records of four words after a header, chained by links that rise.
 use meaning::ClassNo;
 use meaning::FeatureNo;
 use meaning::Reading;

@@ -87,7 +87,7 @@ zeroed-words n w w′ h e z f = ext-getD 0 w′ (zeros ++ drop n w) sizes (λ i 
         let j : n + (i - n) ≡ i = omega arith in
         f i l ∙ ap (λ (x : ℕ). getD w x 0) (sym j) ∙ sym (getD-drop n w (i - n) 0) ∙ sym (getD-append-add zeros (drop n w) (i - n) 0) ∙ ap (λ (x : ℕ). getD (zeros ++ drop n w) x 0) k
 
--- where all that was worked in becomes 0, only what stands behind counts
+-- where all that was worked in becomes 0, only what stands after counts
 pub cleared-beyond : {w w₁ w₂ : List ℕ} → Beyond w w₁ → Cleared 0 workSize w₁ w₂ → w₂ ≡ zeroed workSize w
 cleared-beyond {w} {w₁} {w₂} b c =
     let s = b .size in

@@ -1,4 +1,4 @@
--- Laws of the work slice: the refusals up to 21, and what is kept while a simple policy is worked on.
+-- Laws of the work slice: the refusals up to 21, and what is kept while a term is worked on.
 use Prim.Native.Nat.{_*_, _+_, _-_, _<_, _≤_, suc, zero, ℕ}
 use mathlib.Core.Bool.{Bool, false, not, true}
 use mathlib.Core.List.{List}
@@ -11,9 +11,9 @@ use native.Mathlib.Omega.{arith}
 use borrow.Author.Tests.{le-ltb, lt-ltb}
 use Rattle.hierarchy.specs.Pairs.{Listed, pairsAt, pairsEnd}
 use Rattle.hierarchy.specs.Rows.{Closed, Ranged, roleRow}
-use Rattle.hierarchy.specs.Singles.{Singles}
+use Rattle.hierarchy.specs.FunctionalNames.{FunctionalNames}
 use Rattle.hierarchy.specs.declared.Functional.{Functional}
-use Rattle.meaning.proofs.Refusals.{cond-all, or-few, or-first, or-zero, policy-few, vocabulary-few}
+use Rattle.meaning.proofs.Refusals.{cond-all, orElse-≤, orElse-first, orElse-zero, policyRefusal-≤, vocabularyRefusal-≤}
 use Rattle.meaning.proofs.Rules.{order}
 use Rattle.meaning.proofs.Wellformed.{accepted-counts}
 use Rattle.meaning.specs.Accepted.{ChainOf}
@@ -36,7 +36,7 @@ use Rattle.workspace.specs.Work.{Beyond, Shaped, Tabulated}
 
 module _ (n w : ℕ) where
   pub refused-before : (n ≡ 0 → ⊥) → n ≡ orElse n (workRefusal w)
-  refused-before h = or-first n (workRefusal w) h
+  refused-before h = orElse-first n (workRefusal w) h
 
   pub refused-21 : n ≡ 0 → w < workSize → 21 ≡ orElse n (workRefusal w)
   refused-21 e h = rw (e, lt-ltb w workSize h)
@@ -46,30 +46,30 @@ module _ (n w : ℕ) where
 
   -- where nothing is refused, the slice is full
   pub none-before : orElse n (workRefusal w) ≡ 0 → n ≡ 0
-  none-before e = or-zero n (workRefusal w) e .0
+  none-before e = orElse-zero n (workRefusal w) e .0
 
   pub none-full : orElse n (workRefusal w) ≡ 0 → workSize ≤ w
-  none-full e = go (order w workSize) (or-zero n (workRefusal w) e .1)
+  none-full e = go (order w workSize) (orElse-zero n (workRefusal w) e .1)
     where
       go : (w < workSize) ⊎ (workSize ≤ w) → workRefusal w ≡ 0 → workSize ≤ w
       go (inl h) z = absurd (let y = lt-ltb w workSize h in let x : _≡_ {A = ℕ} 21 0 = rw y at z in omega arith)
       go (inr h) z = h
 
 -- the numbers up to 21
-pub input-few : (v p q : List ℕ) → inputRefusal v p q ≤ 18
+pub inputRefusal-≤ : (v p q : List ℕ) → inputRefusal v p q ≤ 18
 unfolding inputRefusal
-input-few v p q =
-    or-few 18 (vocabularyRefusal v) (orElse (policyRefusal v p) (secondRefusal (policyRefusal v q))) (let a = vocabulary-few v in omega arith)
-    (or-few 18 (policyRefusal v p) (secondRefusal (policyRefusal v q)) (let a = policy-few v p in omega arith) (go (policyRefusal v q) (policy-few v q)))
+inputRefusal-≤ v p q =
+    orElse-≤ 18 (vocabularyRefusal v) (orElse (policyRefusal v p) (secondRefusal (policyRefusal v q))) (let a = vocabularyRefusal-≤ v in omega arith)
+    (orElse-≤ 18 (policyRefusal v p) (secondRefusal (policyRefusal v q)) (let a = policyRefusal-≤ v p in omega arith) (go (policyRefusal v q) (policyRefusal-≤ v q)))
   where
     go : (n : ℕ) → n ≤ 8 → secondRefusal n ≤ 18
     go zero h = omega arith
     go (suc n) h = omega arith
 
-pub work-few : (w : ℕ) → workRefusal w ≤ 21
-work-few w = cond-all (λ n. n ≤ 21) (ltb w workSize) (omega arith) (omega arith)
+pub workRefusal-≤ : (w : ℕ) → workRefusal w ≤ 21
+workRefusal-≤ w = cond-all (λ n. n ≤ 21) (ltb w workSize) (omega arith) (omega arith)
 
--- ---- what stands behind
+-- ---- what stands after
 
 pub beyond-same : {w : List ℕ} → Beyond w w
 beyond-same = record { size = refl; rest = λ i h. refl }
@@ -106,16 +106,16 @@ module _ (v w : List ℕ) (a : vocabularyRefusal v ≡ 0) (full : workSize ≤ l
                   ∙ behind (classCount v * classWords) w w₁ (c .rest) i (omega arith);
             }
 
-        pub prepared-once : {f : Functional} → Singles v f → Prepared v w₃ f
+        pub prepared-once : {f : Functional} → FunctionalNames v f → Prepared v w₃ f
         prepared-once s = record {
           accepted = a;
           closed = closed-kept w₂ w₃ (l .size) (l .before) a (r .closed);
           ranged = ranged-kept w₂ w₃ (l .size) (l .before) a (r .ranged);
           paired = l .listed;
-          singles = s;
+          functional = s;
         }
 
--- ---- one simple policy
+-- ---- one term
 
 -- with another flag
 flagged : {K : Vocabulary} {t : Form} {w : List ℕ} {r u : Tables} → u .individuals ≡ r .individuals → u .constraints ≡ r .constraints → Tabled K t w r → Tabled K t w u
@@ -130,24 +130,24 @@ module _ {f : Functional} {d : Chain} {w w′ : List ℕ} {r : Tables} (full : w
   unfolding possible
   shaped b bar out fill = record {
     tabled = λ v g o. flagged refl refl (n .tabled v g o);
-    bottomHere = bar;
-    unbarred = λ v e. rw (sym (n .bottom) ∙ out e);
-    filled = fill;
+    never = bar;
+    clean = λ v e. rw (sym (n .bottom) ∙ out e);
+    nonEmpty = fill;
     most = n .most;
     pairs = n .before pairsAt (omega arith);
     prepared = λ v g. prepared-same (n .same) (n .before) g;
     beyond = record { size = n .same; rest = λ i h. n .behind i (omega arith) };
   }
 
-  pub shape-blocked : r .impossible ≡ true → Shaped d f w w′ r
+  pub shape-impossible : r .impossible ≡ true → Shaped d f w w′ r
   unfolding possible
-  shape-blocked e =
+  shape-impossible e =
       subst (λ (b : Bool). Shaped d f w w′ (barring b)) (sym e)
       (shaped true (λ v g o h. rw (sym (n .bottom) ∙ e)) (λ h. absurd (let z : _≡_ {A = ℕ} 0 1 = cc in omega arith)) (λ h. absurd (let z : _≡_ {A = ℕ} 0 1 = cc in omega arith)))
 
-  pub shape-filled : {b : Bool} → r .impossible ≡ false → b ≡ all (nonEmptyAt w′) (counting 0 (r .constraints)) → Shaped d f w w′ (barring (not b))
+  pub shape-nonEmpty : {b : Bool} → r .impossible ≡ false → b ≡ all (nonEmptyAt w′) (counting 0 (r .constraints)) → Shaped d f w w′ (barring (not b))
   unfolding possible
-  shape-filled {b} e h = go b h
+  shape-nonEmpty {b} e h = go b h
     where
       go : (b : Bool) → b ≡ all (nonEmptyAt w′) (counting 0 (r .constraints)) → Shaped d f w w′ (barring (not b))
       go true h = shaped false (λ v g o y. absurd (let z : _≡_ {A = ℕ} 0 1 = cc in omega arith)) (λ y. e) (λ y. sym h)
@@ -158,11 +158,11 @@ module _ {f : Functional} {d : Chain} {w w′ : List ℕ} {r : Tables} (n : Shap
       Tabulated d f w w′ (record { individuals = r .individuals; constraints = r .constraints; impossible = b })
   told b e = record { impossible = e; tabled = λ v g o. flagged refl refl (n .tabled v g o); most = n .most; prepared = n .prepared; beyond = n .beyond }
 
-  pub term-blocked : r .impossible ≡ true → Tabulated d f w w′ r
-  term-blocked e =
+  pub term-impossible : r .impossible ≡ true → Tabulated d f w w′ r
+  term-impossible e =
       subst (λ (b : Bool). Tabulated d f w w′ (record { individuals = r .individuals; constraints = r .constraints; impossible = b })) (sym e)
-      (told true (λ v g o. ap not (sym (n .bottomHere v g o e))))
+      (told true (λ v g o. ap not (sym (n .never v g o e))))
 
   pub term-clean : {b : Bool} → r .impossible ≡ false → DecidesClean w′ r b →
       Tabulated d f w w′ (record { individuals = r .individuals; constraints = r .constraints; impossible = not b })
-  term-clean {b} e h = told (not b) (λ v g o. ap not (h v (normalForm (vocabularyOf v) d) (n .prepared v g .paired) (n .tabled v g o) ∙ sym (n .unbarred v e)))
+  term-clean {b} e h = told (not b) (λ v g o. ap not (h v (normalForm (vocabularyOf v) d) (n .prepared v g .paired) (n .tabled v g o) ∙ sym (n .clean v e)))

@@ -1,4 +1,4 @@
--- The walk over the simple policies of an accepted policy, for whatever is asked of them one after another.
+-- The walk over the terms of an accepted policy, for whatever is asked of them one after another.
 use Prim.Native.Nat.{_+_, _<_, _≤_, suc, ℕ}
 use mathlib.Core.List.{List, [], _∷_}
 use mathlib.Core.Path.{_≡_, subst, sym}
@@ -17,7 +17,7 @@ use Rattle.meaning.specs.Vocabulary.{vocabularyRefusal}
 use Rattle.normal_form.proofs.Callers.{term-fits}
 use Rattle.normal_form.specs.Tables.{Fit, termAt}
 
--- the simple policies from record k on, the first of them at the place s, are still to be asked, and T holds of them
+-- the terms from record k on, the first of them at the place s, are still to be asked, and T holds of them
 pub record Asking (T : ℕ → Policy → Type 0) (v p : List ℕ) (s k : ℕ) : Type 0 where
   pub left : Policy
   pub reads : ReadsTerms p k left

@@ -1,4 +1,4 @@
--- What a call may do to the work slice, and what the slice holds of one simple policy.
+-- What a call may do to the work slice, and what the slice holds of one term.
 use Prim.Native.Nat.{_+_, _<_, _≤_, ℕ}
 use mathlib.Core.Bool.{false, not, true}
 use mathlib.Core.List.{List}
@@ -16,7 +16,7 @@ use Rattle.normal_form.specs.Clean.{cleanForm, nonEmptyAt}
 use Rattle.normal_form.specs.Tables.{Prepared, Tabled}
 use Rattle.normal_form.specs.declared.Tables.{Tables}
 
--- the words behind the first 16,384 are as they were
+-- the words after the first 16,384 are as they were
 pub record Beyond (w w′ : List ℕ) : Type 0 where
   pub size : length w′ ≡ length w
   pub rest : (i : ℕ) → workSize ≤ i → getD w′ i 0 ≡ getD w i 0
@@ -27,7 +27,7 @@ pub record Only (at n : ℕ) (w w′ : List ℕ) : Type 0 where
   pub before : (i : ℕ) → i < at → getD w′ i 0 ≡ getD w i 0
   pub behind : (i : ℕ) → at + n ≤ i → getD w′ i 0 ≡ getD w i 0
 
--- and these, which w has, are 0
+-- w′ is w but for n words from a place on, which w has and which are 0
 pub record Cleared (at n : ℕ) (w w′ : List ℕ) : Type 0 where
   pub fits : at + n ≤ length w
   pub only : Only at n w w′
@@ -46,9 +46,9 @@ pub record Accepting (v p w : List ℕ) (f : Functional) : Type 0 where
 -- impossible, else each constraint has a value, and the term is possible where rules 3 and 7 find nothing
 pub record Shaped (c : Chain) (f : Functional) (w w′ : List ℕ) (r : Tables) : Type 0 where
   pub tabled : (v : List ℕ) → Prepared v w f → ChainOf v c → Tabled (vocabularyOf v) (normalForm (vocabularyOf v) c) w′ r
-  pub bottomHere : (v : List ℕ) → Prepared v w f → ChainOf v c → r .impossible ≡ true → possible (vocabularyOf v) c ≡ false
-  pub unbarred : (v : List ℕ) → r .impossible ≡ false → possible (vocabularyOf v) c ≡ cleanForm (vocabularyOf v) (normalForm (vocabularyOf v) c)
-  pub filled : r .impossible ≡ false → all (nonEmptyAt w′) (counting 0 (r .constraints)) ≡ true
+  pub never : (v : List ℕ) → Prepared v w f → ChainOf v c → r .impossible ≡ true → possible (vocabularyOf v) c ≡ false
+  pub clean : (v : List ℕ) → r .impossible ≡ false → possible (vocabularyOf v) c ≡ cleanForm (vocabularyOf v) (normalForm (vocabularyOf v) c)
+  pub nonEmpty : r .impossible ≡ false → all (nonEmptyAt w′) (counting 0 (r .constraints)) ≡ true
   pub most : (r .individuals ≤ mostRecords) × (r .constraints ≤ mostRecords)
   pub pairs : pairCount w′ ≡ pairCount w
   pub prepared : Stays f w w′

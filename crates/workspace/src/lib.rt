@@ -1,4 +1,4 @@
-// The work slice through a call: what is prepared once, one simple policy's tables, and the words that are left 0.
+// The work slice through a call: what is prepared once, one term's tables, and the words that are left 0.
 use hierarchy::Functional;
 use meaning::limits::WORK_SIZE;
 use normal_form::Tables;
@@ -50,7 +50,7 @@ pub fn prepare(v: &[u32], work: &mut [u32]) -> Functional
     Functional::of(v)
 }
 
-// The normal form of the simple policy at record k in the tables, and whether rules 1 to 3 make it impossible: no look at the pairs.
+// The normal form of the term at record k in the tables, and whether rules 1 to 3 make it impossible: no look at the pairs.
 pub fn shape(p: &[u32], work: &mut [u32], f: Functional, k: u32) -> Tables
     requires { ⌜ (workSize ≤ length (now work)) × Fit (now p) (now work) k ⌝ }
     ensures { λ r. ⌜ Shaped (termAt (now (p .entry)) k) f (now (work .entry)) (now (work .exit)) r ⌝ }
@@ -59,11 +59,11 @@ pub fn shape(p: &[u32], work: &mut [u32], f: Functional, k: u32) -> Tables
     if t.impossible {
         return t;
     }
-    let filled = are_nonempty(work, t.constraints);
+    let nonempty = are_nonempty(work, t.constraints);
     Tables {
         individuals: t.individuals,
         constraints: t.constraints,
-        impossible: !filled,
+        impossible: !nonempty,
     }
 }
 

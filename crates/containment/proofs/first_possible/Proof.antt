@@ -1,4 +1,4 @@
--- `first_possible`: at record k the simple policies from k on are still to be asked, by whatever vocabulary, and what was prepared is still
+-- `first_possible`: at record k the terms from k on are still to be asked, by whatever vocabulary, and what was prepared is still
 -- there. Some vocabulary is there, so that all is in place.
 use Prim.Native.Nat.{ℕ}
 use mathlib.Core.List.{List}

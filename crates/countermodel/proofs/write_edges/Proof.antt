@@ -1,4 +1,4 @@
--- `write_edges`: at row j its edge and those of the rows behind it are left.
+-- `write_edges`: at row j its edge and those of the rows after it are left.
 use borrow.Author.Needs.{needs}
 use mathlib.Core.Path.{refl}
 use native.Mathlib.Omega.{arith}

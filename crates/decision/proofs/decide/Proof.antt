@@ -1,4 +1,4 @@
--- `decide`: at record k the simple policies from k on are still to be tried, by whatever vocabulary, what was prepared is still there, and
+-- `decide`: at record k the terms from k on are still to be tried, by whatever vocabulary, what was prepared is still there, and
 -- nothing is written. Some vocabulary is there, so that all is in place.
 use Prim.Native.Nat.{ℕ}
 use mathlib.Core.List.{List}

@@ -1,4 +1,4 @@
--- `has_too_many`: at record k the simple policies from k on are still to be counted, by whatever vocabulary, and what was prepared is still
+-- `has_too_many`: at record k the terms from k on are still to be counted, by whatever vocabulary, and what was prepared is still
 -- there. Some vocabulary is there, so that all is in place.
 use Prim.Native.Nat.{_+_, ℕ}
 use mathlib.Core.List.{List}

@@ -6,7 +6,7 @@ use Rattle.extension.proofs.Policies.{first-in, first-out, term-charted
 use Rattle.extension.proofs.Settling.{filled-ready}
 use Rattle.extension.proofs.is_in_some.Statement.{statement}
 use Rattle.extension.specs.Places.{setsAt, setsSize}
-use Rattle.extension.specs.Sets.{Ready}
+use Rattle.extension.specs.Sets.{Fillable}
 use Rattle.meaning.specs.Model.{factsOf}
 use Rattle.meaning.specs.ModelCheck.{isIn}
 use Rattle.meaning.specs.Policy.{Policy, policyOf}
@@ -21,7 +21,7 @@ abbrev Rest : List ℕ → List ℕ → ℕ → Policy → Type 0
 Rest p m s l = isIn (factsOf m) l 1 ≡ isIn (factsOf m) (policyOf p) 1
 
 abbrev Inv-loop : tie.InvT-loop
-Inv-loop p m work₀ k₀ work k = ((v : List ℕ) × (s : ℕ) × Asking (Rest p m) v p s k) × Ready m work × Only setsAt setsSize work₀ work
+Inv-loop p m work₀ k₀ work k = ((v : List ℕ) × (s : ℕ) × Asking (Rest p m) v p s k) × Fillable m work × Only setsAt setsSize work₀ work
 
 abbrev μ-loop : tie.MeasureT-loop
 μ-loop p m work₀ k₀ work k = falling (lastOf 6 p) k

@@ -1,5 +1,5 @@
 use borrow.Author.Needs.{needs}
-use Rattle.extension.proofs.Facts.{no-value, value-from, value-other, value-under}
+use Rattle.extension.proofs.Facts.{no-value, value-other, value-within}
 use Rattle.extension.proofs.is_value_within.Statement.{statement}
 use Rattle.extension.proofs.is_value_within.Tie as tie
 
@@ -18,14 +18,7 @@ returns-3 c =
     let args = c .before .before .before .before .before .before .before .args in
     let fact-kind = c .before .before .before .before .before .fact-kind in
     let if1 = c .before .before .before .before .if1 in
-    value-from (args .m .now) (args .f) (fact-kind .ensures) (args .a) (args .lo) (args .hi) (if1 .left) (c .before .before .before .fact-name .ensures) (c .before .before .if2 .left) (c .before .fact-other .ensures) (c .if3 .taken)
-
-returns-4 : tie.Need-returns-4
-returns-4 c =
-    let args = c .before .before .before .before .before .before .before .args in
-    let fact-kind = c .before .before .before .before .before .fact-kind in
-    let if1 = c .before .before .before .before .if1 in
-    value-under (args .m .now) (args .f) (fact-kind .ensures) (args .a) (args .lo) (args .hi) (if1 .left) (c .before .before .before .fact-name .ensures) (c .before .before .if2 .left) (c .before .fact-other .ensures) (c .if3 .left)
+    value-within (args .m .now) (args .f) (fact-kind .ensures) (args .a) (args .lo) (args .hi) (if1 .left) (c .before .before .before .fact-name .ensures) (c .before .before .if2 .left) (c .before .fact-other .ensures) (c .is-within .ensures)
 
 pub is-value-within-spec : {M : Type 1} → statement M
 is-value-within-spec =
@@ -36,5 +29,5 @@ is-value-within-spec =
     (λ c κs. search needs)
     returns-2
     (λ c κs. search needs)
-    returns-3
-    returns-4)
+    (λ c κs. search needs)
+    returns-3)

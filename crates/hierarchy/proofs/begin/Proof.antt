@@ -5,7 +5,7 @@ use mathlib.Core.List.{List}
 use mathlib.Core.Path.{_∙_, _≡_, ap, refl}
 use native.Mathlib.Omega.{arith}
 use Rattle.hierarchy.proofs.Passes.{begun-length}
-use Rattle.hierarchy.proofs.Steps.{filled-more, filled-none}
+use Rattle.hierarchy.proofs.Steps.{fillRows-more, fillRows-none}
 use Rattle.hierarchy.proofs.begin.Statement.{statement}
 use Rattle.hierarchy.specs.Rows.{begun, empty}
 use Rattle.words.specs.Sets.{including}
@@ -18,14 +18,14 @@ abbrev μ-loop : tie.MeasureT-loop
 μ-loop work₀ n i₀ work i = n - i
 
 loop-holds : tie.Need-loop-holds Inv-loop μ-loop
-loop-holds c = (omega arith, refl, filled-none 0 (including empty) (c .before .args .work .now))
+loop-holds c = (omega arith, refl, fillRows-none 0 (including empty) (c .before .args .work .now))
 
 loop-again : tie.Need-loop-again Inv-loop μ-loop
 loop-again c =
     let l = c .before .before .before .before .before .before .before .before .loop in
     let w₀ = c .before .before .before .before .before .before .before .before .before .before .args .work .now in
     let alone = c .before .before .before .before .before .with .ensures .0 ∙ ap (λ (z : List ℕ). including z (l .i + 1)) (c .before .before .before .before .before .before .new .ensures .0) in
-    let more = filled-more 0 (including empty) w₀ {at = c .before .before .before .row-at .result} (l .i) (l .inv .2) alone (omega (arith, c .before .before .before .row-at .ensures)) (c .before .before .store .ensures) in
+    let more = fillRows-more 0 (including empty) w₀ {at = c .before .before .before .row-at .result} (l .i) (l .inv .2) alone (omega (arith, c .before .before .before .row-at .ensures)) (c .before .before .store .ensures) in
     (omega arith, ap length more ∙ begun-length (l .i + 1) w₀ (omega (arith, c .before .before .before .before .before .before .before .before .before .before .pre)), more)
 
 returns : tie.Need-returns Inv-loop μ-loop

@@ -3,8 +3,8 @@ use borrow.Author.Needs.{needs}
 use lib.ListN.{length}
 use mathlib.Core.Path.{_∙_, _≡_, ap, refl}
 use native.Mathlib.Omega.{arith}
-use Rattle.hierarchy.proofs.Rows.{filled-length}
-use Rattle.hierarchy.proofs.Steps.{filled-more, filled-none}
+use Rattle.hierarchy.proofs.Rows.{fillRows-length}
+use Rattle.hierarchy.proofs.Steps.{fillRows-more, fillRows-none}
 use Rattle.hierarchy.proofs.empty_ranges.Statement.{statement}
 use Rattle.hierarchy.specs.Rows.{emptied, empty}
 use Rattle.meaning.specs.Limits.{mostClasses}
@@ -17,14 +17,14 @@ abbrev μ-loop : tie.MeasureT-loop
 μ-loop work₀ n i₀ work i = n - i
 
 loop-holds : tie.Need-loop-holds Inv-loop μ-loop
-loop-holds c = (omega arith, refl, filled-none mostClasses (λ r. empty) (c .before .args .work .now))
+loop-holds c = (omega arith, refl, fillRows-none mostClasses (λ r. empty) (c .before .args .work .now))
 
 loop-again : tie.Need-loop-again Inv-loop μ-loop
 loop-again c =
     let l = c .before .before .before .before .before .before .before .loop in
     let w₀ = c .before .before .before .before .before .before .before .before .before .args .work .now in
-    let more = filled-more mostClasses (λ r. empty) w₀ (l .i) (l .inv .2) (c .before .before .before .before .before .new .ensures .0) (c .before .before .before .row-at .ensures) (c .before .before .store .ensures) in
-    (omega arith, ap length more ∙ filled-length mostClasses (λ r. empty) (λ r. refl) w₀ (l .i + 1) (omega (arith, c .before .before .before .before .before .before .before .before .before .pre .1)), more)
+    let more = fillRows-more mostClasses (λ r. empty) w₀ (l .i) (l .inv .2) (c .before .before .before .before .before .new .ensures .0) (c .before .before .before .row-at .ensures) (c .before .before .store .ensures) in
+    (omega arith, ap length more ∙ fillRows-length mostClasses (λ r. empty) (λ r. refl) w₀ (l .i + 1) (omega (arith, c .before .before .before .before .before .before .before .before .before .pre .1)), more)
 
 returns : tie.Need-returns Inv-loop μ-loop
 returns c =

@@ -1,4 +1,4 @@
--- `is_exact`: the places of the parts, one behind the other.
+-- `is_exact`: the places of the parts, one after the other.
 use borrow.Author.Needs.{needs}
 use Rattle.input.proofs.Words.{exact-parts}
 use Rattle.input.proofs.is_exact.Statement.{statement}

@@ -1,4 +1,4 @@
--- `part`: from behind the word count to the next part.
+-- `part`: from after the word count to the next part.
 use borrow.Author.Needs.{needs}
 use Rattle.input.proofs.Words.{part-taken}
 use Rattle.input.proofs.part.Statement.{statement}

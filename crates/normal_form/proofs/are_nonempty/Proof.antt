@@ -1,7 +1,7 @@
 use borrow.Author.Needs.{needs}
-use borrow.Author.Tests.{le-leb, lt-leb}
+use borrow.Author.Tests.{not-false, not-true}
 use Prim.Native.Nat.{_-_, _≤_}
-use mathlib.Core.Path.{_≡_}
+use mathlib.Core.Path.{_∙_, _≡_, sym}
 use Rattle.meaning.specs.Lists.{all, counting}
 use Rattle.normal_form.proofs.Cleanness.{test-ends, test-fails, test-on, test-starts}
 use Rattle.normal_form.proofs.are_nonempty.Statement.{statement}
@@ -16,20 +16,20 @@ abbrev μ-loop : tie.MeasureT-loop
 
 returns : tie.Need-returns Inv-loop μ-loop
 returns c =
-    let l = c .before .before .before .before .loop in
-    let a = c .before .before .before .before .before .args in
-    test-fails (nonEmptyAt (a .work .now)) (a .n) (l .i) (l .inv .1) (c .before .before .before .loop-test .taken) (lt-leb _ _ (c .if1 .taken))
+    let l = c .before .before .before .before .before .loop in
+    let a = c .before .before .before .before .before .before .before .args in
+    test-fails (nonEmptyAt (a .work .now)) (a .n) (l .i) (l .inv .1) (c .before .before .before .before .loop-test .taken) (sym (c .before .is-nonempty .ensures) ∙ not-true _ (c .if1 .taken))
 
 loop-again : tie.Need-loop-again Inv-loop μ-loop
 loop-again c =
-    let l = c .before .before .before .before .loop in
-    let a = c .before .before .before .before .before .args in
-    (search needs, test-on (nonEmptyAt (a .work .now)) (a .n) (l .i) (l .inv .1) (c .before .before .before .loop-test .taken) (le-leb _ _ (c .if1 .left)))
+    let l = c .before .before .before .before .before .loop in
+    let a = c .before .before .before .before .before .before .before .args in
+    (search needs, test-on (nonEmptyAt (a .work .now)) (a .n) (l .i) (l .inv .1) (c .before .before .before .before .loop-test .taken) (sym (c .before .is-nonempty .ensures) ∙ not-false _ (c .if1 .left)))
 
 returns-2 : tie.Need-returns-2 Inv-loop μ-loop
 returns-2 c =
     let l = c .before .loop in
-    let a = c .before .before .args in
+    let a = c .before .before .before .args in
     test-ends (nonEmptyAt (a .work .now)) (a .n) (l .i) (l .inv .1) (c .loop-test .left)
 
 pub are-nonempty-spec : {M : Type 1} → statement M
@@ -38,9 +38,10 @@ are-nonempty-spec =
     (tie.spec
     Inv-loop
     μ-loop
-    (λ c. (search needs, test-starts (nonEmptyAt (c .args .work .now)) (c .args .n)))
+    (λ c. (search needs, test-starts (nonEmptyAt (c .before .args .work .now)) (c .before .args .n)))
     (λ c. search needs) (λ c. search needs) (λ c. search needs) (λ c. search needs)
     (λ c. search needs) (λ c. search needs) (λ c. search needs) (λ c. search needs)
+    (λ c κs. search needs)
     returns
     (λ c. search needs)
     (λ c. search needs)

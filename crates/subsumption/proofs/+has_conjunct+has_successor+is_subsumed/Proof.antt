@@ -14,7 +14,7 @@ use Rattle.subsumption.proofs.+has_conjunct+has_successor+is_subsumed.{
 use Rattle.subsumption.proofs.+has_conjunct+has_successor+is_subsumed.Tie.{close}
 use Rattle.subsumption.proofs.Conjuncts.{all-told, child-falls, child-testable, class-told, impossible-told, interval-told}
 use Rattle.subsumption.proofs.Conjuncts.{next-falls, next-testable, one-fails, one-holds, some-told}
-use Rattle.subsumption.proofs.Walks.{TellsFrom, next-least, walk-ends, walk-found, walk-on, walk-starts}
+use Rattle.subsumption.proofs.Walks.{DecidesFrom, next-least, walk-ends, walk-found, walk-on, walk-starts}
 use Rattle.subsumption.specs.Tests.{DecidesAll, DecidesSome, Testable}
 use Rattle.subsumption.proofs.has_conjunct.Reads as has-conjunct
 use Rattle.subsumption.proofs.has_conjunct.Kinds as has-conjunct-kinds
@@ -83,7 +83,7 @@ is-subsumed-below t =
 
 -- whoever knows the answer from row j on knows the whole
 abbrev has-successor-Inv-loop : has-successor-lts.InvT-loop
-has-successor-Inv-loop q work t k x r n j₀ j = (b : Bool) → TellsFrom q work t k x r j b → DecidesSome q work t k x r b
+has-successor-Inv-loop q work t k x r n j₀ j = (b : Bool) → DecidesFrom q work t k x r j b → DecidesSome q work t k x r b
 
 abbrev has-successor-μ-loop : has-successor-lts.MeasureT-loop
 has-successor-μ-loop q work t k x r n j₀ j = n - j

@@ -21,7 +21,7 @@ returns c =
     let a = c .before .before .before .before .before .args in
     let l = c .before .before .before .loop in
     some-found (a .work .now) (a .x) (a .f) (a .lo) (a .hi) (a .n) (l .m) (l .inv .1) (c .before .before .loop-test .taken)
-    (c .before .is-inside .ensures) (c .if1 .taken)
+    (c .before .is-piece-inside .ensures) (c .if1 .taken)
 
 loop-again : tie.Need-loop-again Inv-loop μ-loop
 loop-again c =
@@ -29,7 +29,7 @@ loop-again c =
     let l = c .before .before .before .loop in (
       search needs,
       some-on (a .work .now) (a .x) (a .f) (a .lo) (a .hi) (a .n) (l .m) (l .inv .1) (c .before .before .loop-test .taken)
-          (c .before .is-inside .ensures) (c .if1 .left),
+          (c .before .is-piece-inside .ensures) (c .if1 .left),
     )
 
 returns-2 : tie.Need-returns-2 Inv-loop μ-loop

@@ -1,4 +1,4 @@
--- `first_taker`: at record k the simple policies from k on are still to be asked.
+-- `first_taker`: at record k the terms from k on are still to be asked.
 use Prim.Native.Nat.{_+_, ℕ}
 use mathlib.Core.List.{List}
 use native.Mathlib.Omega.{arith}

@@ -1,5 +1,5 @@
 use native.Mathlib.Omega.{arith}
-use Rattle.workspace.proofs.Laws.{shape-blocked, shape-filled}
+use Rattle.workspace.proofs.Laws.{shape-impossible, shape-nonEmpty}
 use Rattle.workspace.proofs.shape.Statement.{statement}
 use Rattle.workspace.proofs.shape.Tie as tie
 
@@ -16,7 +16,7 @@ shape-spec =
     (tie.spec
     (λ c κs. c .before .before .before .pre .1)
     (λ c. c .before .before .before .normalise .ensures .same)
-    (λ c. shape-blocked (c .before .before .before .before .before .before .before .pre .0) (c .before .before .before .normalise .ensures) (c .if1 .taken))
+    (λ c. shape-impossible (c .before .before .before .before .before .before .before .pre .0) (c .before .before .before .normalise .ensures) (c .if1 .taken))
     are-nonempty-requires
     (λ c. c .before .before .before .before .before .normalise .ensures .same)
-    (λ c. shape-filled (c .before .before .before .before .before .before .before .before .before .pre .0) (c .before .before .before .before .before .normalise .ensures) (c .before .before .if1 .left) (c .are-nonempty .ensures)))
+    (λ c. shape-nonEmpty (c .before .before .before .before .before .before .before .before .before .pre .0) (c .before .before .before .before .before .normalise .ensures) (c .before .before .if1 .left) (c .are-nonempty .ensures)))

@@ -1,5 +1,5 @@
 use native.Mathlib.Omega.{arith}
-use Rattle.workspace.proofs.Laws.{term-blocked, term-clean}
+use Rattle.workspace.proofs.Laws.{term-impossible, term-clean}
 use Rattle.workspace.proofs.tabulate.Statement.{statement}
 use Rattle.workspace.proofs.tabulate.Tie as tie
 
@@ -17,7 +17,7 @@ tabulate-spec =
     (tie.spec
     (λ c κs. (c .before .before .before .pre .0, c .before .before .before .pre .1))
     (λ c. c .before .before .before .shape .ensures .beyond .size)
-    (λ c. term-blocked (c .before .before .before .shape .ensures) (c .if1 .taken))
+    (λ c. term-impossible (c .before .before .before .shape .ensures) (c .if1 .taken))
     is-clean-requires
     (λ c. c .before .before .before .before .before .shape .ensures .beyond .size)
     (λ c. term-clean (c .before .before .before .before .before .shape .ensures) (c .before .before .if1 .left) (c .is-clean .ensures)))

@@ -1,6 +1,6 @@
 use borrow.Author.Needs.{needs}
 use Rattle.hierarchy.proofs.Functional.marked.Statement.{statement}
-use Rattle.hierarchy.proofs.Singles.{marked-feature, marked-other, marked-role}
+use Rattle.hierarchy.proofs.FunctionalNames.{marked-feature, marked-other, marked-role}
 use Rattle.hierarchy.proofs.Functional.marked.Tie as tie
 
 pub marked-spec : {M : Type 1} → statement M

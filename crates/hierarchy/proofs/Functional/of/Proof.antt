@@ -1,7 +1,7 @@
 use borrow.Author.Needs.{needs}
 use Rattle.hierarchy.proofs.Functional.of.Statement.{statement}
-use Rattle.hierarchy.proofs.Singles.{marked-all}
-use Rattle.hierarchy.specs.Singles.{marked}
+use Rattle.hierarchy.proofs.FunctionalNames.{marked-all}
+use Rattle.hierarchy.specs.FunctionalNames.{marked}
 use Rattle.meaning.specs.Records.{falling, lastOf}
 use Rattle.vocabulary.proofs.Chain.{Walking, walking-ends, walking-falls, walking-on, walking-starts}
 use Rattle.hierarchy.proofs.Functional.of.Tie as tie

@@ -7,7 +7,7 @@ use mathlib.Core.List.{List, [], _∷_, foldl, foldl-append}
 use mathlib.Core.Path.{_∙_, _≡_, ap, refl, sym}
 use native.Mathlib.Omega.{arith}
 use borrow.Author.Tests.{eqb-true}
-use Rattle.hierarchy.specs.Singles.{Singles, marked, withFeature, withRole}
+use Rattle.hierarchy.specs.FunctionalNames.{FunctionalNames, marked, withFeature, withRole}
 use Rattle.hierarchy.specs.declared.Functional.{Functional}
 use Rattle.meaning.proofs.Rules.{all-of, any-in, any-mono, eqb-of, head, tail}
 use Rattle.meaning.proofs.Stated.{all-stated, functionalFeatureName-at, functionalFeatureName-other, functionalRoleName-at}
@@ -66,7 +66,7 @@ module _ (v : List ℕ) (r : vocabularyRefusal v ≡ 0) where
       (n .0, omega (arith, n .1, accepted-counts v r .2)))
 
   -- `of`: from no names
-  pub marked-all : {s : Functional} → s ≡ foldl marked (record { roles = replicate 2 0; features = replicate 2 0 }) (vocabularyOf v .axioms) → Singles v s
+  pub marked-all : {s : Functional} → s ≡ foldl marked (record { roles = replicate 2 0; features = replicate 2 0 }) (vocabularyOf v .axioms) → FunctionalNames v s
   unfolding isFunctionalRole isFunctionalFeature functionalRoles functionalFeatures
   marked-all e = rw e (
       let start : Functional = record { roles = replicate 2 0; features = replicate 2 0 } in

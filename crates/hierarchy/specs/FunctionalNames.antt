@@ -8,7 +8,7 @@ use Rattle.meaning.specs.Vocabulary.{Axiom, vocabularyOf}
 use Rattle.words.specs.Sets.{inSet, including}
 
 -- the names are those of v
-pub record Singles (v : List ℕ) (s : Functional) : Type 0 where
+pub record FunctionalNames (v : List ℕ) (s : Functional) : Type 0 where
   pub role : (r : ℕ) → inSet (s .roles) r ≡ isFunctionalRole (vocabularyOf v) r
   pub feature : (f : ℕ) → inSet (s .features) f ≡ isFunctionalFeature (vocabularyOf v) f
 
