@@ -11,6 +11,7 @@ use Rattle.countermodel.specs.Facts.{Standing, edgeFacts, edgesFrom, fac
 use Rattle.countermodel.specs.Facts.{valueFacts}
 use Rattle.meaning.specs.Countermodel.{insertPair, pairBefore, pairs, samePair}
 use Rattle.meaning.specs.Intervals.{Constraint}
+use Rattle.meaning.specs.Limits.{mostClasses}
 use Rattle.meaning.specs.Model.{edge, member}
 use Rattle.normal_form.specs.Clean.{setAt}
 use Rattle.normal_form.specs.Tables.{individualPlace}
@@ -47,7 +48,7 @@ members-length : (w : List ℕ) (i : ℕ) → length (memberFacts w i) ≡ lengt
 unfolding memberFacts
 members-length w i = length-map (members (setAt w i)) (λ c. member c (i + 1))
 
-members-most : (w : List ℕ) (i : ℕ) → length (members (setAt w i)) ≤ 256
+members-most : (w : List ℕ) (i : ℕ) → length (members (setAt w i)) ≤ mostClasses
 members-most w i = omega (arith, members-few (setAt w i), length-take classWords (drop (individualPlace i + 2) w))
 
 pub values-most : (w : List ℕ) (n x : ℕ) → length (valueFacts w n x) ≤ n

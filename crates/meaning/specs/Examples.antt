@@ -4,8 +4,8 @@ use Prim.Native.String.{String}
 use mathlib.Core.List.{List, [], _++_, _∷_, map}
 use mathlib.Core.Path.{_≡_}
 use lib.ListN.{length}
-use Rattle.meaning.specs.Answers.{Answer, CheckResult, ComparisonResult, PossibilityResult, ReadingResult, VerdictResult, accepted, compliant}
-use Rattle.meaning.specs.Answers.{differs, equal, firstPossible, no, nonePossible, outside, refused, result, yes}
+use Rattle.meaning.specs.Answers.{Answer, CheckResult, ComparisonResult, PossibilityResult, ReadingResult, VerdictResult}
+use Rattle.meaning.specs.Answers.{accepted, compliant, differs, equal, firstPossible, no, nonePossible, outside, refused, result, yes}
 use Rattle.meaning.specs.Limits.{outputSize, workSize}
 use Rattle.meaning.specs.Lists.{flatMap}
 use Rattle.meaning.specs.NormalForm.{normalForm}

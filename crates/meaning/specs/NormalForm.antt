@@ -24,7 +24,8 @@ pub record Form : Type 0 where
   pub node : Node
   pub successors : Successors
 
--- rule 5: "Merged functional conjuncts stand at the first one's place"; "Equal conjuncts of a .. feature that is not functional stay separate."
+-- rule 5: "Merged functional conjuncts stand at the first one's place"; "Equal conjuncts of a .. feature that is not functional stay
+-- separate."
 abbrev pub placeConstraint : Bool → Constraint → List Constraint → List Constraint
 placeConstraint one s [] = s ∷ []
 placeConstraint one s (t ∷ l) = cond (one && eqb (t .feature) (s .feature)) (meet t s ∷ l) (t ∷ placeConstraint one s l)
@@ -55,7 +56,10 @@ bare cs = record { node = record { classes = cs; constraints = [] }; successors 
 
 -- rule 6: a new individual by r is in r's ranges
 abbrev pub withSuccessor : Vocabulary → ℕ → (Form → Form) → Form → Form
-withSuccessor K r grow t = record { node = t .node; successors = placeSuccessor (isFunctionalRole K r) r (bare (ranges K r)) grow (t .successors) }
+withSuccessor K r grow t = record {
+  node = t .node;
+  successors = placeSuccessor (isFunctionalRole K r) r (bare (ranges K r)) grow (t .successors);
+}
 
 -- the conjuncts of a chain, one after another, added to a form
 abbrev pub add : Vocabulary → Chain → Form → Form

@@ -22,7 +22,8 @@ pub data AppliesAt (K : Vocabulary) : ℕ → Node → Type 0 where
   -- 3: [l, u](f) ⇝ ⊥ if l > u
   rule3 : {n : Node} → Any (λ s. Empty (s .lo) (s .hi)) (n .constraints) → AppliesAt K 3 n
   -- 5: [l₁, u₁](f) ⊓ [l₂, u₂](f) ⊓ D ⇝ [max(l₁, l₂), min(u₁, u₂)](f) ⊓ D if func(f) ∈ K
-  rule5 : {n : Node} {f : ℕ} → T (isFunctionalFeature K f) → Two (λ s t. (f ≡ s .feature) × (f ≡ t .feature)) (n .constraints) → AppliesAt K 5 n
+  rule5 : {n : Node} {f : ℕ} → T (isFunctionalFeature K f) → Two (λ s t. (f ≡ s .feature) × (f ≡ t .feature)) (n .constraints) →
+      AppliesAt K 5 n
   -- 7: A₁ ⊓ A₂ ⊓ D ⇝ ⊥ if A₁ ⊑* A₁′, A₂ ⊑* A₂′ and disj(A₁′, A₂′) ∈ K; "Rule 7 also takes one class twice"
   rule7 : {n : Node} {x y : ℕ} → (x, y) ∈ disjointPairs K →
       Any (λ a. T (isBelow K a x)) (n .classes) → Any (λ b. T (isBelow K b y)) (n .classes) → AppliesAt K 7 n

@@ -1,4 +1,5 @@
-// Document 01's limits. specs/Limits.antt has them for the definitions; the contracts of the functions that test them hold the two together.
+// Document 01's limits. specs/Limits.antt has them for the definitions; the contracts of the functions that test them hold the two
+// together.
 
 pub const MOST_CLASSES: u32 = 256;
 

@@ -32,7 +32,8 @@ ghost use Rattle.normal_form.specs.Steps.{RowPut, front, intervalPut, st
 ghost use Rattle.normal_form.specs.Tables.{Fit, Normalised, tablesEnd, termAt};
 ghost use Rattle.words.specs.Sets.{inSet};
 
-// After what hierarchy writes, room for each record of a policy: those of roles that are still to be followed, 0 for one that was merged away.
+// After what hierarchy writes, room for each record of a policy: those of roles that are still to be followed, 0 for one that was
+// merged away.
 const PENDING: usize = PAIRS_END;
 
 // Individuals: parent, role, set of classes.

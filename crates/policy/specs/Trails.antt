@@ -15,7 +15,8 @@ use Rattle.words.specs.Sets.{inSet}
 abbrev pub trailWords : ℕ
 trailWords = mostRecords / 32
 
--- "at one record in the order 7, 6, 8": the fault of a record that was reached before or not, is sound or not, is at depth 17 or not; 0 is none
+-- "at one record in the order 7, 6, 8": the fault of a record that was reached before or not, is sound or not, is at depth 17 or not;
+-- 0 is none
 unfoldable pub faultAt : Bool → Bool → Bool → ℕ
 faultAt before sound deep = cond before 7 (cond sound (cond deep 8 0) 6)
 
