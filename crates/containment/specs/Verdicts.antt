@@ -4,7 +4,7 @@ use mathlib.Core.List.{List}
 use mathlib.Core.Path.{_≡_}
 use lib.ListN.{length, take}
 use Rattle.decision.specs.Decisions.{Delivers, PreparedPair}
-use Rattle.hierarchy.specs.declared.Functional.{Functional}
+use Rattle.functional.specs.declared.Functional.{Functional}
 use Rattle.meaning.specs.Answers.{VerdictResult, possibilityAnswer, result, verdictAnswer}
 use Rattle.meaning.specs.Containment.{ContainedTested, Refutes}
 use Rattle.meaning.specs.Model.{factsOf, individualCount}
@@ -13,7 +13,7 @@ use Rattle.meaning.specs.Policy.{policyOf}
 use Rattle.meaning.specs.Vocabulary.{vocabularyOf}
 use Rattle.meaning.specs.declared.Possibility.{Possibility}
 use Rattle.meaning.specs.declared.Verdict.{Verdict}
-use Rattle.workspace.specs.Work.{Accepting}
+use Rattle.preparation.specs.Prepared.{Accepting}
 use Rattle.meaning.specs.declared.Verdict.the-variants as verdict
 
 -- ---- Possible

@@ -1,32 +1,34 @@
 // The operations Possible and Compliance.
 use decision::decide;
 use decision::has_too_many;
-use hierarchy::Functional;
+use frames::clear;
+use frames::work_refusal;
+use functional::Functional;
 use meaning::Possibility;
 use meaning::Verdict;
 use meaning::limits::WORK_SIZE;
 use policy::first_term;
 use policy::next_of;
+use preparation::prepare;
 use splitting::ENDS;
 use splitting::collect;
-use workspace::clear;
-use workspace::prepare;
-use workspace::tabulate;
-use workspace::work_refusal;
+use tabulation::tabulate;
 ghost use mathlib.Core.List.{List};
 ghost use mathlib.Core.Path.{_≡_};
 ghost use Prim.Native.Nat.{_≤_, ℕ};
 ghost use lib.ListN.{length};
 ghost use Rattle.containment.specs.Verdicts.{CompliancePost, PossibleBy, PossiblePost, SettledBy};
 ghost use Rattle.decision.specs.Decisions.{PreparedPair};
+ghost use Rattle.frames.specs.Frames.{Only};
+ghost use Rattle.layout.specs.Places.{InTables};
 ghost use Rattle.meaning.specs.Limits.{workSize};
-ghost use Rattle.workspace.specs.Work.{Accepting, Beyond};
+ghost use Rattle.preparation.specs.Prepared.{Accepting};
 
 // The first term that is possible, counted from 1, impossible ones too.
 fn first_possible(p: &[u32], work: &mut [u32], f: Functional) -> Possibility
     requires { ⌜ (workSize ≤ length (now work)) × ((v : List ℕ) × Accepting v (now p) (now work) f) ⌝ }
     ensures { λ r. ⌜ PossibleBy (now (p .entry)) (now (work .entry)) f r ⌝ }
-    ensures { λ _. ⌜ Beyond (now (work .entry)) (now (work .exit)) ⌝ }
+    ensures { λ _. ⌜ Only InTables (now (work .entry)) (now (work .exit)) ⌝ }
 {
     let mut s: u32 = 1;
     let mut k = first_term(p);
@@ -44,8 +46,10 @@ fn first_possible(p: &[u32], work: &mut [u32], f: Functional) -> Possibility
 // What Compliance answers after 21: 22 for every term of p before any verdict.
 fn settle(p: &[u32], q: &[u32], work: &mut [u32], f: Functional, out: &mut [u32]) -> Verdict
     requires { ⌜ ((v : List ℕ) × PreparedPair v (now p) (now q) (now work) f) ⌝ }
-    ensures { λ r. ⌜ SettledBy (now (p .entry)) (now (q .entry)) (now (work .entry)) f (now (out .entry)) (now (out .exit)) r ⌝ }
-    ensures { λ _. ⌜ Beyond (now (work .entry)) (now (work .exit)) × (length (now (out .exit)) ≡ length (now (out .entry))) ⌝ }
+    ensures { λ r. ⌜ SettledBy (now (p .entry)) (now (q .entry)) (now (work .entry)) f
+        (now (out .entry)) (now (out .exit)) r ⌝ }
+    ensures { λ _. ⌜ Only InTables (now (work .entry)) (now (work .exit)) ⌝ }
+    ensures { λ _. ⌜ length (now (out .exit)) ≡ length (now (out .entry)) ⌝ }
 {
     let mut space = [0; ENDS];
     let n = collect(q, &mut space);
@@ -75,7 +79,8 @@ pub fn possible(v: &[u32], p: &[u32], work: &mut [u32]) -> Possibility
 // Compliance: the refusals of the vocabulary, the first policy and the second, 21, 22, then the verdict, and 23 where a countermodel
 // does not fit. Time grows with the vocabulary's records times its classes, with both policies' records, and with the combinations.
 pub fn compliance(v: &[u32], p: &[u32], q: &[u32], work: &mut [u32], out: &mut [u32]) -> Verdict
-    ensures { λ r. ⌜ CompliancePost (now (v .entry)) (now (p .entry)) (now (q .entry)) (now (work .entry)) (now (work .exit)) (now (out .entry)) (now (out .exit)) r ⌝ }
+    ensures { λ r. ⌜ CompliancePost (now (v .entry)) (now (p .entry)) (now (q .entry)) (now (work .entry)) (now (work .exit))
+        (now (out .entry)) (now (out .exit)) r ⌝ }
 {
     let refusal = work_refusal(policy::input_refusal(v, p, q), work);
     if refusal != 0 {

@@ -1,34 +1,30 @@
 -- The tests of the code by which a pair is chosen.
-use Prim.Native.Nat.{_+_, _<_, _≤_, ℕ}
+use Prim.Native.Nat.{_<_, _≤_, ℕ}
 use mathlib.Core.Bool.{Bool, _||_, false, true}
 use mathlib.Core.List.{List}
-use mathlib.Core.Path.{_∙_, _≡_, refl}
+use mathlib.Core.Path.{_∙_, _≡_, refl, sym}
 use native.Mathlib.Omega.{arith}
 use lib.Dec.{ltb}
-use lib.ListN.{getD}
 use borrow.Author.Tests.{eq-eqb, le-leb, le-ltb, lt-leb, ne-eqb}
-use Rattle.combination.specs.Combination.{holderAt, pieceAt}
 use Rattle.countermodel.specs.Facts.{isAbove, isBetter}
+use Rattle.layout.specs.Tables.{constraintAt, holderAt, pieceAt}
 use Rattle.meaning.specs.Countermodel.{pairBefore}
 use Rattle.meaning.specs.Intervals.{valueOf}
-use Rattle.normal_form.specs.Tables.{intervalPlace}
 
-module _ (w : List ℕ) (a b : ℕ) where
-  pub before-same : getD w (intervalPlace a + 1) 0 ≡ getD w (intervalPlace b + 1) 0 →
-      ltb (getD w (intervalPlace a + 5) 0) (getD w (intervalPlace b + 5) 0) ≡ pairBefore (pieceAt w a) (pieceAt w b)
-  unfolding pieceAt valueOf
-  before-same e =
-      let f = getD w (intervalPlace a + 1) 0 in
-      let g = getD w (intervalPlace b + 1) 0 in
-      rw (le-ltb f g (omega arith), eq-eqb f g e)
+module _ (w : List ℕ) (a b : ℕ) {f g : ℕ} (e : f ≡ constraintAt w a .feature) (d : g ≡ constraintAt w b .feature) where
+  pub before-same : f ≡ g → {x y : ℕ} → x ≡ pieceAt w a .hi → y ≡ pieceAt w b .hi → ltb x y ≡ pairBefore (pieceAt w a) (pieceAt w b)
+  unfolding constraintAt pieceAt valueOf
+  before-same h p q =
+      let s = constraintAt w a .feature in
+      let t = constraintAt w b .feature in
+      rw (p, q, le-ltb s t (omega arith), eq-eqb s t (sym e ∙ h ∙ d))
 
-  pub before-other : (getD w (intervalPlace a + 1) 0 ≡ getD w (intervalPlace b + 1) 0 → ⊥) →
-      ltb (getD w (intervalPlace a + 1) 0) (getD w (intervalPlace b + 1) 0) ≡ pairBefore (pieceAt w a) (pieceAt w b)
-  unfolding pieceAt valueOf
-  before-other e =
-      let f = getD w (intervalPlace a + 1) 0 in
-      let g = getD w (intervalPlace b + 1) 0 in
-      rw (ne-eqb f g e) (go (ltb f g))
+  pub before-other : (f ≡ g → ⊥) → ltb f g ≡ pairBefore (pieceAt w a) (pieceAt w b)
+  unfolding constraintAt pieceAt valueOf
+  before-other h =
+      let s = constraintAt w a .feature in
+      let t = constraintAt w b .feature in
+      rw (e, d, ne-eqb s t (λ p. h (e ∙ p ∙ sym d))) (go (ltb s t))
     where
       go : (b : Bool) → b ≡ (b || false)
       go true = refl

@@ -6,13 +6,14 @@ use mathlib.Core.Path.{_∙_, _≡_, ap, ap₂, refl, subst, sym}
 use native.Mathlib.Omega.{arith}
 use lib.Dec.{eqb, ltb}
 use borrow.Author.Tests.{eq-eqb, le-ltb, lt-ltb, ne-eqb}
-use Rattle.combination.specs.Combination.{Below, Kin, nextSuccessor, parentAt, roleAt}
 use Rattle.countermodel.specs.Facts.{edgeFacts, edgesFrom}
+use Rattle.layout.specs.Combination.{Below, Kin, nextSuccessor}
+use Rattle.layout.specs.Tables.{parentAt, roleAt}
+use Rattle.layout.specs.declared.Tables.{Tables}
 use Rattle.meaning.specs.Countermodel.{edges, size}
 use Rattle.meaning.specs.Model.{Fact, edge}
 use Rattle.meaning.specs.NormalForm.{Successors, none, successor}
 use Rattle.meaning.specs.Vocabulary.{Vocabulary}
-use Rattle.normal_form.specs.declared.Tables.{Tables}
 
 module _ (w : List ℕ) (x : ℕ) where
   -- what is left at row r, of n rows: its own edge, and those after it

@@ -4,10 +4,14 @@ use mathlib.Core.Bool.{Bool, _&&_, false, true}
 use mathlib.Core.List.{List, _++_, append-assoc, append-nil}
 use mathlib.Core.Path.{_∙_, _≡_, ap, ap₂, refl}
 use native.Mathlib.Omega.{arith}
-use Rattle.combination.proofs.Laws.{kin-child, kin-individual, kin-inside, kin-rest}
-use Rattle.combination.specs.Combination.{Combined, Individual, Kin}
 use Rattle.countermodel.proofs.Edges.{kin-edges}
-use Rattle.countermodel.specs.Facts.{Modelled, Standing, factsAt, factsFrom, memberFacts, tableFacts, valueFacts}
+use Rattle.countermodel.specs.Facts.{Modelled, factsAt, factsFrom, memberFacts, tableFacts, valueFacts}
+use Rattle.frames.proofs.Rows.{length-row}
+use Rattle.layout.proofs.Successors.{kin-child, kin-individual, kin-inside, kin-rest}
+use Rattle.layout.specs.Combination.{Combined, Individual, Kin}
+use Rattle.layout.specs.Places.{individualPlace}
+use Rattle.layout.specs.Tables.{Above, Standing, setAt}
+use Rattle.layout.specs.declared.Tables.{Tables}
 use Rattle.meaning.proofs.Closure.{below-bounded}
 use Rattle.meaning.proofs.Rules.{all-any, any-out, isTrue}
 use Rattle.meaning.specs.Countermodel.{canonicalModel, classesAbove, countermodel, recordsBelow, recordsOf, size}
@@ -19,11 +23,7 @@ use Rattle.meaning.specs.NormalForm.{Form, Node, Successors, none, successor}
 use Rattle.meaning.specs.Records.{Name, isName}
 use Rattle.meaning.specs.Stated.{isBelow}
 use Rattle.meaning.specs.Vocabulary.{Vocabulary}
-use Rattle.normal_form.specs.Clean.{setAt}
-use Rattle.normal_form.specs.Tables.{Above, individualPlace}
-use Rattle.normal_form.specs.declared.Tables.{Tables}
 use Rattle.words.proofs.Laws.{members-are, named-within}
-use Rattle.words.proofs.Rows.{length-row}
 use Rattle.words.specs.Members.{members}
 use Rattle.words.specs.Rows.{classWords}
 

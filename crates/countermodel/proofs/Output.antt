@@ -4,14 +4,14 @@ use mathlib.Core.List.{List, [], _++_, _∷_, append-assoc, append-nil}
 use mathlib.Core.Path.{_∙_, _≡_, ap, refl, sym}
 use native.Mathlib.Nat.{zero-add}
 use native.Mathlib.Omega.{arith}
-use lib.ListN.{drop, length, length-append, length-set, length-take, set, take, take-append-drop}
-use lib.Seq.{sets-eq, take-at}
+use lib.ListN.{length, length-append, length-set, set, take}
+use lib.Seq.{sets-eq}
 use borrow.Author.Tests.{eq-eqb, ne-eqb}
-use Rattle.countermodel.specs.Written.{Room, Written, linkAt, linkedWords, recorded}
+use Rattle.countermodel.specs.Written.{Room, RoomFor, Written, linkAt, linkedWords, recorded}
+use Rattle.frames.proofs.Rows.{length-put, put-append, put-nil}
+use Rattle.frames.specs.Rows.{putAt}
 use Rattle.meaning.specs.Model.{Fact, chainedWords, edge, factWords, linkTo, member, modelWords, value}
 use Rattle.meaning.specs.Operations.{outputAfter}
-use Rattle.words.proofs.Rows.{length-put, put-drop}
-use Rattle.words.specs.Rows.{putAt}
 
 -- ---- five words, one after another
 
@@ -23,18 +23,6 @@ put-five o at a b c d e h =
     let fourth : at + 3 ≡ suc (suc (suc at)) = omega arith in
     let fifth : at + 4 ≡ suc (suc (suc (suc at))) = omega arith in
     rw (second, third, fourth, fifth) (sets-eq (a ∷ (b ∷ (c ∷ (d ∷ (e ∷ []))))) o at h ∙ append-assoc (take at o) _ _)
-
--- ---- words put after words
-
-put-put : (o : List ℕ) (at : ℕ) (vs us : List ℕ) → at + length vs ≤ length o → putAt (putAt o at vs) (at + length vs) us ≡ putAt o at (vs ++ us)
-put-put o at vs us h =
-    let rest = drop (at + length vs) o in
-    let first : length (take at o ++ vs) ≡ at + length vs = simp (length-append, length-take) (omega arith) in
-    let front : take (at + length vs) (putAt o at vs) ≡ take at o ++ vs =
-    ap (take (at + length vs)) (sym (append-assoc (take at o) vs rest)) ∙ take-at (take at o ++ vs) rest (at + length vs) first in
-    let all : at + length vs + length us ≡ at + length (vs ++ us) = simp length-append (omega arith) in
-    rw (front, put-drop o at vs h (at + length vs + length us) (omega arith), all)
-    (simp append-assoc)
 
 -- ---- records after records
 
@@ -67,7 +55,7 @@ linked-chained last k (x ∷ F) h =
 module _ (last k : ℕ) (F : List Fact) (o : List ℕ) where
   pub recorded-none : recorded last k [] o ≡ o
   unfolding recorded
-  recorded-none = let e : 5 * k + 0 ≡ 5 * k = omega arith in rw e (take-append-drop (5 * k) o)
+  recorded-none = put-nil o (5 * k)
 
   module _ (fits : 5 * (k + length F) ≤ length o) where
     pub recorded-length : length (recorded last k F o) ≡ length o
@@ -79,7 +67,10 @@ module _ (last k : ℕ) (F : List Fact) (o : List ℕ) where
     recorded-more G =
         let e : 5 * (k + length F) ≡ 5 * k + length (linkedWords last k F) = omega (arith, linked-length last k F) in
         rw (e, linked-append last k F G)
-        (put-put o (5 * k) (linkedWords last k F) (linkedWords last (k + length F) G) (omega (arith, linked-length last k F)))
+        (put-append o (5 * k) (linkedWords last k F) (omega (arith, linked-length last k F)) (linkedWords last (k + length F) G))
+
+pub room-same : {last : ℕ} {o o′ : List ℕ} → length o′ ≡ length o → Room last o → Room last o′
+room-same e r = record { long = omega (arith, r .long); few = r .few }
 
 -- ---- a walk that writes the facts F from record k₀ on: at record k the facts G are left
 
@@ -92,13 +83,14 @@ pub left-start : (last k : ℕ) (F : List Fact) (o : List ℕ) (G : List Fact) �
 left-start last k F o G e = record { same = rw e; count = rw e; long = refl }
 
 module _ {last k₀ : ℕ} {F : List Fact} {o₀ : List ℕ} {k : ℕ} {o : List ℕ} where
-  pub left-more : (A G H : List Fact) (o′ : List ℕ) (k′ : ℕ) → Left last k₀ F o₀ k H o → H ≡ A ++ G → Room last o₀ → k₀ + length F ≤ last + 1 →
+  pub left-more : (A G H : List Fact) (o′ : List ℕ) (k′ : ℕ) → Left last k₀ F o₀ k H o → H ≡ A ++ G → RoomFor last k₀ F o₀ →
       Written last k A o o′ k′ → Left last k₀ F o₀ k′ G o′
-  left-more A G H o′ k′ l e room fits w =
+  left-more A G H o′ k′ l e room w =
       let n : length H ≡ length A + length G = ap length e ∙ length-append A G in
       let c = l .count in
       let s = l .long in
-      let r = room .long in
+      let r = room .room .long in
+      let m = room .within in
       record {
         same = rw (w .words, w .count, recorded-more last k A o (omega arith) G, ← e) (l .same);
         count = omega (arith, w .count);
@@ -125,23 +117,22 @@ one-written last k x o o′ h e =
     record { words = all; count = refl; same = ap length all ∙ recorded-length last k (x ∷ []) o (omega arith) }
 
 -- three lists of facts, one after another
-pub three-written : {last k k₁ k₂ k₃ : ℕ} {A B C F : List Fact} {o o₁ o₂ o₃ : List ℕ} → F ≡ A ++ (B ++ C) → Room last o → k + length F ≤ last + 1 →
+pub three-written : {last k k₁ k₂ k₃ : ℕ} {A B C F : List Fact} {o o₁ o₂ o₃ : List ℕ} → F ≡ A ++ (B ++ C) → RoomFor last k F o →
     Written last k A o o₁ k₁ → Written last k₁ B o₁ o₂ k₂ → Written last k₂ C o₂ o₃ k₃ → Written last k F o o₃ k₃
-three-written {last} {k} {k₁} {k₂} {k₃} {A} {B} {C} {F} {o} {o₁} {o₂} {o₃} e room fits a b c =
-    let first = left-more A (B ++ C) F o₁ k₁ (left-start last k F o F refl) e room fits a in
-    let second = left-more B C (B ++ C) o₂ k₂ first refl room fits b in
-    left-end [] (left-more C [] C o₃ k₃ second (sym (append-nil C)) room fits c) refl
+three-written {last} {k} {k₁} {k₂} {k₃} {A} {B} {C} {F} {o} {o₁} {o₂} {o₃} e room a b c =
+    let first = left-more A (B ++ C) F o₁ k₁ (left-start last k F o F refl) e room a in
+    let second = left-more B C (B ++ C) o₂ k₂ first refl room b in
+    left-end [] (left-more C [] C o₃ k₃ second (sym (append-nil C)) room c) refl
 
 -- ---- a turn of such a walk: the first fact that is left is written
 
-module _ {last k₀ : ℕ} {F : List Fact} {o₀ : List ℕ} {k : ℕ} {G : List Fact} {o : List ℕ} (l : Left last k₀ F o₀ k G o) (room : Room last o₀)
-    (fits : k₀ + length F ≤ last + 1) (x : Fact) (H : List Fact) (e : G ≡ x ∷ H) where
+module _ {last k₀ : ℕ} {F : List Fact} {o₀ : List ℕ} {k : ℕ} {G : List Fact} {o : List ℕ} (l : Left last k₀ F o₀ k G o) (room : RoomFor last k₀ F o₀)
+    (x : Fact) (H : List Fact) (e : G ≡ x ∷ H) where
   pub turn-room : (k ≤ last) × Room last o
   turn-room =
       let n = ap length e in
       let c = l .count in
-      let s = l .long in
-      (omega arith, record { long = omega (arith, room .long); few = room .few })
+      (omega (arith, room .within), room-same (l .long) (room .room))
 
   pub turn-less : length H < length G
   turn-less = omega (arith, ap length e)
@@ -150,7 +141,7 @@ module _ {last k₀ : ℕ} {F : List Fact} {o₀ : List ℕ} {k : ℕ} {G : List
   turn-more o′ q =
       let r = turn-room in
       let s = r .1 .long in
-      left-more (x ∷ []) H G o′ (k + 1) l e room fits (one-written last k x o o′ (omega arith) q)
+      left-more (x ∷ []) H G o′ (k + 1) l e room (one-written last k x o o′ (omega arith) q)
 
 -- ---- header and records
 
@@ -172,7 +163,7 @@ module _ (a n last : ℕ) (F : List Fact) (o o′ : List ℕ) (size : last ≡ l
   unfolding recorded outputAfter modelWords
   model-written h =
       let first : a ≡ linkTo 1 F = h ∙ go last F size in
-      e ∙ ap (recorded last 1 F) header ∙ put-put o 0 (a ∷ (n ∷ (0 ∷ (0 ∷ (0 ∷ []))))) (linkedWords last 1 F) (omega arith)
+      e ∙ ap (recorded last 1 F) header ∙ put-append o 0 (a ∷ (n ∷ (0 ∷ (0 ∷ (0 ∷ []))))) (omega arith) (linkedWords last 1 F)
       ∙ rw (first, linked-chained last 1 F (omega arith), zero-add)
     where
       go : (last : ℕ) (F : List Fact) → last ≡ length F → linkAt last 0 ≡ linkTo 1 F

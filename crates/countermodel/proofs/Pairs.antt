@@ -8,16 +8,17 @@ use native.Mathlib.Omega.{arith}
 use lib.Dec.{eqb, leb, ltb}
 use lib.ListN.{getD}
 use borrow.Author.Tests.{eq-eqb, eqb-false, eqb-true, le-leb, le-ltb, leb-false, lt-leb, lt-ltb, ltb-false, ltb-true}
-use Rattle.combination.specs.Combination.{holderAt, pieceAt, piecesFrom, piecesOf}
-use Rattle.countermodel.proofs.Keys.{Low, before-key, key, least-above, none-above, pairs-have, pairs-low, pairs-only}
-use Rattle.countermodel.proofs.Keys.{pairs-rising, same-facts}
+use Rattle.countermodel.proofs.Keys.{Low, before-key, key, least-above, none-above, pairs-have, pairs-low, pairs-only, pairs-rising}
+use Rattle.countermodel.proofs.Keys.{same-facts}
 use Rattle.countermodel.specs.Facts.{isAbove, isBetter, pairsAbove, valueFact, valueFacts, valuesFrom}
+use Rattle.layout.specs.Combination.{piecesFrom, piecesOf}
+use Rattle.layout.specs.Places.{constraintPlace}
+use Rattle.layout.specs.Tables.{holderAt, pieceAt}
 use Rattle.meaning.proofs.Rules.{all-at, head, order, tail}
 use Rattle.meaning.specs.Countermodel.{pairBefore, pairs}
 use Rattle.meaning.specs.Intervals.{Constraint, valueOf}
 use Rattle.meaning.specs.Lists.{All, _∈_, cons, filter, here, nil, there}
 use Rattle.meaning.specs.Model.{Fact}
-use Rattle.normal_form.specs.Tables.{intervalPlace}
 use Rattle.words.specs.Sets.{wordSum}
 
 -- a number above every word
@@ -74,7 +75,7 @@ module _ (w : List ℕ) where
 
   low : (j : ℕ) → Low B (pieceAt w j)
   unfolding pieceAt valueOf
-  low j = omega (arith, within w (intervalPlace j + 5))
+  low j = omega (arith, within w (constraintPlace j + 5))
 
   -- what is above constraint m's pair has a key above this one
   abbrev floor : ℕ → ℕ → ℕ

@@ -6,16 +6,15 @@ use mathlib.Core.Path.{_∙_, _≡_, ap}
 use native.Mathlib.Omega.{arith}
 use lib.Dec.{eqb, ltb}
 use lib.ListN.{drop, length, length-append, length-map, length-take}
-use Rattle.combination.specs.Combination.{holderAt, parentAt, pieceAt, piecesFrom, piecesOf, roleAt}
-use Rattle.countermodel.specs.Facts.{Standing, edgeFacts, edgesFrom, factsAt, factsFrom, memberFacts, recordCount, valueFact}
-use Rattle.countermodel.specs.Facts.{valueFacts}
+use Rattle.countermodel.specs.Facts.{edgeFacts, edgesFrom, factsAt, factsFrom, memberFacts, recordCount, valueFact, valueFacts}
+use Rattle.layout.specs.Combination.{piecesFrom, piecesOf}
+use Rattle.layout.specs.Places.{individualPlace}
+use Rattle.layout.specs.Tables.{Standing, holderAt, parentAt, pieceAt, roleAt, setAt}
+use Rattle.layout.specs.declared.Tables.{Tables}
 use Rattle.meaning.specs.Countermodel.{insertPair, pairBefore, pairs, samePair}
 use Rattle.meaning.specs.Intervals.{Constraint}
 use Rattle.meaning.specs.Limits.{mostClasses}
 use Rattle.meaning.specs.Model.{edge, member}
-use Rattle.normal_form.specs.Clean.{setAt}
-use Rattle.normal_form.specs.Tables.{individualPlace}
-use Rattle.normal_form.specs.declared.Tables.{Tables}
 use Rattle.words.proofs.Laws.{members-few}
 use Rattle.words.specs.Members.{members}
 use Rattle.words.specs.Rows.{classWords}

@@ -2,28 +2,23 @@
 use Prim.Native.Nat.{_+_, _-_, _≤_, suc, zero, ℕ}
 use mathlib.Core.Bool.{Bool, _&&_, _||_, cond}
 use mathlib.Core.List.{List, [], _++_, _∷_, map}
+use mathlib.Core.Path.{_≡_}
 use lib.Dec.{eqb, leb, ltb}
 use lib.ListN.{length}
-use Rattle.combination.specs.Combination.{Combined, holderAt, parentAt, pieceAt, piecesOf, roleAt}
-use Rattle.meaning.specs.Countermodel.{pairBefore, pairs}
+use Rattle.layout.specs.Combination.{Combined, piecesOf}
+use Rattle.layout.specs.Tables.{holderAt, parentAt, pieceAt, roleAt, setAt}
+use Rattle.layout.specs.declared.Tables.{Tables}
+use Rattle.meaning.specs.Countermodel.{countermodel, pairBefore, pairs}
 use Rattle.meaning.specs.Intervals.{Constraint, valueOf}
-use Rattle.meaning.specs.Limits.{mostClasses, mostRecords}
+use Rattle.meaning.specs.Limits.{mostClasses}
 use Rattle.meaning.specs.Lists.{filter}
 use Rattle.meaning.specs.Model.{Fact, edge, member, value}
 use Rattle.meaning.specs.Normal.{Bounded, Normal}
 use Rattle.meaning.specs.NormalForm.{Form}
+use Rattle.meaning.specs.Operations.{outputAfter}
 use Rattle.meaning.specs.Records.{Name}
 use Rattle.meaning.specs.Vocabulary.{Vocabulary}
-use Rattle.normal_form.specs.Clean.{setAt}
-use Rattle.normal_form.specs.Tables.{tablesEnd}
-use Rattle.normal_form.specs.declared.Tables.{Tables}
 use Rattle.words.specs.Members.{members}
-
--- the tables stand in the slice
-pub record Standing (w : List ℕ) (t : Tables) : Type 0 where
-  pub long : tablesEnd ≤ length w
-  pub individuals : t .individuals ≤ mostRecords
-  pub constraints : t .constraints ≤ mostRecords
 
 -- the tables hold the combination u, a normal one, and the vocabulary's classes have a bit in a set
 pub record Modelled (K : Vocabulary) (u : Form) (w : List ℕ) (t : Tables) : Type 0 where
@@ -31,6 +26,10 @@ pub record Modelled (K : Vocabulary) (u : Form) (w : List ℕ) (t : Tables) : Ty
   pub bounded : Bounded K
   pub normal : Normal (Name (K .classes)) K u
   pub combined : Combined K u w t
+
+-- the output o became o′: the countermodel of the combination that the tables hold, and behind it what stood there
+abbrev pub ModelWritten : List ℕ → Tables → List ℕ → List ℕ → Type 0
+ModelWritten w t o o′ = (K : Vocabulary) (u : Form) → Modelled K u w t → o′ ≡ outputAfter (countermodel K u) o
 
 -- "classes rising", of row i, individual i + 1
 unfoldable pub memberFacts : List ℕ → ℕ → List Fact

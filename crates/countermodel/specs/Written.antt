@@ -5,13 +5,18 @@ use mathlib.Core.List.{List, [], _++_, _∷_}
 use mathlib.Core.Path.{_≡_}
 use lib.Dec.{eqb}
 use lib.ListN.{length}
+use Rattle.frames.specs.Rows.{putAt}
 use Rattle.meaning.specs.Model.{Fact, factWords}
-use Rattle.words.specs.Rows.{putAt}
 
 -- the header and so many records have room in the output, and a word holds each link
 pub record Room (last : ℕ) (o : List ℕ) : Type 0 where
   pub long : 5 * (last + 1) ≤ length o
   pub few : last < 2 ^ 32
+
+-- room for the facts at the records from k on, and none of them is after the last
+pub record RoomFor (last k : ℕ) (F : List Fact) (o : List ℕ) : Type 0 where
+  pub room : Room last o
+  pub within : k + length F ≤ last + 1
 
 -- record k's link
 abbrev pub linkAt : ℕ → ℕ → ℕ

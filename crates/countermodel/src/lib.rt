@@ -1,42 +1,41 @@
 // The canonical model of the combination that the tables of the work slice hold: how many records it has, and its words.
-use combination::next_successor;
+use layout::Tables;
+use layout::classes_of;
+use layout::feature_of;
+use layout::holder_of;
+use layout::next_successor;
+use layout::piece_hi;
+use layout::role_of;
 use meaning::ClassNo;
-use normal_form::INTERVAL;
-use normal_form::INTERVALS;
-use normal_form::ROW;
-use normal_form::ROWS;
-use normal_form::Tables;
-use words::ClassSet;
 use words::place;
 ghost use mathlib.Core.List.{[], _∷_, map};
 ghost use mathlib.Core.Path.{_≡_};
 ghost use Prim.Native.Nat.{_*_, _+_, _<_, _^_, _≤_};
 ghost use lib.ListN.{length};
-ghost use Rattle.combination.specs.Combination.{pieceAt};
-ghost use Rattle.countermodel.specs.Facts.{Modelled, Standing, edgeFacts, factsAt, isAbove, isBetter, memberFacts};
-ghost use Rattle.countermodel.specs.Facts.{pairsAbove, recordCount, tableFacts, valueFact, valueFacts, valuesFrom};
-ghost use Rattle.countermodel.specs.Written.{Room, Written, linkAt, recorded};
-ghost use Rattle.meaning.specs.Countermodel.{canonicalModel, countermodel, pairBefore};
+ghost use Rattle.countermodel.specs.Facts.{ModelWritten, Modelled, edgeFacts, factsAt, isAbove, isBetter, memberFacts, pairsAbove};
+ghost use Rattle.countermodel.specs.Facts.{recordCount, tableFacts, valueFact, valueFacts, valuesFrom};
+ghost use Rattle.countermodel.specs.Written.{Room, RoomFor, Written, linkAt, recorded};
+ghost use Rattle.frames.specs.Rows.{putAt};
+ghost use Rattle.layout.specs.Places.{tablesEnd};
+ghost use Rattle.layout.specs.Tables.{HasEntry, Standing, pieceAt};
+ghost use Rattle.meaning.specs.Countermodel.{canonicalModel, pairBefore};
 ghost use Rattle.meaning.specs.Limits.{mostRecords};
 ghost use Rattle.meaning.specs.NormalForm.{Form};
-ghost use Rattle.meaning.specs.Operations.{outputAfter};
 ghost use Rattle.meaning.specs.Vocabulary.{Vocabulary};
-ghost use Rattle.normal_form.specs.Tables.{tablesEnd};
-ghost use Rattle.words.specs.Rows.{putAt};
 
 // ---- the pairs of an individual, rising
 
 // Whether constraint a's pair stands before constraint b's: by feature, then by upper end.
 fn is_before(work: &[u32], a: usize, b: usize) -> bool
-    requires { ⌜ (a < mostRecords) × (b < mostRecords) × (tablesEnd ≤ length (now work)) ⌝ }
+    requires { ⌜ HasEntry a (now work) × HasEntry b (now work) ⌝ }
     ensures { λ r. ⌜ r ≡ pairBefore (pieceAt (now (work .entry)) a) (pieceAt (now (work .entry)) b) ⌝ }
 {
-    let f = work[INTERVALS + INTERVAL * a + 1];
-    let g = work[INTERVALS + INTERVAL * b + 1];
-    if f == g {
-        return work[INTERVALS + INTERVAL * a + 5] < work[INTERVALS + INTERVAL * b + 5];
+    let f = feature_of(work, a);
+    let g = feature_of(work, b);
+    if f.0 == g.0 {
+        return piece_hi(work, a) < piece_hi(work, b);
     }
-    f < g
+    f.0 < g.0
 }
 
 // Whether constraint i's pair stands above constraint m's, or m is n and no constraint.
@@ -55,7 +54,7 @@ fn is_better(work: &[u32], n: usize, x: u32, m: usize, best: usize, i: usize) ->
     requires { ⌜ (i < n) × (n ≤ mostRecords) × (tablesEnd ≤ length (now work)) ⌝ }
     ensures { λ r. ⌜ r ≡ isBetter (now (work .entry)) n x m best i ⌝ }
 {
-    if work[INTERVALS + INTERVAL * i] != x {
+    if holder_of(work, i) != x {
         return false;
     }
     if !is_above(work, n, m, i) {
@@ -70,7 +69,8 @@ fn is_better(work: &[u32], n: usize, x: u32, m: usize, best: usize, i: usize) ->
 // Of n constraints, one of individual x whose pair is the least above constraint m's, or n; from n on, the least of all.
 fn next_pair(work: &[u32], n: usize, x: u32, m: usize) -> usize
     requires { ⌜ (n ≤ mostRecords) × (tablesEnd ≤ length (now work)) ⌝ }
-    ensures { λ r. ⌜ (r ≤ n) × (valuesFrom (now (work .entry)) n x r ≡ map (valueFact x) (pairsAbove (now (work .entry)) n x m)) ⌝ }
+    ensures { λ r. ⌜ (r ≤ n)
+        × (valuesFrom (now (work .entry)) n x r ≡ map (valueFact x) (pairsAbove (now (work .entry)) n x m)) ⌝ }
 {
     let mut best = n;
     for i in 0..n {
@@ -114,7 +114,7 @@ fn count_row(work: &[u32], t: Tables, i: u32) -> usize
     requires { ⌜ Standing (now work) t × (i < t .individuals) ⌝ }
     ensures { λ r. ⌜ r ≡ length (factsAt (now (work .entry)) t i) ⌝ }
 {
-    let classes = ClassSet::load(work, ROWS + ROW * place(i) + 2).count();
+    let classes = classes_of(work, place(i)).count();
     let values = count_values(work, t.constraints, i + 1);
     let edges = count_edges(work, place(t.individuals), i + 1);
     place(classes) + values + edges
@@ -124,7 +124,8 @@ fn count_row(work: &[u32], t: Tables, i: u32) -> usize
 pub fn size(work: &[u32], t: Tables) -> usize
     requires { ⌜ Standing (now work) t ⌝ }
     ensures { λ r. ⌜ r ≡ recordCount (now (work .entry)) t ⌝ }
-    ensures { λ r. ⌜ ((K : Vocabulary) (u : Form) → Modelled K u (now (work .entry)) t → r ≡ length (canonicalModel K u)) ⌝ }
+    ensures { λ r. ⌜ ((K : Vocabulary) (u : Form) → Modelled K u (now (work .entry)) t →
+        r ≡ length (canonicalModel K u)) ⌝ }
 {
     let n = t.individuals;
     let mut records = 0;
@@ -147,7 +148,8 @@ fn link(k: usize, last: usize) -> u32
 // Record k: kind, name, individual, other, next.
 fn put(out: &mut [u32], k: usize, last: usize, kind: u32, name: u32, x: u32, other: u32)
     requires { ⌜ (k ≤ last) × Room last (now out) ⌝ }
-    ensures { λ _. ⌜ now (out .exit) ≡ putAt (now (out .entry)) (5 * k) (kind ∷ (name ∷ (x ∷ (other ∷ (linkAt last k ∷ []))))) ⌝ }
+    ensures { λ _. ⌜ now (out .exit)
+        ≡ putAt (now (out .entry)) (5 * k) (kind ∷ (name ∷ (x ∷ (other ∷ (linkAt last k ∷ []))))) ⌝ }
 {
     let at = 5 * k;
     out[at] = kind;
@@ -159,10 +161,10 @@ fn put(out: &mut [u32], k: usize, last: usize, kind: u32, name: u32, x: u32, oth
 
 // The classes of row i, individual i + 1, rising.
 fn write_classes(work: &[u32], i: u32, out: &mut [u32], k: usize, last: usize) -> usize
-    requires { ⌜ (i < mostRecords) × (tablesEnd ≤ length (now work)) × Room last (now out) × (k + length (memberFacts (now work) i) ≤ last + 1) ⌝ }
+    requires { ⌜ HasEntry i (now work) × RoomFor last k (memberFacts (now work) i) (now out) ⌝ }
     ensures { λ r. ⌜ Written last k (memberFacts (now (work .entry)) i) (now (out .entry)) (now (out .exit)) r ⌝ }
 {
-    let classes = ClassSet::load(work, ROWS + ROW * place(i) + 2);
+    let classes = classes_of(work, place(i));
     let mut at = k;
     let mut c = classes.next(ClassNo(0));
     while c.0 != 0 {
@@ -175,15 +177,16 @@ fn write_classes(work: &[u32], i: u32, out: &mut [u32], k: usize, last: usize) -
 
 // The pairs of individual x, rising.
 fn write_values(work: &[u32], n: usize, x: u32, out: &mut [u32], k: usize, last: usize) -> usize
-    requires { ⌜ (n ≤ mostRecords) × (tablesEnd ≤ length (now work)) × Room last (now out) × (k + length (valueFacts (now work) n x) ≤ last + 1) ⌝ }
+    requires { ⌜ (n ≤ mostRecords) × (tablesEnd ≤ length (now work))
+        × RoomFor last k (valueFacts (now work) n x) (now out) ⌝ }
     ensures { λ r. ⌜ Written last k (valueFacts (now (work .entry)) n x) (now (out .entry)) (now (out .exit)) r ⌝ }
 {
     let mut at = k;
     let mut m = next_pair(work, n, x, n);
     while m < n {
-        let f = work[INTERVALS + INTERVAL * m + 1];
-        let v = work[INTERVALS + INTERVAL * m + 5];
-        put(out, at, last, 3, f, x, v);
+        let f = feature_of(work, m);
+        let v = piece_hi(work, m);
+        put(out, at, last, 3, f.0, x, v);
         at += 1;
         m = next_pair(work, n, x, m);
     }
@@ -192,14 +195,15 @@ fn write_values(work: &[u32], n: usize, x: u32, out: &mut [u32], k: usize, last:
 
 // The edges of individual x, by target.
 fn write_edges(work: &[u32], n: usize, x: u32, out: &mut [u32], k: usize, last: usize) -> usize
-    requires { ⌜ (x ≤ n) × (n ≤ mostRecords) × (tablesEnd ≤ length (now work)) × Room last (now out) × (k + length (edgeFacts (now work) n x) ≤ last + 1) ⌝ }
+    requires { ⌜ (x ≤ n) × (n ≤ mostRecords) × (tablesEnd ≤ length (now work))
+        × RoomFor last k (edgeFacts (now work) n x) (now out) ⌝ }
     ensures { λ r. ⌜ Written last k (edgeFacts (now (work .entry)) n x) (now (out .entry)) (now (out .exit)) r ⌝ }
 {
     let mut at = k;
     let mut j = next_successor(work, n, x, place(x));
     while j < n {
-        let role = work[ROWS + ROW * j + 1];
-        put(out, at, last, 2, role, x, j as u32 + 1);
+        let r = role_of(work, j);
+        put(out, at, last, 2, r.0, x, j as u32 + 1);
         at += 1;
         j = next_successor(work, n, x, j + 1);
     }
@@ -208,7 +212,7 @@ fn write_edges(work: &[u32], n: usize, x: u32, out: &mut [u32], k: usize, last: 
 
 // The records of row i, individual i + 1, from record k on.
 fn write_row(work: &[u32], t: Tables, i: u32, out: &mut [u32], k: usize, last: usize) -> usize
-    requires { ⌜ Standing (now work) t × (i < t .individuals) × Room last (now out) × (k + length (factsAt (now work) t i) ≤ last + 1) ⌝ }
+    requires { ⌜ Standing (now work) t × (i < t .individuals) × RoomFor last k (factsAt (now work) t i) (now out) ⌝ }
     ensures { λ r. ⌜ Written last k (factsAt (now (work .entry)) t i) (now (out .entry)) (now (out .exit)) r ⌝ }
 {
     let a = write_classes(work, i, out, k, last);
@@ -218,7 +222,7 @@ fn write_row(work: &[u32], t: Tables, i: u32, out: &mut [u32], k: usize, last: u
 
 // All records: "For each individual in turn: classes rising; (feature, value) pairs rising, no repeats; edges by target."
 fn write_rows(work: &[u32], t: Tables, last: usize, out: &mut [u32])
-    requires { ⌜ Standing (now work) t × Room last (now out) × (last ≡ recordCount (now work) t) ⌝ }
+    requires { ⌜ Standing (now work) t × RoomFor last 1 (tableFacts (now work) t) (now out) ⌝ }
     ensures { λ _. ⌜ now (out .exit) ≡ recorded last 1 (tableFacts (now (work .entry)) t) (now (out .entry)) ⌝ }
 {
     let n = t.individuals;
@@ -232,7 +236,7 @@ fn write_rows(work: &[u32], t: Tables, last: usize, out: &mut [u32])
 pub fn write(work: &[u32], t: Tables, records: usize, out: &mut [u32])
     requires { ⌜ Standing (now work) t × (records ≡ recordCount (now work) t) × (5 * (records + 1) ≤ length (now out)) ⌝ }
     ensures { λ _. ⌜ length (now (out .exit)) ≡ length (now (out .entry)) ⌝ }
-    ensures { λ _. ⌜ ((K : Vocabulary) (u : Form) → Modelled K u (now (work .entry)) t → now (out .exit) ≡ outputAfter (countermodel K u) (now (out .entry))) ⌝ }
+    ensures { λ _. ⌜ ModelWritten (now (work .entry)) t (now (out .entry)) (now (out .exit)) ⌝ }
 {
     out[0] = link(0, records);
     out[1] = t.individuals;

@@ -9,10 +9,15 @@ use lib.ListN.{drop, length, take}
 use lib.Seq.{take-at}
 use native.Mathlib.Omega.{arith}
 use borrow.Author.Tests.{le-leb, le-ltb, lt-leb, lt-ltb, ltb-false}
-use Rattle.combination.specs.Combination.{Combined}
-use Rattle.countermodel.specs.Facts.{Standing}
 use Rattle.decision.specs.Decisions.{Delivers, Failed, Failure, Reports, decision, exceeds}
-use Rattle.hierarchy.specs.declared.Functional.{Functional}
+use Rattle.frames.proofs.Frames.{only-none, only-then, only-wider}
+use Rattle.frames.proofs.Work.{outputs-none}
+use Rattle.frames.specs.Frames.{Only}
+use Rattle.functional.specs.declared.Functional.{Functional}
+use Rattle.layout.specs.Combination.{Combined}
+use Rattle.layout.specs.Places.{InTables}
+use Rattle.layout.specs.Tables.{Pieces, Standing}
+use Rattle.layout.specs.declared.Tables.{Tables}
 use Rattle.meaning.proofs.Bounds.{bounded, chain-bounded}
 use Rattle.meaning.proofs.Containment.{witness}
 use Rattle.meaning.proofs.ModelWords.{model-length}
@@ -23,27 +28,25 @@ use Rattle.meaning.specs.Accepted.{ChainOf}
 use Rattle.meaning.specs.Answers.{VerdictResult, outside, result}
 use Rattle.meaning.specs.Containment.{contained, decide, decideFrom, escapes, firstFailure, orEscape, passes, tooMany}
 use Rattle.meaning.specs.Countermodel.{canonicalModel, countermodel, individuals}
-use Rattle.meaning.specs.Limits.{mostClasses, mostCombinations, mostRecords, workSize}
+use Rattle.meaning.specs.Limits.{mostClasses, mostCombinations, mostRecords}
 use Rattle.meaning.specs.Lists.{_∈_, any, firstFailing, found, here, nowhere, there}
 use Rattle.meaning.specs.Normal.{Bounded, Normal}
 use Rattle.meaning.specs.NormalForm.{Form, hasBottom, normalForm, possible}
 use Rattle.meaning.specs.Operations.{Outcome, outputAfter, reported, says, written}
-use Rattle.meaning.specs.Policy.{Chain, Policy, nextOf, policyOf, policyRefusal}
+use Rattle.meaning.specs.Policy.{Chain, Policy, nextOf, policyOf, policyRefusal, termAt}
 use Rattle.meaning.specs.Records.{Name}
 use Rattle.meaning.specs.Splitting.{combinationCount, combinations, product}
 use Rattle.meaning.specs.Vocabulary.{Vocabulary, classCount, featureCount, roleCount, vocabularyOf, vocabularyRefusal}
 use Rattle.meaning.specs.declared.Verdict.{Verdict}
-use Rattle.normal_form.proofs.Groups.{prepared-same}
-use Rattle.normal_form.specs.Clean.{DecidesClean, cleanForm}
-use Rattle.normal_form.specs.Tables.{Prepared, termAt}
-use Rattle.normal_form.specs.declared.Tables.{Tables}
-use Rattle.splitting.proofs.Callers.{full-clean, full-nonEmpty, kept-refl, product-at}
+use Rattle.policy.proofs.Terms.{Asking, asking-found, asking-on, asking-term}
+use Rattle.preparation.proofs.Laws.{prepared-kept}
+use Rattle.preparation.specs.Prepared.{Prepared}
+use Rattle.splitting.proofs.Callers.{full-clean, full-nonEmpty, product-at}
 use Rattle.splitting.specs.Ends.{Ends}
-use Rattle.splitting.specs.Odometer.{OnlyPieces, Splittable, constraintsAt}
+use Rattle.splitting.specs.Odometer.{Splittable, firstConstraints}
+use Rattle.tabulation.specs.Clean.{DecidesClean, cleanForm}
+use Rattle.tabulation.specs.Tabulation.{Shaped, Tabulated}
 use Rattle.trial.specs.Trials.{Triable, Tried}
-use Rattle.workspace.proofs.Laws.{beyond-then}
-use Rattle.workspace.proofs.Walk.{Asking, asking-found, asking-named, asking-on}
-use Rattle.workspace.specs.Work.{Beyond, Shaped, Stays, Tabulated}
 use Rattle.meaning.specs.declared.Verdict.the-variants as verdict
 use Rattle.trial.specs.Trials as Tries
 
@@ -95,14 +98,14 @@ clean-is K c h = go (not (hasBottom c)) h
     go false h = cc
 
 module _ {c : Chain} {f : Functional} {w w′ : List ℕ} {t : Tables} (d : Shaped c f w w′ t) where
-  pub shape-splittable : workSize ≤ length w → t .impossible ≡ false → Splittable w′ (t .constraints)
-  shape-splittable full h = let s = d .beyond .size in record { few = d .most .1; long = omega arith; full = full-nonEmpty w′ (t .constraints) (d .nonEmpty h) }
+  pub shape-splittable : t .impossible ≡ false → Splittable w′ (t .constraints)
+  shape-splittable h = record { few = d .standing .constraints; long = d .standing .long; full = full-nonEmpty w′ (t .constraints) (d .nonEmpty h) }
 
   module _ {v : List ℕ} (g : Prepared v w f) (o : ChainOf v c) (Q : Policy) where
     pub shape-impossible : t .impossible ≡ true → false ≡ exceeds (vocabularyOf v) Q c
     shape-impossible h = rw (d .never v g o h)
 
-    pub shape-within : product Q (constraintsAt w′ (t .constraints)) ≤ mostCombinations → false ≡ exceeds (vocabularyOf v) Q c
+    pub shape-within : product Q (firstConstraints w′ (t .constraints)) ≤ mostCombinations → false ≡ exceeds (vocabularyOf v) Q c
     shape-within l =
         let b = subst (λ (m : ℕ). m ≤ mostCombinations) (product-at (d .tabled v g o) Q) l in
         rw (le-ltb mostCombinations _ b) (go (possible (vocabularyOf v) c))
@@ -111,7 +114,7 @@ module _ {c : Chain} {f : Functional} {w w′ : List ℕ} {t : Tables} (d : Shap
         go true = refl
         go false = refl
 
-    module _ {n : ℕ} (e : n ≡ min (product Q (constraintsAt w′ (t .constraints))) (suc mostCombinations)) where
+    module _ {n : ℕ} (e : n ≡ min (product Q (firstConstraints w′ (t .constraints))) (suc mostCombinations)) where
       counted : ltb mostCombinations n ≡ ltb mostCombinations (combinationCount Q (normalForm (vocabularyOf v) c))
       counted = capped n _ (e ∙ ap (λ (m : ℕ). min m (suc mostCombinations)) (product-at (d .tabled v g o) Q))
 
@@ -120,7 +123,7 @@ module _ {c : Chain} {f : Functional} {w w′ : List ℕ} {t : Tables} (d : Shap
 
       pub shape-many : {b : Bool} → t .impossible ≡ false → mostCombinations < n → DecidesClean w′ t b → b ≡ exceeds (vocabularyOf v) Q c
       shape-many h l q =
-          rw (sym counted ∙ lt-ltb mostCombinations n l, d .clean v h) (go _ (q v (normalForm (vocabularyOf v) c) (d .prepared v g .paired) (d .tabled v g o)))
+          rw (sym counted ∙ lt-ltb mostCombinations n l, d .clean v h) (go _ (q v (normalForm (vocabularyOf v) c) (prepared-kept (d .only) g .paired) (d .tabled v g o)))
         where
           go : {b : Bool} (x : Bool) → b ≡ x → b ≡ (x && true)
           go true h = h
@@ -130,21 +133,18 @@ module _ {v : List ℕ} {c : Chain} {f : Functional} {w w′ : List ℕ} {t : Ta
   abbrev K : Vocabulary
   K = vocabularyOf v
 
-  module _ (full : workSize ≤ length w) (h : t .impossible ≡ false) where
+  module _ (h : t .impossible ≡ false) where
     is-possible : possible K c ≡ true
     is-possible = is-true (possible K c) (d .impossible v g o) h
 
     pub term-splittable : Splittable w′ (t .constraints)
-    term-splittable =
-        let s = d .beyond .size in
-        record { few = d .most .1; long = omega arith; full = full-clean (d .tabled v g o) (clean-is K c is-possible) }
+    term-splittable = record { few = d .standing .constraints; long = d .standing .long; full = full-clean (d .tabled v g o) (clean-is K c is-possible) }
 
     pub term-triable : {q e : List ℕ} → policyRefusal v q ≡ 0 → Ends (policyOf q) e → exceeds K (policyOf q) c ≡ false → Triable q e w′ t
     term-triable {q} a n x =
-        let s = d .beyond .size in
         let i = d .tabled v g o .count in
         record {
-          askable = record { long = omega arith; some = omega arith; individuals = d .most .0; constraints = d .most .1; vocabulary = v; accepted = a };
+          askable = record { standing = d .standing; some = omega arith; vocabulary = v; accepted = a };
           splittable = term-splittable;
           ends = n;
           few = rw (product-at (d .tabled v g o) (policyOf q)) (le-of (combinationCount (policyOf q) (normalForm K c)) (rw is-possible at x));
@@ -158,23 +158,19 @@ module _ {v : List ℕ} {c : Chain} {f : Functional} {w w′ : List ℕ} {t : Ta
 module _ (Q : Policy) {w : List ℕ} {t : Tables} where
   pub failed-impossible : t .impossible ≡ true → Failed Q w w t 0
   unfolding firstFailure
-  failed-impossible h = record { told = λ v c e s. rw (is-false (possible (vocabularyOf v) c) e h); kept = kept-refl (t .constraints) w }
+  failed-impossible h = record { told = λ v c e s. rw (is-false (possible (vocabularyOf v) c) e h); only = only-none }
 
   pub failed-tried : {w′ : List ℕ} {r : ℕ} → t .impossible ≡ false → Tried Q w w′ t r → Failed Q w w′ t r
   unfolding firstFailure
-  failed-tried {w′} {r} h y = record { told = λ v c e s. go r (vocabularyOf v) c (is-true (possible (vocabularyOf v) c) e h) (y .told (vocabularyOf v) (normalForm (vocabularyOf v) c) s); kept = y .kept }
+  failed-tried {w′} {r} h y = record { told = λ v c e s. go r (vocabularyOf v) c (is-true (possible (vocabularyOf v) c) e h) (y .told (vocabularyOf v) (normalForm (vocabularyOf v) c) s); only = y .only }
     where
       go : (r : ℕ) (K : Vocabulary) (c : Chain) → possible K c ≡ true → Tries.Failure K Q (normalForm K c) w′ t r → Failure K Q c w′ t r
       go zero K c e y = rw e y
       go (suc k) K c e y = (y .0, rw e (y .1), y .2)
 
--- a piece put beside a constraint leaves what was prepared, and what stands after
-module _ {n : ℕ} {w w′ : List ℕ} (k : OnlyPieces n w w′) (few : n ≤ mostRecords) where
-  pub pieces-stay : {f : Functional} → Stays f w w′
-  pieces-stay v g = prepared-same (k .same) (λ i h. k .others i (λ m l. (λ z. omega arith, λ z. omega arith))) g
-
-  pub pieces-beyond : Beyond w w′
-  pieces-beyond = record { size = k .same; rest = λ i h. k .others i (λ m l. (λ z. omega arith, λ z. omega arith)) }
+-- the pieces stand in the tables
+pieces-tables : {n : ℕ} {w w′ : List ℕ} → n ≤ mostRecords → Only (Pieces n) w w′ → Only InTables w w′
+pieces-tables few k = only-wider (λ i s. record { low = omega (arith, s .span .low); high = omega (arith, s .few, s .span .high) }) k
 
 -- ---- the first term to fail
 
@@ -244,10 +240,6 @@ pub countermodel-length : (K : Vocabulary) (u : Form) → length (countermodel K
 unfolding countermodel
 countermodel-length K u = model-length (individuals u) (canonicalModel K u)
 
-pub outputs-none : (o : List ℕ) → o ≡ outputAfter [] o
-unfolding outputAfter
-outputs-none o = refl
-
 -- the words written stand at the front of the output
 pub taken : (words o : List ℕ) {o′ : List ℕ} (n : ℕ) → n ≡ length words → o′ ≡ outputAfter words o → words ≡ take n o′
 unfolding outputAfter
@@ -287,14 +279,14 @@ term-bounded v c h = chain-bounded (classCount v) (roleCount v) (featureCount v)
 -- ---- one term of the loop
 
 module _ {c : Chain} {f : Functional} {Q : Policy} {w w′ w″ : List ℕ} {t : Tables} {r : ℕ} (d : Tabulated c f w w′ t) (g : Failed Q w′ w″ t r) where
-  pub term-standing : workSize ≤ length w → Standing w″ t
-  term-standing h = let x = d .beyond .size in let y = g .kept .same in record { long = omega arith; individuals = d .most .0; constraints = d .most .1 }
+  pub term-standing : Standing w″ t
+  term-standing =
+      let l = d .standing .long in
+      let y = g .only .size in
+      record { long = omega arith; individuals = d .standing .individuals; constraints = d .standing .constraints }
 
-  pub term-stays : Stays f w w″
-  term-stays v b = pieces-stay (g .kept) (d .most .1) v (d .prepared v b)
-
-  pub term-beyond : Beyond w w″
-  term-beyond = beyond-then (d .beyond) (pieces-beyond (g .kept) (d .most .1))
+  pub term-only : Only InTables w w″
+  term-only = only-then (d .only) (pieces-tables (d .standing .constraints) (g .only))
 
 module _ {v p : List ℕ} (q : List ℕ) {s k : ℕ} (a : Asking (Undecided v p q) v p s k) (n : k ≡ 0 → ⊥) where
   pub term-few : exceeds (vocabularyOf v) (policyOf q) (termAt p k) ≡ false
@@ -302,13 +294,13 @@ module _ {v p : List ℕ} (q : List ℕ) {s k : ℕ} (a : Asking (Undecided v p 
 
   module _ {f : Functional} {w w′ w″ : List ℕ} {t : Tables} {r : ℕ} (b : Prepared v w f) (d : Tabulated (termAt p k) f w w′ t) (g : Failed (policyOf q) w′ w″ t r) where
     abbrev failure : Failure (vocabularyOf v) (policyOf q) (termAt p k) w″ t r
-    failure = g .told v (termAt p k) (d .impossible v b (asking-named a n)) (d .tabled v b (asking-named a n))
+    failure = g .told v (termAt p k) (d .impossible v b (asking-term a n .named)) (d .tabled v b (asking-term a n .named))
 
     pub term-fails : {o o₀ o′ : List ℕ} {x : Verdict} → (r ≡ 0 → ⊥) → o ≡ o₀ → Reports s r w″ t o o′ x → Delivers (decision v p q (length o₀)) o₀ o′ x
     term-fails {o} {o₀} {o′} {x} z e y =
         let i = fails-some (vocabularyOf v) (policyOf q) (termAt p k) w″ t z failure in
         let h = bounded v (b .accepted) in
-        let m = fails-normal (vocabularyOf v) h (policyOf q) (termAt p k) r (i .0) (term-bounded v (termAt p k) (asking-named a n)) (i .1) in
+        let m = fails-normal (vocabularyOf v) h (policyOf q) (termAt p k) r (i .0) (term-bounded v (termAt p k) (asking-term a n .named)) (i .1) in
         delivers-report (vocabularyOf v) (policyOf p) (policyOf q) o₀ (asking-found a n (λ l u. undecided-found v p q s (termAt p k) l u (i .1)))
         (subst (λ (l : List ℕ). Delivers (written (length l) (outside s r) (countermodel (vocabularyOf v) (i .0))) l o′ x) e
         (y (vocabularyOf v) (i .0) (record { few = few-classes v (b .accepted); bounded = h; normal = m; combined = i .2 })))

@@ -5,9 +5,12 @@ use mathlib.Core.List.{List}
 use mathlib.Core.Path.{_≡_}
 use lib.Dec.{ltb}
 use lib.ListN.{length}
-use Rattle.combination.specs.Combination.{Combined}
 use Rattle.countermodel.specs.Facts.{Modelled}
-use Rattle.hierarchy.specs.declared.Functional.{Functional}
+use Rattle.frames.specs.Frames.{Only}
+use Rattle.functional.specs.declared.Functional.{Functional}
+use Rattle.layout.specs.Combination.{Combined}
+use Rattle.layout.specs.Tables.{Pieces, Tabled}
+use Rattle.layout.specs.declared.Tables.{Tables}
 use Rattle.meaning.specs.Accepted.{ChainOf}
 use Rattle.meaning.specs.Answers.{VerdictResult, compliant, outside, verdictAnswer}
 use Rattle.meaning.specs.Containment.{decide, firstFailure, tooMany}
@@ -20,11 +23,8 @@ use Rattle.meaning.specs.Policy.{Chain, Policy, policyOf, policyRefusal}
 use Rattle.meaning.specs.Splitting.{combinationCount}
 use Rattle.meaning.specs.Vocabulary.{Vocabulary, vocabularyOf}
 use Rattle.meaning.specs.declared.Verdict.{Verdict}
-use Rattle.normal_form.specs.Tables.{Prepared, Tabled}
-use Rattle.normal_form.specs.declared.Tables.{Tables}
+use Rattle.preparation.specs.Prepared.{Accepting, Prepared}
 use Rattle.splitting.specs.Ends.{Ends}
-use Rattle.splitting.specs.Odometer.{OnlyPieces}
-use Rattle.workspace.specs.Work.{Accepting}
 
 -- the answer is the outcome's, and the output holds the outcome's words
 pub record Delivers (x : Outcome VerdictResult) (o o′ : List ℕ) (r : Verdict) : Type 0 where
@@ -77,4 +77,4 @@ Failure K Q c w t (suc k) = (u : Form) × (firstFailure K Q c ≡ found (suc k) 
 pub record Failed (Q : Policy) (w w′ : List ℕ) (t : Tables) (r : ℕ) : Type 0 where
   pub told : (v : List ℕ) (c : Chain) → t .impossible ≡ not (possible (vocabularyOf v) c) → Tabled (vocabularyOf v) (normalForm (vocabularyOf v) c) w t →
       Failure (vocabularyOf v) Q c w′ t r
-  pub kept : OnlyPieces (t .constraints) w w′
+  pub only : Only (Pieces (t .constraints)) w w′

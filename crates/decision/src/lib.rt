@@ -1,37 +1,39 @@
 // One policy against another: whether a term has too many combinations, and the first combination to fail.
-use hierarchy::Functional;
+use functional::Functional;
+use layout::Tables;
 use meaning::Verdict;
 use meaning::limits::MOST_COMBINATIONS;
-use normal_form::Tables;
-use normal_form::is_clean;
 use policy::first_term;
 use policy::next_of;
 use splitting::combinations;
 use splitting::may_exceed;
+use tabulation::is_clean;
+use tabulation::shape;
+use tabulation::tabulate;
 use trial::first_failure;
-use workspace::shape;
-use workspace::tabulate;
 ghost use mathlib.Core.Bool.{false};
 ghost use mathlib.Core.List.{List};
 ghost use mathlib.Core.Path.{_≡_};
 ghost use Prim.Native.Nat.{_≤_, ℕ};
 ghost use lib.ListN.{length};
-ghost use Rattle.countermodel.specs.Facts.{Standing};
 ghost use Rattle.decision.specs.Decisions.{Countable, Counts, Decides, Exceeds, Failed, Reports};
-ghost use Rattle.hierarchy.specs.Pairs.{mostPairs, pairCount};
+ghost use Rattle.frames.specs.Frames.{Only};
+ghost use Rattle.layout.specs.Places.{InTables, mostPairs};
+ghost use Rattle.layout.specs.Tables.{Standing};
 ghost use Rattle.meaning.specs.Limits.{workSize};
-ghost use Rattle.meaning.specs.Policy.{policyOf};
-ghost use Rattle.normal_form.specs.Tables.{Fit, termAt};
+ghost use Rattle.meaning.specs.Policy.{policyOf, termAt};
+ghost use Rattle.normal_form.specs.Tables.{Fit};
+ghost use Rattle.pairs.specs.Pairs.{pairCount};
+ghost use Rattle.preparation.specs.Prepared.{Accepting};
 ghost use Rattle.splitting.specs.Ends.{Ends};
 ghost use Rattle.trial.specs.Trials.{Triable};
-ghost use Rattle.workspace.specs.Work.{Accepting, Beyond, Stays};
 
 // Whether the term at record k is possible and has too many combinations. Mostly a glance at the number of ends tells that it
 // has not; few have, so the look at the pairs comes last.
 fn is_too_many(p: &[u32], work: &mut [u32], f: Functional, ends: &[u32], k: u32) -> bool
-    requires { ⌜ (workSize ≤ length (now work)) × Fit (now p) (now work) k × (pairCount (now work) ≤ mostPairs) ⌝ }
+    requires { ⌜ Fit (now p) (now work) k × (pairCount (now work) ≤ mostPairs) ⌝ }
     ensures { λ r. ⌜ Exceeds (termAt (now (p .entry)) k) (now (ends .entry)) (now (work .entry)) f r ⌝ }
-    ensures { λ _. ⌜ Stays f (now (work .entry)) (now (work .exit)) × Beyond (now (work .entry)) (now (work .exit)) ⌝ }
+    ensures { λ _. ⌜ Only InTables (now (work .entry)) (now (work .exit)) ⌝ }
 {
     let t = shape(p, work, f, k);
     if t.impossible {
@@ -50,7 +52,7 @@ fn is_too_many(p: &[u32], work: &mut [u32], f: Functional, ends: &[u32], k: u32)
 pub fn has_too_many(p: &[u32], work: &mut [u32], f: Functional, ends: &[u32]) -> bool
     requires { ⌜ (workSize ≤ length (now work)) × ((v : List ℕ) × Accepting v (now p) (now work) f) ⌝ }
     ensures { λ r. ⌜ Counts (now (p .entry)) (now (ends .entry)) (now (work .entry)) f r ⌝ }
-    ensures { λ _. ⌜ Stays f (now (work .entry)) (now (work .exit)) × Beyond (now (work .entry)) (now (work .exit)) ⌝ }
+    ensures { λ _. ⌜ Only InTables (now (work .entry)) (now (work .exit)) ⌝ }
 {
     let first = first_term(p);
     let mut k = first;
@@ -100,8 +102,9 @@ pub fn decide(
     out: &mut [u32],
 ) -> Verdict
     requires { ⌜ ((v : List ℕ) × Countable v (now p) (now q) (now work) f) × Ends (policyOf (now q)) (now ends) ⌝ }
-    ensures { λ r. ⌜ Decides (now (p .entry)) (now (q .entry)) (now (work .entry)) f (now (out .entry)) (now (out .exit)) r ⌝ }
-    ensures { λ _. ⌜ Stays f (now (work .entry)) (now (work .exit)) × Beyond (now (work .entry)) (now (work .exit)) ⌝ }
+    ensures { λ r. ⌜ Decides (now (p .entry)) (now (q .entry)) (now (work .entry)) f
+        (now (out .entry)) (now (out .exit)) r ⌝ }
+    ensures { λ _. ⌜ Only InTables (now (work .entry)) (now (work .exit)) ⌝ }
     ensures { λ _. ⌜ length (now (out .exit)) ≡ length (now (out .entry)) ⌝ }
 {
     let mut s: u32 = 1;

@@ -1,29 +1,26 @@
 -- Laws of the slices afterwards: when the work slice is full, which refusals come after 21, how many words are written.
-use Prim.Native.Nat.{_<_, _≤_, suc, zero, ℕ}
-use mathlib.Core.Bool.{Bool, _||_, cond, false, true}
+use Prim.Native.Nat.{_<_, _≤_, ℕ}
+use mathlib.Core.Bool.{Bool, cond, false, true}
 use mathlib.Core.List.{List, [], _∷_}
 use mathlib.Core.Path.{_∙_, _≡_, ap, refl, subst, sym}
-use lib.Dec.{eqb, leb, ltb}
+use lib.Dec.{ltb}
 use lib.ListN.{List·getD-append, drop, getD, getD-replicate, length, length-append, length-drop, length-replicate, replicate}
 use lib.Seq.{drop-at}
 use native.Mathlib.Omega.{arith}
-use borrow.Author.Tests.{ltb-false, ne-eqb}
-use Rattle.demands.proofs.Orders.{Follows, answering, first-all, first-some, refusing}
-use Rattle.demands.specs.Refusals.{FirstRefusal, here, inputOrder, later, manyRefusal, modelCheckOrder, possibleOrder, shortRefusal}
+use borrow.Author.Tests.{ltb-false}
+use Rattle.demands.proofs.Orders.{Follows, answering, refusing}
+use Rattle.demands.specs.Refusals.{FirstRefusal, here, inputOrder, later, modelCheckOrder, possibleOrder}
 use Rattle.demands.specs.Slices.{WorkCleared, WritesFirst}
-use Rattle.meaning.proofs.Refusals.{cond-all, policyRefusal-≤, vocabularyRefusal-≤}
+use Rattle.meaning.proofs.Refusals.{model-early, policy-early, second-early, vocabulary-early, work-early}
 use Rattle.meaning.proofs.Rules.{all-at}
 use Rattle.meaning.specs.Answers.{Answer, ComparisonResult, VerdictResult, differs, outside, refused, result}
-use Rattle.meaning.specs.Containment.{Decision, contained, escapes}
-use Rattle.meaning.specs.Countermodel.{countermodel}
-use Rattle.meaning.specs.Limits.{mostModelWords, workSize}
+use Rattle.meaning.specs.Limits.{workSize}
 use Rattle.meaning.specs.Lists.{All, _∈_, cons, nil}
-use Rattle.meaning.specs.Model.{factNext, factsRefusal, firstFact, headedModel, modelRefusal, soundFact}
-use Rattle.meaning.specs.Operations.{Outcome, comesLate, outputAfter, workAfter, workRefusal, zeroed}
-use Rattle.meaning.specs.Policy.{Policy, policyRefusal, secondRefusal}
-use Rattle.meaning.specs.Promises.{CorrectComparison, CorrectVerdict, IsRefusal, agreed, escaped, same, side1, side2, unsaidComparison, unsaidVerdict}
-use Rattle.meaning.specs.Records.{isSized}
-use Rattle.meaning.specs.Vocabulary.{Vocabulary, vocabularyRefusal}
+use Rattle.meaning.specs.Operations.{Early, Outcome, comesLate, isLate, outputAfter, workAfter, workRefusal, zeroed}
+use Rattle.meaning.specs.Policy.{Policy}
+use Rattle.meaning.specs.Promises.{CorrectComparison, CorrectVerdict, IsRefusal, agreed, escaped, same, side1, side2, unsaidComparison}
+use Rattle.meaning.specs.Promises.{unsaidVerdict}
+use Rattle.meaning.specs.Vocabulary.{Vocabulary}
 
 -- ---- a work slice that is full
 
@@ -38,71 +35,24 @@ pub result-full : {A : Type 0} {l : List ℕ} {a : Answer A} (w : ℕ) → Follo
 result-full w (refusing {n = n} f) m t = absurd (t (n, refl))
 result-full w (answering z) m t = work-full w (all-at z m)
 
--- a refusal after 21 passed those before it
-past : {n m : ℕ} {l : List ℕ} → FirstRefusal n (m ∷ l) → m ≤ 21 → 21 < n → (m ≡ 0) × FirstRefusal n l
-past (here h) k g = absurd (omega arith)
+-- a refusal that comes late passed those that come early
+past : {n m : ℕ} {l : List ℕ} → FirstRefusal n (m ∷ l) → Early m → isLate n ≡ true → (m ≡ 0) × FirstRefusal n l
+past (here h) k g = absurd (let z : _≡_ {A = ℕ} 0 1 = cc in omega arith)
 past (later f) k g = (refl, f)
 
-second-few : (n : ℕ) → n ≤ 8 → secondRefusal n ≤ 21
-second-few zero h = omega arith
-second-few (suc n) h = omega arith
-
-workRefusal-≤ : (w : ℕ) → workRefusal w ≤ 21
-workRefusal-≤ w = cond-all (λ n. n ≤ 21) (ltb w workSize) (omega arith) (omega arith)
-
-pub after-21 : (v p q : List ℕ) (w : ℕ) {n : ℕ} {l : List ℕ} → FirstRefusal n (inputOrder v p q w l) → 21 < n → (workSize ≤ w) × FirstRefusal n l
+pub after-21 : (v p q : List ℕ) (w : ℕ) {n : ℕ} {l : List ℕ} → FirstRefusal n (inputOrder v p q w l) → isLate n ≡ true → workSize ≤ w
 after-21 v p q w f g =
-    let a = past f (omega (arith, vocabularyRefusal-≤ v)) g in
-    let b = past (a .1) (omega (arith, policyRefusal-≤ v p)) g in
-    let c = past (b .1) (second-few (policyRefusal v q) (policyRefusal-≤ v q)) g in
-    let d = past (c .1) (workRefusal-≤ w) g in
-    (work-full w (d .0), d .1)
-
--- no refusal but 22 and 23 comes after 21
-abbrev Early : ℕ → Type 0
-Early n = (eqb n 22 || eqb n 23) ≡ false
-
-pub few-early : (n : ℕ) → n ≤ 21 → Early n
-few-early n h = rw (ne-eqb n 22 (λ e. omega arith), ne-eqb n 23 (λ e. omega arith))
-
-vocabulary-early : (v : List ℕ) → Early (vocabularyRefusal v)
-vocabulary-early v = few-early (vocabularyRefusal v) (omega (arith, vocabularyRefusal-≤ v))
-
-policy-early : (v p : List ℕ) → Early (policyRefusal v p)
-policy-early v p = few-early (policyRefusal v p) (omega (arith, policyRefusal-≤ v p))
-
-work-early : (w : ℕ) → Early (workRefusal w)
-work-early w = few-early (workRefusal w) (workRefusal-≤ w)
-
-facts-early : (f : ℕ) (v m : List ℕ) (k : ℕ) → Early (factsRefusal f v m k)
-facts-early zero v m k = refl
-facts-early (suc f) v m k = cond-all Early (eqb k 0) refl (cond-all Early (soundFact v m k) (facts-early f v m (factNext m k)) refl)
-
-model-early : (v m : List ℕ) → Early (modelRefusal v m)
-unfolding modelRefusal
-model-early v m = cond-all Early (isSized 5 mostModelWords (length m)) (cond-all Early (headedModel m) (facts-early (length m) v m (firstFact m)) refl) refl
+    let a = past f (vocabulary-early v) g in
+    let b = past (a .1) (policy-early v p) g in
+    let c = past (b .1) (second-early v q) g in
+    let d = past (c .1) (work-early w) g in
+    work-full w (d .0)
 
 pub possible-early : (v p : List ℕ) (w : ℕ) → All Early (possibleOrder v p w)
 possible-early v p w = cons (vocabulary-early v) (cons (policy-early v p) (cons (work-early w) nil))
 
 pub model-check-early : (v p q m : List ℕ) (w : ℕ) → All Early (modelCheckOrder v p q m w)
-model-check-early v p q m w =
-    let second = few-early (secondRefusal (policyRefusal v q)) (second-few (policyRefusal v q) (policyRefusal-≤ v q)) in
-    cons (vocabulary-early v) (cons (policy-early v p) (cons second (cons (model-early v m) (cons (work-early w) nil))))
-
--- 22 and 23 do
-abbrev Late : ℕ → Type 0
-Late n = (n ≡ 0 → ⊥) → (eqb n 22 || eqb n 23) ≡ true
-
-pub none-late : Late 0
-none-late k = absurd (k refl)
-
-pub short-late : (K : Vocabulary) (o : ℕ) (d : Decision) (m : ℕ) → Late m → Late (shortRefusal K o d m)
-short-late K o contained m h = h
-short-late K o (escapes s q u) m h = cond-all Late (leb (length (countermodel K u)) o) none-late (λ k. refl)
-
-pub many-late : (b : Bool) {n m : ℕ} → Late m → FirstRefusal n (manyRefusal b ∷ m ∷ []) → (eqb n 22 || eqb n 23) ≡ true
-many-late b h f = first-all {P = Late} (cons (cond-all Late b (λ k. refl) none-late) (cons h nil)) f (first-some f)
+model-check-early v p q m w = cons (vocabulary-early v) (cons (policy-early v p) (cons (second-early v q) (cons (model-early v m) (cons (work-early w) nil))))
 
 pub result-late : {A : Type 0} (a : Answer A) → (IsRefusal a → ⊥) → comesLate a ≡ true
 result-late (refused n) t = absurd (t (n, refl))

@@ -1,30 +1,24 @@
 -- Demand 1: "A refusal writes no output, and both write only the words named there", of each operation that is lent a work slice.
-use Prim.Native.Nat.{_<_, _≤_, ℕ}
-use mathlib.Core.Bool.{_||_}
+use Prim.Native.Nat.{ℕ}
 use mathlib.Core.List.{List}
 use mathlib.Core.Path.{_∙_, _≡_, ap, refl, sym}
 use lib.ListN.{length}
 use native.Mathlib.Omega.{arith}
+use mathlib.Core.Bool.{true}
 use Rattle.containment.specs.Verdicts.{CompliancePost, PossiblePost}
-use Rattle.demands.proofs.Afterwards.{after-21, comparison-silent, comparison-written, few-early, many-late}
-use Rattle.demands.proofs.Afterwards.{model-check-early, none-late, possible-early, result-full, result-late, short-late}
-use Rattle.demands.proofs.Afterwards.{verdict-silent, verdict-written, work-cleared, work-kept, writes-first}
+use Rattle.demands.proofs.Afterwards.{after-21, comparison-silent, comparison-written, model-check-early, possible-early}
+use Rattle.demands.proofs.Afterwards.{result-full, result-late, verdict-silent, verdict-written, work-cleared, work-kept}
+use Rattle.demands.proofs.Afterwards.{writes-first}
 use Rattle.demands.proofs.Orders.{compliance-follows, equality-follows, first-all, model-check-follows, possible-follows}
-use Rattle.demands.proofs.Refusals.{compliance-refused-iff, equality-refused-iff, model-check-refused-iff}
-use Rattle.demands.proofs.Refusals.{possible-refused-iff}
+use Rattle.demands.proofs.Refusals.{compliance-refused-iff, equality-refused-iff, model-check-refused-iff, possible-refused-iff}
 use Rattle.demands.specs.Enough.{Answers, Compares}
-use Rattle.demands.specs.Refusals.{shortRefusal}
 use Rattle.demands.specs.Slices.{WorkCleared, WritesFirst}
 use Rattle.equality.specs.Comparisons.{EqualityPost}
 use Rattle.meaning.proofs.Compliance.{compliance-told}
 use Rattle.meaning.proofs.Equality.{equality-compared}
-use Rattle.meaning.specs.Answers.{checkedAnswer, comparisonAnswer, differs, outside, possibilityAnswer, refused, result}
-use Rattle.meaning.specs.Answers.{verdictAnswer}
-use Rattle.meaning.specs.Containment.{decide, tooMany}
-use Rattle.meaning.specs.Operations.{compliance, equality, outputAfter}
-use Rattle.meaning.specs.Policy.{policyOf}
+use Rattle.meaning.specs.Answers.{checkedAnswer, comparisonAnswer, differs, outside, possibilityAnswer, refused, result, verdictAnswer}
+use Rattle.meaning.specs.Operations.{Early, compliance, equality, isLate, outputAfter}
 use Rattle.meaning.specs.Promises.{IsRefusal}
-use Rattle.meaning.specs.Vocabulary.{vocabularyOf}
 use Rattle.meaning.specs.declared.Checked.{Checked}
 use Rattle.meaning.specs.declared.Comparison.{Comparison}
 use Rattle.meaning.specs.declared.Possibility.{Possibility}
@@ -39,16 +33,13 @@ use Rattle.meaning.specs.declared.Verdict.the-variants as verdict
 -- ---- Compliance
 
 module _ {v p q w w′ o o′ : List ℕ} {r : Verdict} (c : CompliancePost v p q w w′ o o′ r) where
-  -- "a refusal up to and including 21 writes in no slice": not in the work slice
-  pub compliance-refused-early-work : {n : ℕ} → r ≡ verdict.Refused n → n ≤ 21 → w′ ≡ w
-  compliance-refused-early-work {n} e l = work-kept (refused n) (few-early n l) (rw e at (c .work))
+  -- "a refusal up to and including 21 writes in no slice": an early one, not in the work slice
+  pub compliance-refused-early-work : {n : ℕ} → r ≡ verdict.Refused n → Early n → w′ ≡ w
+  compliance-refused-early-work {n} e l = work-kept (refused n) l (rw e at (c .work))
 
   -- "one that comes after 21 leaves the first 16,384 work words 0 and writes nothing else"
-  pub compliance-refused-late-work : {n : ℕ} → r ≡ verdict.Refused n → 21 < n → WorkCleared w w′
-  compliance-refused-late-work {n} e l =
-      let f = after-21 v p q (length w) (compliance-refused-iff c .0 e) l in
-      let short = short-late (vocabularyOf v) (length o) (decide (vocabularyOf v) (policyOf p) (policyOf q)) 0 none-late in
-      work-cleared (refused n) (many-late (tooMany (vocabularyOf v) (policyOf p) (policyOf q)) short (f .1)) (f .0) (rw e at (c .work))
+  pub compliance-refused-late-work : {n : ℕ} → r ≡ verdict.Refused n → isLate n ≡ true → WorkCleared w w′
+  compliance-refused-late-work {n} e l = work-cleared (refused n) l (after-21 v p q (length w) (compliance-refused-iff c .0 e) l) (rw e at (c .work))
 
   -- "After a result the first 16,384 work words are 0 and later ones untouched"
   pub compliance-result-work : Answers r → WorkCleared w w′
@@ -81,19 +72,13 @@ module _ {v p q w w′ o o′ : List ℕ} {r : Verdict} (c : CompliancePost v p 
 -- ---- Equality
 
 module _ {v p q w w′ o o′ : List ℕ} {r : Comparison} (c : EqualityPost v p q w w′ o o′ r) where
-  -- a refusal up to and including 21 leaves the work slice
-  pub equality-refused-early-work : {n : ℕ} → r ≡ comparison.Refused n → n ≤ 21 → w′ ≡ w
-  equality-refused-early-work {n} e l = work-kept (refused n) (few-early n l) (rw e at (c .work))
+  -- an early refusal leaves the work slice
+  pub equality-refused-early-work : {n : ℕ} → r ≡ comparison.Refused n → Early n → w′ ≡ w
+  equality-refused-early-work {n} e l = work-kept (refused n) l (rw e at (c .work))
 
-  -- one that comes after 21 leaves the first 16,384 work words 0 and later ones untouched
-  pub equality-refused-late-work : {n : ℕ} → r ≡ comparison.Refused n → 21 < n → WorkCleared w w′
-  equality-refused-late-work {n} e l =
-      let f = after-21 v p q (length w) (equality-refused-iff c .0 e) l in
-      let K = vocabularyOf v in
-      let P = policyOf p in
-      let Q = policyOf q in
-      let short = short-late K (length o) (decide K P Q) (shortRefusal K (length o) (decide K Q P) 0) (short-late K (length o) (decide K Q P) 0 none-late) in
-      work-cleared (refused n) (many-late (tooMany K P Q || tooMany K Q P) short (f .1)) (f .0) (rw e at (c .work))
+  -- a late one leaves the first 16,384 work words 0 and later ones untouched
+  pub equality-refused-late-work : {n : ℕ} → r ≡ comparison.Refused n → isLate n ≡ true → WorkCleared w w′
+  equality-refused-late-work {n} e l = work-cleared (refused n) l (after-21 v p q (length w) (equality-refused-iff c .0 e) l) (rw e at (c .work))
 
   -- a result leaves the first 16,384 work words 0 and later ones untouched
   pub equality-result-work : Compares r → WorkCleared w w′

@@ -49,7 +49,8 @@ pub fn answer(
     out: &mut [u32],
     text: &mut [u8],
 ) -> usize
-    requires { ⌜ (mostBytes ≤ 4 * length (now words)) × (length (now work) ≡ workSize) × (length (now out) ≡ outputSize) × (textSize ≤ length (now text)) ⌝ }
+    requires { ⌜ (mostBytes ≤ 4 * length (now words)) × (length (now work) ≡ workSize)
+        × (length (now out) ≡ outputSize) × (textSize ≤ length (now text)) ⌝ }
     ensures { λ r. ⌜ (r ≤ length (now (text .exit))) × (take r (now (text .exit)) ≡ program (now (input .entry))) ⌝ }
 {
     let verdict = decide_input(input, words, work, out);

@@ -1,5 +1,5 @@
--- Laws of Equality: the sides, 22 for both directions, the refusals in their order, the work slice afterwards, and demand 3.
-use Prim.Native.Nat.{suc, zero, ℕ}
+-- Laws of Equality: the sides, 22 for both directions, and demand 3.
+use Prim.Native.Nat.{ℕ}
 use mathlib.Core.Bool.{Bool, _||_, cond, false, true}
 use mathlib.Core.List.{List}
 use mathlib.Core.Logic.{inl, inr}
@@ -7,31 +7,28 @@ use mathlib.Core.Path.{_∙_, _≡_, ap, refl, subst, subst₂, sym}
 use lib.Dec.{leb}
 use lib.ListN.{length}
 use native.Mathlib.Omega.{arith}
-use Rattle.containment.proofs.Complying.{in-order, ready-back, ready-stays}
-use Rattle.decision.proofs.Deciding.{outputs-none, taken}
+use Rattle.containment.proofs.Complying.{ready-back, ready-still}
+use Rattle.decision.proofs.Deciding.{taken}
 use Rattle.decision.specs.Decisions.{Countable, Delivers, PreparedPair, decision}
-use Rattle.equality.specs.Comparisons.{Comparable, Compares, ComparisonTested, compared, difference, reverse, sidedAnswer}
-use Rattle.hierarchy.specs.declared.Functional.{Functional}
+use Rattle.equality.specs.Comparisons.{Comparable, Compares, ComparisonTested, EqualityPost, compared, difference, reverse}
+use Rattle.equality.specs.Comparisons.{sidedAnswer}
+use Rattle.frames.proofs.Work.{Done, outputs-none}
+use Rattle.frames.specs.Frames.{Only}
+use Rattle.functional.specs.declared.Functional.{Functional}
+use Rattle.layout.specs.Places.{InTables}
 use Rattle.meaning.proofs.Compliance.{no-escape}
 use Rattle.meaning.proofs.Equality.{equality-compared}
 use Rattle.meaning.proofs.Interpretations.{tested-finite}
-use Rattle.meaning.specs.Answers.{Answer, ComparisonResult, comparisonAnswer, compliant, differs, equal, outside, refused, result}
-use Rattle.meaning.specs.Answers.{verdictAnswer}
+use Rattle.meaning.specs.Answers.{ComparisonResult, comparisonAnswer, compliant, differs, equal, outside, refused, result, verdictAnswer}
 use Rattle.meaning.specs.Containment.{Decision, Refutes, contained, decide, escapes, tooMany}
 use Rattle.meaning.specs.Countermodel.{countermodel}
-use Rattle.meaning.specs.Limits.{workSize}
 use Rattle.meaning.specs.Model.{Fact, factsOf, individualCount}
 use Rattle.meaning.specs.Operations.{Outcome, comesLate, equality, equalityOf, inputRefusal, outputAfter, refuses, reported, says}
-use Rattle.meaning.specs.Operations.{unless, workAfter, workRefusal}
 use Rattle.meaning.specs.Policy.{Policy, policyOf}
 use Rattle.meaning.specs.Promises.{CorrectComparison, same, side1, side2, unsaidComparison}
-use Rattle.meaning.specs.Records.{orElse}
 use Rattle.meaning.specs.Vocabulary.{Vocabulary, vocabularyOf}
 use Rattle.meaning.specs.declared.Comparison.{Comparison}
 use Rattle.meaning.specs.declared.Verdict.{Verdict}
-use Rattle.workspace.proofs.Changes.{cleared-beyond}
-use Rattle.workspace.proofs.Laws.{beyond-then}
-use Rattle.workspace.specs.Work.{Beyond, Cleared, Stays}
 use Rattle.meaning.specs.declared.Comparison.the-variants as comparison
 use Rattle.meaning.specs.declared.Verdict.the-variants as verdict
 
@@ -123,8 +120,8 @@ module _ {v p q w : List ℕ} {f : Functional} (h : Comparable v p q w f) where
   pub countable-forth : Countable v p q w f
   countable-forth = record { ready = h .ready; few = h .forth }
 
-  pub countable-back : {w′ : List ℕ} → Stays f w w′ → Beyond w w′ → Countable v q p w′ f
-  countable-back g b = record { ready = ready-back (ready-stays (h .ready) g b); few = h .back }
+  pub countable-back : {w′ : List ℕ} → Only InTables w w′ → Countable v q p w′ f
+  countable-back o = record { ready = ready-back (ready-still (h .ready) o); few = h .back }
 
 -- ---- 22 looks at both directions
 
@@ -145,25 +142,10 @@ module _ (v p q o : List ℕ) {a b : Bool} (e : a ≡ tooMany (vocabularyOf v) (
     unfolding equalityOf
     compares-both d = rw (sym e, sym f, h) d
 
--- ---- the refusals in their order
-
-module _ (v p q : List ℕ) (w : ℕ) (o : List ℕ) {m r : ℕ} (e : m ≡ inputRefusal v p q) (f : r ≡ orElse m (workRefusal w)) where
-  pub compares-refused : (r ≡ 0 → ⊥) → Compares (equality v p q w (length o)) o o (comparison.Refused r)
-  unfolding equality
-  compares-refused n = rw (sym (in-order v p q w o e f)) (go r n (compared v p q (length o)))
-    where
-      go : (r : ℕ) → (r ≡ 0 → ⊥) → (x : Outcome ComparisonResult) → Compares (unless refuses r x) o o (comparison.Refused r)
-      go zero n x = absurd (n refl)
-      go (suc r) n x = record { answer = refl; output = outputs-none o }
-
-  pub compares : {o′ : List ℕ} {d : Comparison} → r ≡ 0 → Compares (compared v p q (length o)) o o′ d → Compares (equality v p q w (length o)) o o′ d
-  unfolding equality
-  compares z d = rw (sym (in-order v p q w o e f) ∙ z) d
-
--- ---- the work slice afterwards
+-- ---- all of it comes after 21
 
 module _ (K : Vocabulary) (P Q : Policy) (o : ℕ) where
-  compared-late : comesLate (equalityOf K P Q o .answer) ≡ true
+  pub compared-late : comesLate (equalityOf K P Q o .answer) ≡ true
   unfolding equalityOf
   compared-late = go (tooMany K P Q || tooMany K Q P) (decide K P Q) (decide K Q P)
     where
@@ -176,10 +158,6 @@ module _ (K : Vocabulary) (P Q : Policy) (o : ℕ) where
       go false contained contained = refl
       go false contained (escapes s q u) = fits (leb (length (countermodel K u)) o) 2 s q (countermodel K u)
       go false (escapes s q u) e = fits (leb (length (countermodel K u)) o) 1 s q (countermodel K u)
-
-  pub compared-work : {w w₁ w₂ w₃ : List ℕ} {a : Answer ComparisonResult} → Beyond w w₁ → Beyond w₁ w₂ → Cleared 0 workSize w₂ w₃ → a ≡ equalityOf K P Q o .answer → w₃ ≡ workAfter a w
-  unfolding workAfter
-  compared-work b c z e = rw (ap comesLate e ∙ compared-late) (cleared-beyond (beyond-then b c) z)
 
 -- ---- demand 3
 
@@ -211,5 +189,11 @@ module _ (v p q o o′ : List ℕ) where
       )
   right (comparison.Refused m) x t a d = tt
 
-  pub compares-right : (w : ℕ) {r : Comparison} → Compares (equality v p q w (length o)) o o′ r → ComparisonTested v p q o′ r
-  compares-right w {r} d = right r (equality v p q w (length o)) (equality-compared v p q w (length o)) (d .answer) (d .output)
+pub equality-post : {v p q w w′ o o′ : List ℕ} {r : Comparison} → Done (inputRefusal v p q) (compared v p q (length o)) (comparisonAnswer r) w w′ o o′ → EqualityPost v p q w w′ o o′ r
+unfolding equality
+equality-post {v} {p} {q} {w} {o = o} {o′ = o′} {r = r} d = record {
+  answer = d .answer;
+  output = d .output;
+  work = d .work;
+  right = right v p q o o′ r (equality v p q (length w) (length o)) (equality-compared v p q (length w) (length o)) (d .answer) (d .output);
+}

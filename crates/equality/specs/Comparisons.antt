@@ -6,9 +6,9 @@ use mathlib.Core.Logic.{_⊎_}
 use mathlib.Core.Path.{_≡_}
 use lib.ListN.{length, take}
 use Rattle.decision.specs.Decisions.{PreparedPair}
-use Rattle.hierarchy.specs.declared.Functional.{Functional}
-use Rattle.meaning.specs.Answers.{Answer, ComparisonResult, VerdictResult, comparisonAnswer, compliant, differs, equal, outside}
-use Rattle.meaning.specs.Answers.{refused, result}
+use Rattle.functional.specs.declared.Functional.{Functional}
+use Rattle.meaning.specs.Answers.{Answer, ComparisonResult, VerdictResult, comparisonAnswer, compliant, differs, equal, outside, refused}
+use Rattle.meaning.specs.Answers.{result}
 use Rattle.meaning.specs.Containment.{IndistinctTested, Refutes, decide, tooMany}
 use Rattle.meaning.specs.Model.{factsOf, individualCount}
 use Rattle.meaning.specs.Operations.{Outcome, equality, equalityOf, outputAfter, reported, says, workAfter}

@@ -1,23 +1,24 @@
 // The operation Equality.
 use decision::decide;
 use decision::has_too_many;
-use hierarchy::Functional;
+use frames::clear;
+use frames::work_refusal;
+use functional::Functional;
 use meaning::Comparison;
 use meaning::Verdict;
 use meaning::limits::WORK_SIZE;
+use preparation::prepare;
 use splitting::ENDS;
 use splitting::collect;
-use workspace::clear;
-use workspace::prepare;
-use workspace::work_refusal;
 ghost use mathlib.Core.List.{List};
 ghost use mathlib.Core.Path.{_≡_};
 ghost use Prim.Native.Nat.{ℕ};
 ghost use lib.ListN.{length};
 ghost use Rattle.decision.specs.Decisions.{PreparedPair};
 ghost use Rattle.equality.specs.Comparisons.{BothEnds, Comparable, ComparedBy, DifferenceBy, EqualityPost, sidedAnswer};
+ghost use Rattle.frames.specs.Frames.{Only};
+ghost use Rattle.layout.specs.Places.{InTables};
 ghost use Rattle.meaning.specs.Answers.{comparisonAnswer, verdictAnswer};
-ghost use Rattle.workspace.specs.Work.{Beyond};
 
 // The verdict of one direction as an answer of Equality.
 fn sided(side: u32, verdict: Verdict) -> Comparison
@@ -40,9 +41,12 @@ fn differ(
     second: &[u32],
     out: &mut [u32],
 ) -> Comparison
-    requires { ⌜ ((v : List ℕ) × Comparable v (now p) (now q) (now work) f) × BothEnds (now p) (now q) (now first) (now second) ⌝ }
-    ensures { λ r. ⌜ DifferenceBy (now (p .entry)) (now (q .entry)) (now (work .entry)) f (now (out .entry)) (now (out .exit)) r ⌝ }
-    ensures { λ _. ⌜ Beyond (now (work .entry)) (now (work .exit)) × (length (now (out .exit)) ≡ length (now (out .entry))) ⌝ }
+    requires { ⌜ ((v : List ℕ) × Comparable v (now p) (now q) (now work) f) ⌝ }
+    requires { ⌜ BothEnds (now p) (now q) (now first) (now second) ⌝ }
+    ensures { λ r. ⌜ DifferenceBy (now (p .entry)) (now (q .entry)) (now (work .entry)) f
+        (now (out .entry)) (now (out .exit)) r ⌝ }
+    ensures { λ _. ⌜ Only InTables (now (work .entry)) (now (work .exit)) ⌝ }
+    ensures { λ _. ⌜ length (now (out .exit)) ≡ length (now (out .entry)) ⌝ }
 {
     let forth = decide(p, q, work, f, second, out);
     match forth {
@@ -55,8 +59,10 @@ fn differ(
 // What Equality answers after 21: 22 for both directions before any verdict.
 fn compare(p: &[u32], q: &[u32], work: &mut [u32], f: Functional, out: &mut [u32]) -> Comparison
     requires { ⌜ ((v : List ℕ) × PreparedPair v (now p) (now q) (now work) f) ⌝ }
-    ensures { λ r. ⌜ ComparedBy (now (p .entry)) (now (q .entry)) (now (work .entry)) f (now (out .entry)) (now (out .exit)) r ⌝ }
-    ensures { λ _. ⌜ Beyond (now (work .entry)) (now (work .exit)) × (length (now (out .exit)) ≡ length (now (out .entry))) ⌝ }
+    ensures { λ r. ⌜ ComparedBy (now (p .entry)) (now (q .entry)) (now (work .entry)) f
+        (now (out .entry)) (now (out .exit)) r ⌝ }
+    ensures { λ _. ⌜ Only InTables (now (work .entry)) (now (work .exit)) ⌝ }
+    ensures { λ _. ⌜ length (now (out .exit)) ≡ length (now (out .entry)) ⌝ }
 {
     let mut room = [0; ENDS];
     let n = collect(p, &mut room);
@@ -75,7 +81,8 @@ fn compare(p: &[u32], q: &[u32], work: &mut [u32], f: Functional, out: &mut [u32
 // Equality: the same refusals in the same order, 22 for both directions; then the first direction's difference, the second's, or
 // equal. Time grows as that of two calls of Compliance.
 pub fn equality(v: &[u32], p: &[u32], q: &[u32], work: &mut [u32], out: &mut [u32]) -> Comparison
-    ensures { λ r. ⌜ EqualityPost (now (v .entry)) (now (p .entry)) (now (q .entry)) (now (work .entry)) (now (work .exit)) (now (out .entry)) (now (out .exit)) r ⌝ }
+    ensures { λ r. ⌜ EqualityPost (now (v .entry)) (now (p .entry)) (now (q .entry)) (now (work .entry)) (now (work .exit))
+        (now (out .entry)) (now (out .exit)) r ⌝ }
 {
     let refusal = work_refusal(policy::input_refusal(v, p, q), work);
     if refusal != 0 {

@@ -1,8 +1,11 @@
 -- The answers as numbers, for a caller in another language: the kind of answer, then its values, 0 where it has none.
 use Prim.Native.Nat.{ℕ}
 use mathlib.Core.Path.{_≡_}
+use mathlib.Core.List.{List}
+use lib.ListN.{length}
 use Rattle.meaning.specs.Answers.{Answer, CheckResult, ComparisonResult, PossibilityResult, ReadingResult, VerdictResult, accepted}
 use Rattle.meaning.specs.Answers.{compliant, differs, equal, firstPossible, no, nonePossible, outside, refused, result, yes}
+use Rattle.meaning.specs.Operations.{compliance, equality, modelCheck, outputAfter, possibility, workAfter}
 
 pub record Code : Type 0 where
   pub kind : ℕ
@@ -49,3 +52,23 @@ CodedVerdict a k x y n = (k ≡ verdictCode a .kind) × (x ≡ verdictCode a .fi
 abbrev pub CodedComparison : Answer ComparisonResult → ℕ → ℕ → ℕ → ℕ → ℕ → Type 0
 CodedComparison a k x y z n =
     (k ≡ comparisonCode a .kind) × (x ≡ comparisonCode a .first) × (y ≡ comparisonCode a .second) × (z ≡ comparisonCode a .third) × (n ≡ comparisonCode a .words)
+
+-- what an exported operation leaves behind, whatever its slices held: the definition's answer as numbers, and its slices as the
+-- definition has them
+pub record PossibleCoded (v p w w′ : List ℕ) (k x : ℕ) : Type 0 where
+  pub answer : Coded (possibilityCode (possibility v p (length w))) k x
+  pub work : w′ ≡ workAfter (possibility v p (length w)) w
+
+pub record ComplianceCoded (v p q w w′ o o′ : List ℕ) (k x y n : ℕ) : Type 0 where
+  pub answer : CodedVerdict (compliance v p q (length w) (length o) .answer) k x y n
+  pub work : w′ ≡ workAfter (compliance v p q (length w) (length o) .answer) w
+  pub output : o′ ≡ outputAfter (compliance v p q (length w) (length o) .words) o
+
+pub record EqualityCoded (v p q w w′ o o′ : List ℕ) (k x y z n : ℕ) : Type 0 where
+  pub answer : CodedComparison (equality v p q (length w) (length o) .answer) k x y z n
+  pub work : w′ ≡ workAfter (equality v p q (length w) (length o) .answer) w
+  pub output : o′ ≡ outputAfter (equality v p q (length w) (length o) .words) o
+
+pub record ModelCheckCoded (v p q m w w′ : List ℕ) (k x : ℕ) : Type 0 where
+  pub answer : Coded (checkCode (modelCheck v p q m (length w))) k x
+  pub work : w′ ≡ workAfter (modelCheck v p q m (length w)) w

@@ -12,12 +12,10 @@ use model_check::model_check;
 use policy::read_policy;
 use policy::read_second_policy;
 use vocabulary::read_vocabulary;
-ghost use mathlib.Core.Path.{_≡_};
-ghost use lib.ListN.{length};
-ghost use Rattle.exports.specs.Codes.{Coded, CodedComparison, CodedVerdict, checkCode, possibilityCode, readingCode};
+ghost use Rattle.exports.specs.Codes.{Coded, CodedComparison, CodedVerdict, ComplianceCoded, EqualityCoded, ModelCheckCoded};
+ghost use Rattle.exports.specs.Codes.{PossibleCoded, checkCode, possibilityCode, readingCode};
 ghost use Rattle.meaning.specs.Answers.{checkedAnswer, comparisonAnswer, possibilityAnswer, readingAnswer, verdictAnswer};
-ghost use Rattle.meaning.specs.Operations.{compliance, equality, modelCheck, outputAfter, possibility, readPolicy};
-ghost use Rattle.meaning.specs.Operations.{readSecondPolicy, readVocabulary, workAfter};
+ghost use Rattle.meaning.specs.Operations.{compliance, equality, possibility, readPolicy, readSecondPolicy, readVocabulary};
 
 fn reading(r: Reading, number: &mut u32) -> u32
     ensures { λ k. ⌜ Coded (readingCode (readingAnswer r)) k (now (number .exit)) ⌝ }
@@ -85,7 +83,8 @@ fn comparison(
     combination: &mut u32,
     words: &mut usize,
 ) -> u32
-    ensures { λ k. ⌜ CodedComparison (comparisonAnswer r) k (now (number .exit)) (now (term .exit)) (now (combination .exit)) (now (words .exit)) ⌝ }
+    ensures { λ k. ⌜ CodedComparison (comparisonAnswer r) k (now (number .exit)) (now (term .exit))
+        (now (combination .exit)) (now (words .exit)) ⌝ }
 {
     match r {
         Comparison::Equal => {
@@ -158,8 +157,7 @@ pub extern "C" fn gimbuka_read_second_policy(v: &[u32], q: &[u32], number: &mut 
 // Possible: 1 with the first possible term, 2 impossible.
 #[no_mangle]
 pub extern "C" fn gimbuka_possible(v: &[u32], p: &[u32], work: &mut [u32], number: &mut u32) -> u32
-    ensures { λ k. ⌜ Coded (possibilityCode (possibility (now (v .entry)) (now (p .entry)) (length (now (work .entry))))) k (now (number .exit)) ⌝ }
-    ensures { λ _. ⌜ now (work .exit) ≡ workAfter (possibility (now (v .entry)) (now (p .entry)) (length (now (work .entry)))) (now (work .entry)) ⌝ }
+    ensures { λ k. ⌜ PossibleCoded (now (v .entry)) (now (p .entry)) (now (work .entry)) (now (work .exit)) k (now (number .exit)) ⌝ }
 {
     possibility(possible(v, p, work), number)
 }
@@ -176,9 +174,8 @@ pub extern "C" fn gimbuka_compliance(
     combination: &mut u32,
     words: &mut usize,
 ) -> u32
-    ensures { λ k. ⌜ CodedVerdict (compliance (now (v .entry)) (now (p .entry)) (now (q .entry)) (length (now (work .entry))) (length (now (out .entry))) .answer) k (now (number .exit)) (now (combination .exit)) (now (words .exit)) ⌝ }
-    ensures { λ _. ⌜ now (work .exit) ≡ workAfter (compliance (now (v .entry)) (now (p .entry)) (now (q .entry)) (length (now (work .entry))) (length (now (out .entry))) .answer) (now (work .entry)) ⌝ }
-    ensures { λ _. ⌜ now (out .exit) ≡ outputAfter (compliance (now (v .entry)) (now (p .entry)) (now (q .entry)) (length (now (work .entry))) (length (now (out .entry))) .words) (now (out .entry)) ⌝ }
+    ensures { λ k. ⌜ ComplianceCoded (now (v .entry)) (now (p .entry)) (now (q .entry)) (now (work .entry)) (now (work .exit))
+        (now (out .entry)) (now (out .exit)) k (now (number .exit)) (now (combination .exit)) (now (words .exit)) ⌝ }
 {
     verdict(compliance(v, p, q, work, out), number, combination, words)
 }
@@ -196,9 +193,8 @@ pub extern "C" fn gimbuka_equality(
     combination: &mut u32,
     words: &mut usize,
 ) -> u32
-    ensures { λ k. ⌜ CodedComparison (equality (now (v .entry)) (now (p .entry)) (now (q .entry)) (length (now (work .entry))) (length (now (out .entry))) .answer) k (now (number .exit)) (now (term .exit)) (now (combination .exit)) (now (words .exit)) ⌝ }
-    ensures { λ _. ⌜ now (work .exit) ≡ workAfter (equality (now (v .entry)) (now (p .entry)) (now (q .entry)) (length (now (work .entry))) (length (now (out .entry))) .answer) (now (work .entry)) ⌝ }
-    ensures { λ _. ⌜ now (out .exit) ≡ outputAfter (equality (now (v .entry)) (now (p .entry)) (now (q .entry)) (length (now (work .entry))) (length (now (out .entry))) .words) (now (out .entry)) ⌝ }
+    ensures { λ k. ⌜ EqualityCoded (now (v .entry)) (now (p .entry)) (now (q .entry)) (now (work .entry)) (now (work .exit))
+        (now (out .entry)) (now (out .exit)) k (now (number .exit)) (now (term .exit)) (now (combination .exit)) (now (words .exit)) ⌝ }
 {
     comparison(
         equality(v, p, q, work, out),
@@ -219,8 +215,8 @@ pub extern "C" fn gimbuka_model_check(
     work: &mut [u32],
     number: &mut u32,
 ) -> u32
-    ensures { λ k. ⌜ Coded (checkCode (modelCheck (now (v .entry)) (now (p .entry)) (now (q .entry)) (now (m .entry)) (length (now (work .entry))))) k (now (number .exit)) ⌝ }
-    ensures { λ _. ⌜ now (work .exit) ≡ workAfter (modelCheck (now (v .entry)) (now (p .entry)) (now (q .entry)) (now (m .entry)) (length (now (work .entry)))) (now (work .entry)) ⌝ }
+    ensures { λ k. ⌜ ModelCheckCoded (now (v .entry)) (now (p .entry)) (now (q .entry)) (now (m .entry))
+        (now (work .entry)) (now (work .exit)) k (now (number .exit)) ⌝ }
 {
     checked(model_check(v, p, q, m, work), number)
 }

@@ -1,22 +1,23 @@
 -- Laws of a policy's records: what a chain tells from one on, and the sets that are right of it.
 use Prim.Native.Nat.{_<_, _≤_, ℕ}
-use mathlib.Core.Bool.{Bool, _&&_, cond, false, true}
+use mathlib.Core.Bool.{Bool, _&&_, and-assoc, and-comm, and-false, cond, false, true}
 use mathlib.Core.List.{List, [], _∷_}
 use mathlib.Core.Logic.{inl, inr}
 use mathlib.Core.Path.{_∙_, _≡_, refl, sym}
 use native.Mathlib.Omega.{arith}
 use borrow.Author.Tests.{eqb-true}
 use lib.Dec.{eqb}
-use Rattle.extension.specs.Sets.{Charted, Linked, childAt, conjunctsAt, edgeInto, shown, shows, valueWithin}
+use Rattle.extension.specs.Sets.{Charted, Linked, childAt, edgeInto, inClass, shown, shows, valueWithin}
 use Rattle.meaning.proofs.Links.{falls, onward-le}
 use Rattle.meaning.proofs.Terms.{chain-at}
 use Rattle.meaning.specs.Accepted.{Here, Reads, reads-class, reads-end, reads-impossible, reads-interval, reads-some}
 use Rattle.meaning.specs.Limits.{mostRecords}
 use Rattle.meaning.specs.Lists.{any}
-use Rattle.meaning.specs.Model.{Fact, edge, member, value}
-use Rattle.meaning.specs.ModelCheck.{hasWithin, holds, isMember, reaches}
+use Rattle.meaning.specs.Model.{Fact, edge, factsOf, member, value}
+use Rattle.meaning.specs.ModelCheck.{hasWithin, holds, reaches}
 use Rattle.meaning.specs.Policy.{Chain, childOf, hiOf, kindOf, loOf, nameOf, nextOf}
 use Rattle.meaning.specs.Records.{Onward, falling, lastOf}
+use Rattle.policy.specs.Terms.{conjunctsAt}
 use Rattle.satisfaction.specs.Classes.{ownerOf}
 
 -- ---- who is shown
@@ -26,48 +27,44 @@ any-same f g h [] = refl
 any-same f g h (x ∷ l) = rw (h x, any-same f g h l)
 
 swap : (a b c : Bool) → (a && b) && c ≡ b && (a && c)
-swap true true c = refl
-swap true false c = refl
-swap false true c = refl
-swap false false c = refl
+swap a b c = rw (and-comm a b, and-assoc b a c)
 
-none : (b : Bool) → false ≡ b && false
-none true = refl
-none false = refl
+module _ (p m : List ℕ) (k i : ℕ) where
+  abbrev child : ℕ → Bool
+  child = holds (factsOf m) (conjunctsAt p (childOf p k))
 
-module _ (F : List Fact) (p : List ℕ) (k i : ℕ) where
-  role-shown : kindOf p k ≡ 3 → any (reaches (nameOf p k) i (holds F (conjunctsAt p (childOf p k)))) F ≡ shown F p k i
-  role-shown e = any-same _ (λ x. eqb i (ownerOf x) && shows F p k x) (λ x. rw e (go x)) F
+  role-shown : kindOf p k ≡ 3 → any (reaches (nameOf p k) i child) (factsOf m) ≡ shown p m k i
+  role-shown e = any-same _ (λ x. eqb i (ownerOf x) && shows p m k x) (λ x. rw e (go x)) (factsOf m)
     where
-      go : (x : Fact) → reaches (nameOf p k) i (holds F (conjunctsAt p (childOf p k))) x ≡ eqb i (ownerOf x) && edgeInto (nameOf p k) (holds F (conjunctsAt p (childOf p k))) x
-      go (member b j) = none (eqb i j)
-      go (edge r j t) = swap (eqb (nameOf p k) r) (eqb i j) (holds F (conjunctsAt p (childOf p k)) t)
-      go (value f j v) = none (eqb i j)
+      go : (x : Fact) → reaches (nameOf p k) i child x ≡ eqb i (ownerOf x) && edgeInto (nameOf p k) child x
+      go (member b j) = sym (and-false (eqb i j))
+      go (edge r j t) = swap (eqb (nameOf p k) r) (eqb i j) (child t)
+      go (value f j v) = sym (and-false (eqb i j))
 
-  feature-shown : kindOf p k ≡ 4 → any (hasWithin (nameOf p k) i (loOf p k) (hiOf p k)) F ≡ shown F p k i
-  feature-shown e = any-same _ (λ x. eqb i (ownerOf x) && shows F p k x) (λ x. rw e (go x)) F
+  feature-shown : kindOf p k ≡ 4 → any (hasWithin (nameOf p k) i (loOf p k) (hiOf p k)) (factsOf m) ≡ shown p m k i
+  feature-shown e = any-same _ (λ x. eqb i (ownerOf x) && shows p m k x) (λ x. rw e (go x)) (factsOf m)
     where
       go : (x : Fact) → hasWithin (nameOf p k) i (loOf p k) (hiOf p k) x ≡ eqb i (ownerOf x) && valueWithin (nameOf p k) (loOf p k) (hiOf p k) x
-      go (member b j) = none (eqb i j)
-      go (edge r j t) = none (eqb i j)
+      go (member b j) = sym (and-false (eqb i j))
+      go (edge r j t) = sym (and-false (eqb i j))
       go (value f j v) = swap (eqb (nameOf p k) f) (eqb i j) _
 
 -- ---- the first conjunct and the rest
 
--- what record k tells of the chain c from it on
-pub record Cut (F : List Fact) (p : List ℕ) (k : ℕ) (c : Chain) : Type 0 where
+-- what record k tells of the chain c from it on: the individuals of the model at which it holds
+pub record Cut (p m : List ℕ) (k : ℕ) (c : Chain) : Type 0 where
   pub here : Here p k
   pub next : Reads p (nextOf p k) (conjunctsAt p (nextOf p k))
   pub child : kindOf p k ≡ 3 → Reads p (childOf p k) (conjunctsAt p (childOf p k))
-  pub class : kindOf p k ≡ 1 → (i : ℕ) → holds F c i ≡ any (isMember (nameOf p k) i) F && holds F (conjunctsAt p (nextOf p k)) i
-  pub impossible : kindOf p k ≡ 2 → (i : ℕ) → holds F c i ≡ false
-  pub other : (kindOf p k ≡ 1 → ⊥) → (kindOf p k ≡ 2 → ⊥) → (i : ℕ) → holds F c i ≡ shown F p k i && holds F (conjunctsAt p (nextOf p k)) i
+  pub class : kindOf p k ≡ 1 → (i : ℕ) → holds (factsOf m) c i ≡ inClass p m k i && holds (factsOf m) (conjunctsAt p (nextOf p k)) i
+  pub impossible : kindOf p k ≡ 2 → (i : ℕ) → holds (factsOf m) c i ≡ false
+  pub other : (kindOf p k ≡ 1 → ⊥) → (kindOf p k ≡ 2 → ⊥) → (i : ℕ) → holds (factsOf m) c i ≡ shown p m k i && holds (factsOf m) (conjunctsAt p (nextOf p k)) i
 
 again : {p : List ℕ} {k : ℕ} {c : Chain} → Reads p k c → Reads p k (conjunctsAt p k)
 again r = rw (chain-at r) r
 
-module _ (F : List Fact) {p : List ℕ} {k : ℕ} (z : k ≡ 0 → ⊥) where
-  pub cut : {c : Chain} → Reads p k c → Cut F p k c
+module _ {p : List ℕ} (m : List ℕ) {k : ℕ} (z : k ≡ 0 → ⊥) where
+  pub cut : {c : Chain} → Reads p k c → Cut p m k c
   cut (reads-end e) = absurd (z e)
   cut (reads-class h e n) = record {
     here = h;
@@ -91,7 +88,7 @@ module _ (F : List Fact) {p : List ℕ} {k : ℕ} (z : k ≡ 0 → ⊥) where
     child = λ d. again q;
     class = λ d. absurd (omega arith);
     impossible = λ d. absurd (omega arith);
-    other = λ d f i. rw (← role-shown F p k i e, chain-at q, chain-at n);
+    other = λ d f i. rw (← role-shown p m k i e, chain-at q, chain-at n);
   }
   cut (reads-interval h e n) = record {
     here = h;
@@ -99,7 +96,7 @@ module _ (F : List Fact) {p : List ℕ} {k : ℕ} (z : k ≡ 0 → ⊥) where
     child = λ d. absurd (omega arith);
     class = λ d. absurd (omega arith);
     impossible = λ d. absurd (omega arith);
-    other = λ d f i. rw (← feature-shown F p k i e, chain-at n);
+    other = λ d f i. rw (← feature-shown p m k i e, chain-at n);
   }
 
 -- the child is none but a role's
@@ -111,7 +108,7 @@ child-is P p k n f = go (eqb (kindOf p k) 3) refl
     go false e = n
 
 module _ {p : List ℕ} {k : ℕ} (z : k ≡ 0 → ⊥) (c : Charted p k) where
-  cut-here : Cut [] p k (conjunctsAt p k)
+  cut-here : Cut p [] k (conjunctsAt p k)
   cut-here = cut [] z (c .reads)
 
   child-onward : Onward (lastOf 6 p) k (childAt p k)
@@ -138,8 +135,10 @@ module _ {p : List ℕ} {k : ℕ} (z : k ≡ 0 → ⊥) (c : Charted p k) where
     pub next-charted : j ≡ nextOf p k → Charted p j
     next-charted e = record { reads = rw e (cut-here .next); few = c .few }
 
-    pub child-falls : j ≡ childAt p k → falling (lastOf 6 p) j < falling (lastOf 6 p) k
-    child-falls e = rw e (falls (lastOf 6 p) k (childAt p k) (cut-here .here .inside) child-onward)
+    -- t is the measure at record k
+    module _ {t : ℕ} (f : falling (lastOf 6 p) k ≡ t) where
+      pub child-falls : j ≡ childAt p k → falling (lastOf 6 p) j < t
+      child-falls e = rw (e, ← f) (falls (lastOf 6 p) k (childAt p k) (cut-here .here .inside) child-onward)
 
-    pub next-falls : j ≡ nextOf p k → falling (lastOf 6 p) j < falling (lastOf 6 p) k
-    next-falls e = rw e (falls (lastOf 6 p) k (nextOf p k) (cut-here .here .inside) (cut-here .here .next))
+      pub next-falls : j ≡ nextOf p k → falling (lastOf 6 p) j < t
+      next-falls e = rw (e, ← f) (falls (lastOf 6 p) k (nextOf p k) (cut-here .here .inside) (cut-here .here .next))

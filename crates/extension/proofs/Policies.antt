@@ -1,24 +1,25 @@
 -- Laws of a policy's terms: who is in one is in the set at its first conjunct.
-use Prim.Native.Nat.{_≤_, ℕ}
-use mathlib.Core.Bool.{Bool, false, true}
+use Prim.Native.Nat.{_+_, _<_, _≤_, ℕ}
+use mathlib.Core.Bool.{Bool, _||_, false, true}
 use mathlib.Core.List.{List, _∷_}
-use mathlib.Core.Path.{_∙_, _≡_, sym}
+use mathlib.Core.Path.{_≡_, refl}
 use native.Mathlib.Omega.{arith}
-use Rattle.extension.specs.Places.{setOf, setsAt, setsSize}
-use Rattle.extension.specs.Sets.{Charted, Everyone, Extended, Filled, Fillable, Taken, conjunctsAt}
+use Rattle.extension.proofs.Settling.{filled-ready}
+use Rattle.extension.specs.Sets.{AllIncluded, Charted, Extended, Fillable, Filled, Taken}
+use Rattle.frames.proofs.Frames.{only-none, only-then}
+use Rattle.frames.specs.Frames.{Only, Span}
 use Rattle.meaning.proofs.Wellformed.{accepted}
 use Rattle.meaning.specs.Accepted.{Reads, reads-class, reads-end, reads-impossible, reads-interval, reads-some}
 use Rattle.meaning.specs.Limits.{mostRecords}
 use Rattle.meaning.specs.Model.{factsOf}
-use Rattle.meaning.specs.ModelCheck.{holds, isIn}
-use Rattle.meaning.specs.Policy.{Chain, Policy, policyOf}
-use Rattle.meaning.specs.Records.{lastOf}
-use Rattle.model.specs.Chain.{Readable}
+use Rattle.meaning.specs.ModelCheck.{isIn}
+use Rattle.meaning.specs.Policy.{Chain, Policy, childOf, firstTerm, nextOf, policyOf, termAt}
+use Rattle.meaning.specs.Records.{falling, lastOf}
+use Rattle.policy.proofs.Terms.{Asking, asking-ends, asking-falls, asking-found, asking-on, asking-starts, asking-term}
 use Rattle.satisfaction.proofs.Classes.{interpreted-kept}
 use Rattle.satisfaction.specs.Classes.{Interpreted}
+use Rattle.satisfaction.specs.Places.{setOf, setsAt, setsEnd}
 use Rattle.words.specs.Sets.{inSet}
-use Rattle.workspace.proofs.Changes.{only-then}
-use Rattle.workspace.specs.Work.{Only}
 
 reads-inside : {p : List ℕ} {j : ℕ} {c : Chain} → Reads p j c → j ≤ lastOf 6 p
 reads-inside (reads-end e) = omega arith
@@ -27,33 +28,75 @@ reads-inside (reads-impossible h e n) = h .inside .1
 reads-inside (reads-some h e q n) = h .inside .1
 reads-inside (reads-interval h e n) = h .inside .1
 
--- record j is the first of a term's conjuncts
-module _ {p : List ℕ} (t : Taken p) {i j : ℕ} (e : j ≡ i) (r : Reads p i (conjunctsAt p i)) where
-  small : lastOf 6 p ≤ mostRecords
-  small = accepted (t .0) p (t .1) .small
+-- ---- the terms, one after another
 
-  pub term-charted : Charted p j
-  term-charted = record { reads = rw e r; few = small }
+-- a loop that has come to the term at record k: what the rest tells is what all tell, and only the records' sets changed
+pub record Seeking (p m w₀ w : List ℕ) (k : ℕ) : Type 0 where
+  pub vocabulary : List ℕ
+  pub place : ℕ
+  pub asking : Asking (λ s l. isIn (factsOf m) l 1 ≡ isIn (factsOf m) (policyOf p) 1) vocabulary p place k
+  pub few : lastOf 6 p ≤ mostRecords
+  pub ready : Fillable m w
+  pub only : Only (Span setsAt setsEnd) w₀ w
 
-  pub term-inside : j ≤ mostRecords
-  term-inside = let s = small in omega (arith, reads-inside r)
+module _ {p m w : List ℕ} {k : ℕ} where
+  pub seeking-starts : Taken p → Fillable m w → k ≡ firstTerm p → Seeking p m w w k
+  seeking-starts t r e = record {
+    vocabulary = t .0;
+    place = 1;
+    asking = asking-starts (t .1) e refl;
+    few = accepted (t .0) p (t .1) .small;
+    ready = r;
+    only = only-none;
+  }
 
--- b tells whether the first individual is in the set that was made for record j
-module _ {p m w w′ : List ℕ} (r : Readable m) {i j : ℕ} (e : j ≡ i) (f : Filled p m j w w′) {b : Bool} (h : b ≡ inSet (setOf w′ j) 1) where
-  first-told : b ≡ holds (factsOf m) (conjunctsAt p i) 1
-  first-told = let n = r .individuals in h ∙ f .own 1 (omega arith, n .0) ∙ rw e
+  module _ {w₀ : List ℕ} (x : Seeking p m w₀ w k) where
+    pub seeking-ends : k ≡ 0 → Extended p m w₀ w false
+    seeking-ends z = record { told = asking-ends (x .asking) z; interpreted = x .ready .interpreted; only = x .only }
 
-  pub first-in : b ≡ true → {t : Bool} (l : Policy) → isIn (factsOf m) (conjunctsAt p i ∷ l) 1 ≡ t → true ≡ t
-  first-in d l g = sym (rw (← first-told, d)) ∙ g
+    module _ (n : k ≡ 0 → ⊥) where
+      pub seeking-falls : {j : ℕ} → j ≡ nextOf p k → falling (lastOf 6 p) j < falling (lastOf 6 p) k
+      seeking-falls e = asking-falls (x .asking) n e
 
-  pub first-out : b ≡ false → {t : Bool} (l : Policy) → isIn (factsOf m) (conjunctsAt p i ∷ l) 1 ≡ t → isIn (factsOf m) l 1 ≡ t
-  first-out d l g = sym (rw (← first-told, d)) ∙ g
+      -- record j is the first of the term's conjuncts
+      module _ {j : ℕ} (e : j ≡ childOf p k) where
+        pub seeking-charted : Charted p j
+        seeking-charted = record { reads = rw e (asking-term (x .asking) n .reads); few = x .few }
+
+        pub seeking-inside : j ≤ mostRecords
+        seeking-inside = let s = x .few in let r = reads-inside (seeking-charted .reads) in omega arith
+
+        module _ {w′ : List ℕ} (f : Filled p m j w w′) where
+          pub seeking-ready : Fillable m w′
+          seeking-ready = filled-ready f (x .ready)
+
+          -- b tells whether individual 1 is in the set that was made for it
+          module _ {b : Bool} (h : b ≡ inSet (setOf w′ j) 1) where
+            first-told : (l : Policy) → isIn (factsOf m) (termAt p k ∷ l) 1 ≡ isIn (factsOf m) (policyOf p) 1 → b || isIn (factsOf m) l 1 ≡ isIn (factsOf m) (policyOf p) 1
+            first-told l g = let i = x .ready .interpreted .readable .individuals in rw (h, f .own .tells 1 (omega arith, i .0), e) g
+
+            pub seeking-found : b ≡ true → Extended p m w₀ w′ true
+            seeking-found d = record {
+              told = asking-found (x .asking) n (λ l g. rw d at (first-told l g));
+              interpreted = seeking-ready .interpreted;
+              only = only-then (x .only) (f .only);
+            }
+
+            pub seeking-on : b ≡ false → {i : ℕ} → i ≡ nextOf p k → Seeking p m w₀ w′ i
+            seeking-on d z = record {
+              vocabulary = x .vocabulary;
+              place = x .place + 1;
+              asking = asking-on (x .asking) n z (λ l g. rw d at (first-told l g));
+              few = x .few;
+              ready = seeking-ready;
+              only = only-then (x .only) (f .only);
+            }
 
 -- ---- with everyone at record 0
 
-module _ {m w w′ : List ℕ} where
-  pub all-ready : Interpreted m w → Only setsAt setsSize w w′ → Everyone m w′ → Fillable m w′
-  all-ready i o e = record { interpreted = interpreted-kept (omega arith) o i; everyone = e }
+module _ {m w w′ : List ℕ} (a : AllIncluded m w w′) where
+  pub all-ready : Interpreted m w → Fillable m w′
+  all-ready i = record { interpreted = interpreted-kept (omega arith) (a .only) i; everyone = a .everyone }
 
-  pub extended : {p w₀ : List ℕ} {b : Bool} → Only setsAt setsSize w₀ w → b ≡ isIn (factsOf m) (policyOf p) 1 → Only setsAt setsSize w w′ → Fillable m w′ → Extended p m w₀ w′ b
-  extended o e f r = record { told = e; interpreted = r .interpreted; only = only-then o f }
+  pub extended : {p w″ : List ℕ} {b : Bool} → Extended p m w′ w″ b → Extended p m w w″ b
+  extended e = record { told = e .told; interpreted = e .interpreted; only = only-then (a .only) (e .only) }

@@ -1,3 +1,2 @@
 -- The sets of individuals in the work slice, and what each step of filling them leaves.
-pub mod Places
 pub mod Sets

@@ -1,9 +1,11 @@
 // Extensions: the set of the individuals of which each of a policy's records holds, and so whether individual 1 is in the policy.
 // The sets stand in the work slice, so that no path of edges is walked twice: time grows with the model's records times the policy's.
-// There are 513, one a record and the header's, of 16 words each, after what satisfaction keeps: with 8 words to a set of classes
-// they end at 5,120 + 8,208 = 13,328 words, and with 10 at 14,352, of 16,384.
+// There are 513, one a record and the header's; crate satisfaction has the map.
+use frames::clear;
 use intervals::is_within;
-use meaning::limits::MOST_INDIVIDUALS;
+use meaning::ClassNo;
+use meaning::FeatureNo;
+use meaning::RoleNo;
 use model::fact_kind;
 use model::fact_name;
 use model::fact_next;
@@ -18,42 +20,35 @@ use policy::kind_of;
 use policy::lo_of;
 use policy::name_of;
 use policy::next_of;
-use satisfaction::END;
+use satisfaction::SET_WORDS;
+use satisfaction::SETS;
 use satisfaction::is_member;
 use satisfaction::put;
 use words::has;
 use words::place;
-use workspace::clear;
 ghost use mathlib.Core.Path.{_≡_};
 ghost use Prim.Native.Nat.{_≤_};
 ghost use lib.ListN.{length};
-ghost use Rattle.extension.specs.Places.{setOf, setPlace, setsAt, setsSize};
-ghost use Rattle.extension.specs.Sets.{Charted, Everyone, Extended, Filled, Linked, Marked, Placed, Fillable, IsExtension, Settled};
-ghost use Rattle.extension.specs.Sets.{Taken, Vacant, childAt, edgeInto, kept, markedMember, markedShown, shown, shows};
-ghost use Rattle.extension.specs.Sets.{valueWithin};
+ghost use Rattle.extension.specs.Sets.{AllIncluded, Charted, Extended, Fillable, Filled, Linked, MembersMarked, Placed};
+ghost use Rattle.extension.specs.Sets.{Settled, ShownMarked, Taken, Vacant, childAt, edgeInto, kept, markedMember};
+ghost use Rattle.extension.specs.Sets.{markedShown, shows, valueWithin};
 ghost use Rattle.meaning.specs.Limits.{mostIndividuals, mostRecords, workSize};
-ghost use Rattle.meaning.specs.Lists.{any};
-ghost use Rattle.meaning.specs.Model.{factAt, factsOf};
-ghost use Rattle.meaning.specs.ModelCheck.{isIn, isMember};
-ghost use Rattle.meaning.specs.Policy.{nameOf, policyOf};
+ghost use Rattle.meaning.specs.Model.{factAt};
 ghost use Rattle.meaning.specs.Records.{Name};
 ghost use Rattle.model.specs.Chain.{Readable, Stated};
 ghost use Rattle.satisfaction.specs.Classes.{Interpreted};
+ghost use Rattle.satisfaction.specs.Places.{setOf, setPlace};
 ghost use Rattle.words.specs.Sets.{inSet};
-ghost use Rattle.workspace.specs.Work.{Only};
 
 // The individual that is asked of.
 const FIRST: u32 = 1;
-
-// How many words a set of individuals takes.
-const SET: usize = MOST_INDIVIDUALS as usize / 32;
 
 // Where the set of individuals of a policy's record k starts.
 fn set_place(k: u32) -> usize
     requires { ⌜ k ≤ mostRecords ⌝ }
     ensures { λ r. ⌜ r ≡ setPlace k ⌝ }
 {
-    END + SET * place(k)
+    SETS + SET_WORDS * place(k)
 }
 
 // Whether individual i is in the set at record k.
@@ -62,18 +57,18 @@ fn is_in(work: &[u32], k: u32, i: u32) -> bool
     ensures { λ r. ⌜ r ≡ inSet (setOf (now (work .entry)) k) i ⌝ }
 {
     let at = set_place(k);
-    let end = at + SET;
+    let end = at + SET_WORDS;
     has(&work[at..end], i)
 }
 
 // Where no conjunct is left every individual passes: all are the set at record 0, where chains end.
 fn include_all(m: &[u32], work: &mut [u32])
     requires { ⌜ Readable (now m) × (workSize ≤ length (now work)) ⌝ }
-    ensures { λ _. ⌜ Everyone (now (m .entry)) (now (work .exit)) × Only setsAt setsSize (now (work .entry)) (now (work .exit)) ⌝ }
+    ensures { λ _. ⌜ AllIncluded (now (m .entry)) (now (work .entry)) (now (work .exit)) ⌝ }
 {
     let n = individual_count(m);
     for i in 0..n {
-        put(work, END, SET, i + 1);
+        put(work, SETS, SET_WORDS, i + 1);
     }
 }
 
@@ -84,33 +79,33 @@ fn keep(work: &mut [u32], j: u32, k: u32, i: u32)
 {
     if is_in(work, j, i) {
         let at = set_place(k);
-        put(work, at, SET, i);
+        put(work, at, SET_WORDS, i);
     }
 }
 
-// Whether record f is an edge of role a into the set at record k.
-fn is_edge_into(m: &[u32], work: &[u32], f: u32, a: u32, k: u32) -> bool
+// Whether record f is an edge of role r into the set at record k.
+fn is_edge_into(m: &[u32], work: &[u32], f: u32, r: RoleNo, k: u32) -> bool
     requires { ⌜ Stated (now m) f × (k ≤ mostRecords) × (workSize ≤ length (now work)) ⌝ }
-    ensures { λ r. ⌜ r ≡ edgeInto a (inSet (setOf (now (work .entry)) k)) (factAt (now (m .entry)) f) ⌝ }
+    ensures { λ t. ⌜ t ≡ edgeInto (r .0) (inSet (setOf (now (work .entry)) k)) (factAt (now (m .entry)) f) ⌝ }
 {
     if fact_kind(m, f) != 2 {
         return false;
     }
-    if fact_name(m, f) != a {
+    if fact_name(m, f) != r.0 {
         return false;
     }
     is_in(work, k, fact_other(m, f))
 }
 
 // Whether record f is a value of feature a from lo to hi.
-fn is_value_within(m: &[u32], f: u32, a: u32, lo: u32, hi: u32) -> bool
+fn is_value_within(m: &[u32], f: u32, a: FeatureNo, lo: u32, hi: u32) -> bool
     requires { ⌜ Stated (now m) f ⌝ }
-    ensures { λ r. ⌜ r ≡ valueWithin a lo hi (factAt (now (m .entry)) f) ⌝ }
+    ensures { λ r. ⌜ r ≡ valueWithin (a .0) lo hi (factAt (now (m .entry)) f) ⌝ }
 {
     if fact_kind(m, f) != 3 {
         return false;
     }
-    if fact_name(m, f) != a {
+    if fact_name(m, f) != a.0 {
         return false;
     }
     is_within(lo, hi, fact_other(m, f))
@@ -118,21 +113,21 @@ fn is_value_within(m: &[u32], f: u32, a: u32, lo: u32, hi: u32) -> bool
 
 // Whether record f of the model shows that its individual has the conjunct at record k, a role's or a feature's.
 fn does_show(p: &[u32], m: &[u32], work: &[u32], k: u32, f: u32) -> bool
-    requires { ⌜ Stated (now m) f × Linked (now p) k × IsExtension (now p) (now m) (now work) (childAt (now p) k) × (workSize ≤ length (now work)) ⌝ }
-    ensures { λ r. ⌜ r ≡ shows (factsOf (now (m .entry))) (now (p .entry)) k (factAt (now (m .entry)) f) ⌝ }
+    requires { ⌜ Stated (now m) f × Placed (now p) (now m) (now work) k × (workSize ≤ length (now work)) ⌝ }
+    ensures { λ r. ⌜ r ≡ shows (now (p .entry)) (now (m .entry)) k (factAt (now (m .entry)) f) ⌝ }
 {
     let a = name_of(p, k);
     if kind_of(p, k) == 3 {
-        is_edge_into(m, work, f, a, child_of(p, k))
+        is_edge_into(m, work, f, RoleNo(a), child_of(p, k))
     } else {
-        is_value_within(m, f, a, lo_of(p, k), hi_of(p, k))
+        is_value_within(m, f, FeatureNo(a), lo_of(p, k), hi_of(p, k))
     }
 }
 
 // Puts the individual of record f into the set at record k, where f shows the conjunct and the next set has the individual.
 fn mark_shown(p: &[u32], m: &[u32], work: &mut [u32], k: u32, f: u32)
     requires { ⌜ Stated (now m) f × Placed (now p) (now m) (now work) k × (workSize ≤ length (now work)) ⌝ }
-    ensures { λ _. ⌜ now (work .exit) ≡ markedShown (factsOf (now (m .entry))) (now (p .entry)) k (now (work .entry)) (factAt (now (m .entry)) f) ⌝ }
+    ensures { λ _. ⌜ now (work .exit) ≡ markedShown (now (p .entry)) (now (m .entry)) k (now (work .entry)) f ⌝ }
 {
     if !does_show(p, m, work, k, f) {
         return;
@@ -143,7 +138,7 @@ fn mark_shown(p: &[u32], m: &[u32], work: &mut [u32], k: u32, f: u32)
 // Puts the individuals of which a record of the model shows the conjunct at record k, a role's or a feature's, into its set.
 fn mark_all_shown(p: &[u32], m: &[u32], work: &mut [u32], k: u32)
     requires { ⌜ Fillable (now m) (now work) × Placed (now p) (now m) (now work) k × Vacant (now work) k ⌝ }
-    ensures { λ _. ⌜ Marked (now (p .entry)) (now (m .entry)) k (shown (factsOf (now (m .entry))) (now (p .entry)) k) (now (work .entry)) (now (work .exit)) ⌝ }
+    ensures { λ _. ⌜ ShownMarked (now (p .entry)) (now (m .entry)) k (now (work .entry)) (now (work .exit)) ⌝ }
 {
     let mut f = first_fact(m);
     while f != 0 {
@@ -157,7 +152,7 @@ fn mark_member(p: &[u32], work: &mut [u32], k: u32, i: u32)
     requires { ⌜ Name mostIndividuals i × Linked (now p) k × (workSize ≤ length (now work)) ⌝ }
     ensures { λ _. ⌜ now (work .exit) ≡ markedMember (now (p .entry)) k (now (work .entry)) i ⌝ }
 {
-    if !is_member(work, i, name_of(p, k)) {
+    if !is_member(work, i, ClassNo(name_of(p, k))) {
         return;
     }
     keep(work, next_of(p, k), k, i);
@@ -166,7 +161,7 @@ fn mark_member(p: &[u32], work: &mut [u32], k: u32, i: u32)
 // Puts the individuals in the class of the conjunct at record k into its set.
 fn mark_all_members(p: &[u32], m: &[u32], work: &mut [u32], k: u32)
     requires { ⌜ Fillable (now m) (now work) × Placed (now p) (now m) (now work) k × Vacant (now work) k ⌝ }
-    ensures { λ _. ⌜ Marked (now (p .entry)) (now (m .entry)) k (λ i. any (isMember (nameOf (now (p .entry)) k) i) (factsOf (now (m .entry)))) (now (work .entry)) (now (work .exit)) ⌝ }
+    ensures { λ _. ⌜ MembersMarked (now (p .entry)) (now (m .entry)) k (now (work .entry)) (now (work .exit)) ⌝ }
 {
     let n = individual_count(m);
     for i in 0..n {
@@ -180,7 +175,7 @@ fn settle(p: &[u32], m: &[u32], work: &mut [u32], k: u32)
     ensures { λ _. ⌜ Settled (now (p .entry)) (now (m .entry)) k (now (work .entry)) (now (work .exit)) ⌝ }
 {
     let at = set_place(k);
-    clear(work, at, SET);
+    clear(work, at, SET_WORDS);
     let kind = kind_of(p, k);
     match kind {
         1 => mark_all_members(p, m, work, k),
@@ -216,8 +211,7 @@ fn settle_all(p: &[u32], m: &[u32], work: &mut [u32], k: u32)
 // Whether individual 1 is in one of the policy's terms.
 fn is_in_some(p: &[u32], m: &[u32], work: &mut [u32]) -> bool
     requires { ⌜ Fillable (now m) (now work) × Taken (now p) ⌝ }
-    ensures { λ r. ⌜ r ≡ isIn (factsOf (now (m .entry))) (policyOf (now (p .entry))) 1 ⌝ }
-    ensures { λ _. ⌜ Only setsAt setsSize (now (work .entry)) (now (work .exit)) × Fillable (now (m .entry)) (now (work .exit)) ⌝ }
+    ensures { λ r. ⌜ Extended (now (p .entry)) (now (m .entry)) (now (work .entry)) (now (work .exit)) r ⌝ }
 {
     let mut k = first_term(p);
     while k != 0 {

@@ -15,6 +15,7 @@ pub mod Points
 pub mod Pieces
 pub mod Picks
 pub mod Count
+pub mod Counting
 pub mod Filling
 pub mod Odometer
 pub mod Pairs

@@ -3,16 +3,19 @@ use Prim.Native.Nat.{_+_, _≤_, suc, zero, ℕ}
 use mathlib.Core.Bool.{Bool, cond, false, true}
 use mathlib.Core.List.{List, [], _∷_}
 use mathlib.Core.Path.{_≡_, refl}
-use lib.Dec.{eqb}
+use lib.Dec.{eqb, ltb}
 use lib.ListN.{length}
 use native.Mathlib.Omega.{arith}
-use Rattle.meaning.specs.Limits.{mostPolicyWords, mostVocabularyWords}
+use borrow.Author.Tests.{ne-eqb}
+use Rattle.meaning.specs.Answers.{refused, result}
+use Rattle.meaning.specs.Limits.{mostModelWords, mostPolicyWords, mostVocabularyWords, workSize}
 use Rattle.meaning.specs.Lists.{any}
-use Rattle.meaning.specs.Operations.{AcceptedInput, inputRefusal, unless}
-use Rattle.meaning.specs.Policy.{Walk, childOf, fault, faultOf, firstTerm, headedPolicy, nextOf, onward, policyRefusal}
-use Rattle.meaning.specs.Policy.{reached, secondRefusal, soundRecord, walk}
-use Rattle.meaning.specs.Records.{isSized, orElse}
-use Rattle.meaning.specs.Vocabulary.{axiomNext, axiomsRefusal, firstAxiom, headedVocabulary, soundAxiom, vocabularyRefusal}
+use Rattle.meaning.specs.Model.{factNext, firstFact, headedModel, modelRefusal, soundFact}
+use Rattle.meaning.specs.Operations.{AcceptedInput, Early, inputRefusal, refuses, says, unless, workRefusal}
+use Rattle.meaning.specs.Policy.{Walk, childOf, fault, faultOf, firstTerm, headedPolicy, nextOf, onward, policyRefusal, reached}
+use Rattle.meaning.specs.Policy.{secondRefusal, soundRecord, walk}
+use Rattle.meaning.specs.Records.{isSized, orElse, refusalAlong}
+use Rattle.meaning.specs.Vocabulary.{axiomNext, firstAxiom, headedVocabulary, soundAxiom, vocabularyRefusal}
 
 pub orElse-zero : (a b : ℕ) → orElse a b ≡ 0 → (a ≡ 0) × (b ≡ 0)
 orElse-zero zero b e = (refl, e)
@@ -62,20 +65,46 @@ policyRefusal-≤ v p =
     cond-all (λ n. n ≤ 8) (isSized 6 mostPolicyWords (length p))
     (cond-all (λ n. n ≤ 8) (headedPolicy p) (walk-≤ (length p) v p 0 (firstTerm p) []) (omega arith)) (omega arith)
 
--- and a vocabulary's at most 3
-axiomsRefusal-≤ : (f : ℕ) (v : List ℕ) (k : ℕ) → axiomsRefusal f v k ≤ 3
-axiomsRefusal-≤ zero v k = omega arith
-axiomsRefusal-≤ (suc f) v k =
-    cond-all (λ n. n ≤ 3) (eqb k 0) (omega arith) (cond-all (λ n. n ≤ 3) (soundAxiom v k) (axiomsRefusal-≤ f v (axiomNext v k)) (omega arith))
+-- what holds of no refusal and of a chain's holds of the reader's along the chain
+pub along-all : (P : ℕ → Type 0) (next : ℕ → ℕ) (sound : ℕ → Bool) {r : ℕ} → P 0 → P r → (f k : ℕ) → P (refusalAlong r next sound f k)
+along-all P next sound z h zero k = z
+along-all P next sound z h (suc f) k = cond-all P (eqb k 0) z (cond-all P (sound k) (along-all P next sound z h f (next k)) h)
 
-pub vocabularyRefusal-≤ : (v : List ℕ) → vocabularyRefusal v ≤ 3
+-- ---- the refusals before 21, and 21, are early
+
+few-early : (n : ℕ) → n ≤ 21 → Early n
+few-early n h = rw (ne-eqb n 22 (λ e. omega arith), ne-eqb n 23 (λ e. omega arith))
+
+pub orElse-early : (a b : ℕ) → Early a → Early b → Early (orElse a b)
+orElse-early zero b h k = k
+orElse-early (suc a) b h k = h
+
+pub vocabulary-early : (v : List ℕ) → Early (vocabularyRefusal v)
 unfolding vocabularyRefusal
-vocabularyRefusal-≤ v =
-    cond-all (λ n. n ≤ 3) (isSized 4 mostVocabularyWords (length v)) (cond-all (λ n. n ≤ 3) (headedVocabulary v) (axiomsRefusal-≤ (length v) v (firstAxiom v)) (omega arith)) (omega arith)
+vocabulary-early v =
+    cond-all Early (isSized 4 mostVocabularyWords (length v)) (cond-all Early (headedVocabulary v) (along-all Early (axiomNext v) (soundAxiom v) refl refl (length v) (firstAxiom v)) refl) refl
 
-pub orElse-≤ : (n a b : ℕ) → a ≤ n → b ≤ n → orElse a b ≤ n
-orElse-≤ n zero b h k = k
-orElse-≤ n (suc a) b h k = h
+pub policy-early : (v p : List ℕ) → Early (policyRefusal v p)
+policy-early v p = few-early (policyRefusal v p) (let a = policyRefusal-≤ v p in omega arith)
+
+pub second-early : (v q : List ℕ) → Early (secondRefusal (policyRefusal v q))
+second-early v q = go (policyRefusal v q) (policyRefusal-≤ v q)
+  where
+    go : (n : ℕ) → n ≤ 8 → Early (secondRefusal n)
+    go zero h = refl
+    go (suc n) h = few-early (secondRefusal (suc n)) (omega arith)
+
+pub input-early : (v p q : List ℕ) → Early (inputRefusal v p q)
+unfolding inputRefusal
+input-early v p q =
+    orElse-early (vocabularyRefusal v) _ (vocabulary-early v) (orElse-early (policyRefusal v p) (secondRefusal (policyRefusal v q)) (policy-early v p) (second-early v q))
+
+pub model-early : (v m : List ℕ) → Early (modelRefusal v m)
+unfolding modelRefusal
+model-early v m = cond-all Early (isSized 5 mostModelWords (length m)) (cond-all Early (headedModel m) (along-all Early (factNext m) (soundFact v m) refl refl (length m) (firstFact m)) refl) refl
+
+pub work-early : (w : ℕ) → Early (workRefusal w)
+work-early w = cond-all Early (ltb w workSize) refl refl
 
 -- the vocabulary and both policies are accepted
 pub accepted-input : (v p q : List ℕ) → inputRefusal v p q ≡ 0 → AcceptedInput v p q
@@ -94,3 +123,8 @@ unless-all P refuse (suc n) later f g = f (suc n)
 pub unless-some : {A : Type 0} (refuse : ℕ → A) (n : ℕ) (later : A) → (n ≡ 0 → ⊥) → refuse n ≡ unless refuse n later
 unless-some refuse zero later h = absurd (h refl)
 unless-some refuse (suc n) later h = refl
+
+-- an outcome without words is its answer
+pub says-unless : {A : Type 0} (n : ℕ) (a : A) → unless refuses n (says a) .answer ≡ unless refused n (result a)
+says-unless zero a = refl
+says-unless (suc n) a = refl

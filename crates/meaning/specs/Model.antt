@@ -1,5 +1,5 @@
 -- Document 01, "The countermodel": a model's facts, the interpretation that they stand for, and its words, read and written.
-use Prim.Native.Nat.{_*_, _+_, _≤_, suc, zero, ℕ}
+use Prim.Native.Nat.{_*_, _+_, _≤_, suc, ℕ}
 use mathlib.Core.Bool.{Bool, _&&_, cond}
 use mathlib.Core.List.{List, [], _++_, _∷_}
 use lib.Dec.{eqb, leb}
@@ -7,7 +7,7 @@ use lib.ListN.{getD, length}
 use Rattle.meaning.specs.Interpretation.{Interpretation}
 use Rattle.meaning.specs.Limits.{mostIndividuals, mostModelWords}
 use Rattle.meaning.specs.Lists.{_∈_}
-use Rattle.meaning.specs.Records.{isName, isOnward, isSized, lastOf}
+use Rattle.meaning.specs.Records.{isName, isOnward, isSized, lastOf, listAlong, refusalAlong}
 use Rattle.meaning.specs.Vocabulary.{classCount, featureCount, roleCount}
 
 -- "Kinds: 1 member of a class .., 2 role edge to other, 3 feature value other."
@@ -58,10 +58,7 @@ factAt m k =
     (value (factName m k) (factOwner m k) (factOther m k)))
 
 abbrev pub factsFrom : ℕ → List ℕ → ℕ → List Fact
-factsFrom zero m k = []
-factsFrom (suc f) m k =
-    let this = factAt m k ∷ factsFrom f m (factNext m k) in
-    cond (eqb k 0) [] this
+factsFrom f m k = listAlong (factNext m) (factAt m) f k
 
 -- "the memberships, edges and values of the chained records"
 unfoldable pub factsOf : List ℕ → List Fact
@@ -88,11 +85,7 @@ soundFact v m k = factFits v m k && isOnward (lastOf 5 m) k (factNext m k)
 
 -- "33: first record in the chain with ..". From record k on, at most so many records
 abbrev pub factsRefusal : ℕ → List ℕ → List ℕ → ℕ → ℕ
-factsRefusal zero v m k = 0
-factsRefusal (suc f) v m k =
-    let rest = factsRefusal f v m (factNext m k) in
-    let this = cond (soundFact v m k) rest 33 in
-    cond (eqb k 0) 0 this
+factsRefusal f v m k = refusalAlong 33 (factNext m) (soundFact v m) f k
 
 -- "31: length not a multiple of 5, under 5 or over 700,005." The first refusal of a model's words; 0 is none
 unfoldable pub modelRefusal : List ℕ → List ℕ → ℕ

@@ -1,13 +1,13 @@
 -- Document 01, "Operations and what they decline": for every contents and length of every slice, the answer of each
 -- operation and what the work slice and the output hold afterwards.
 use Prim.Native.Nat.{suc, zero, ℕ}
-use mathlib.Core.Bool.{Bool, _||_, cond, true}
+use mathlib.Core.Bool.{Bool, _||_, cond, false, true}
 use mathlib.Core.List.{List, [], _++_, _∷_}
 use mathlib.Core.Path.{_≡_}
 use lib.Dec.{eqb, leb, ltb}
 use lib.ListN.{drop, length, replicate}
-use Rattle.meaning.specs.Answers.{Answer, CheckResult, ComparisonResult, PossibilityResult, ReadingResult, VerdictResult}
-use Rattle.meaning.specs.Answers.{accepted, compliant, differs, equal, firstPossible, no, nonePossible, outside, refused, result, yes}
+use Rattle.meaning.specs.Answers.{Answer, CheckResult, ComparisonResult, PossibilityResult, ReadingResult, VerdictResult, accepted}
+use Rattle.meaning.specs.Answers.{compliant, differs, equal, firstPossible, no, nonePossible, outside, refused, result, yes}
 use Rattle.meaning.specs.Containment.{Decision, contained, decide, escapes, tooMany}
 use Rattle.meaning.specs.Countermodel.{countermodel}
 use Rattle.meaning.specs.Limits.{workSize}
@@ -114,9 +114,15 @@ modelCheck v p q m w =
 unfoldable pub zeroed : ℕ → List ℕ → List ℕ
 zeroed n w = replicate n 0 ++ drop n w
 
--- 22 and 23 are the refusals that come after 21
+-- 22 and 23 are the refusals that come after 21, and so after work was done; the others are early
+abbrev pub isLate : ℕ → Bool
+isLate n = eqb n 22 || eqb n 23
+
+abbrev pub Early : ℕ → Type 0
+Early n = isLate n ≡ false
+
 abbrev pub comesLate : {A : Type 0} → Answer A → Bool
-comesLate (refused n) = eqb n 22 || eqb n 23
+comesLate (refused n) = isLate n
 comesLate (result a) = true
 
 -- "a refusal up to and including 21 writes in no slice; one that comes after 21 leaves the first 16,384 work words 0 and

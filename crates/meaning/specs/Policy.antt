@@ -6,7 +6,7 @@ use lib.Dec.{eqb, leb}
 use lib.ListN.{getD, length}
 use Rattle.meaning.specs.Limits.{mostDepth, mostPolicyWords}
 use Rattle.meaning.specs.Lists.{any}
-use Rattle.meaning.specs.Records.{isName, isOnward, isSized, lastOf}
+use Rattle.meaning.specs.Records.{isName, isOnward, isSized, lastOf, listAlong}
 use Rattle.meaning.specs.Vocabulary.{classCount, featureCount, roleCount}
 
 -- A chain of conjuncts: a record, its child chain, its next. "Kinds: .. 1, class a; 2, the impossible concept;
@@ -120,11 +120,12 @@ chainFrom (suc f) p k =
     let this = conjunctAt p k child next in
     cond (eqb k 0) end this
 
+-- the conjuncts of the term at record k
+abbrev pub termAt : List ℕ → ℕ → Chain
+termAt p k = chainFrom (length p) p (childOf p k)
+
 abbrev pub termsFrom : ℕ → List ℕ → ℕ → Policy
-termsFrom zero p k = []
-termsFrom (suc f) p k =
-    let this = chainFrom (length p) p (childOf p k) ∷ termsFrom f p (nextOf p k) in
-    cond (eqb k 0) [] this
+termsFrom f p k = listAlong (nextOf p) (termAt p) f k
 
 -- the terms of the header's chain
 unfoldable pub policyOf : List ℕ → Policy

@@ -1,7 +1,7 @@
 -- What the three tables of records share: names, links, lengths, and refusals in order.
 use Prim.Native.Nat.{_%_, _-_, _/_, _<_, _≤_, suc, zero, ℕ}
-use mathlib.Core.Bool.{Bool, _&&_, _||_}
-use mathlib.Core.List.{List}
+use mathlib.Core.Bool.{Bool, _&&_, _||_, cond}
+use mathlib.Core.List.{List, [], _∷_}
 use mathlib.Core.Logic.{_⊎_}
 use mathlib.Core.Path.{_≡_}
 use lib.Dec.{eqb, leb, ltb}
@@ -37,6 +37,21 @@ falling last (suc j) = last - j
 -- so many steps are enough for a chain from record k on
 abbrev pub Enough : ℕ → ℕ → ℕ → Type 0
 Enough last steps k = (k ≤ last) × (falling last k ≤ steps)
+
+-- what stands along a chain from record k on, at most so many records of it: a record's next, and what stands at it
+abbrev pub listAlong : {A : Type 0} → (ℕ → ℕ) → (ℕ → A) → ℕ → ℕ → List A
+listAlong next item zero k = []
+listAlong next item (suc f) k =
+    let rest = item k ∷ listAlong next item f (next k) in
+    cond (eqb k 0) [] rest
+
+-- the refusal r where a record along the chain is not sound, the first of them being met before its link is followed; 0 is none
+abbrev pub refusalAlong : ℕ → (ℕ → ℕ) → (ℕ → Bool) → ℕ → ℕ → ℕ
+refusalAlong r next sound zero k = 0
+refusalAlong r next sound (suc f) k =
+    let rest = refusalAlong r next sound f (next k) in
+    let this = cond (sound k) rest r in
+    cond (eqb k 0) 0 this
 
 -- "the first refusal in document 01's order"; 0 is none
 abbrev pub orElse : ℕ → ℕ → ℕ

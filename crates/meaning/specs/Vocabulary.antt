@@ -1,11 +1,11 @@
 -- Document 01, "The vocabulary": its records, what Read vocabulary refuses, and the axioms that an accepted table states.
-use Prim.Native.Nat.{_*_, _+_, suc, zero, ℕ}
+use Prim.Native.Nat.{_*_, _+_, ℕ}
 use mathlib.Core.Bool.{Bool, _&&_, cond}
-use mathlib.Core.List.{List, [], _∷_}
+use mathlib.Core.List.{List}
 use lib.Dec.{eqb, leb}
 use lib.ListN.{getD, length}
 use Rattle.meaning.specs.Limits.{mostClasses, mostFeatures, mostRoles, mostVocabularyWords}
-use Rattle.meaning.specs.Records.{isName, isOnward, isSized, lastOf}
+use Rattle.meaning.specs.Records.{isName, isOnward, isSized, lastOf, listAlong, refusalAlong}
 
 -- "Kinds: 1, class a is below class b; 2, classes a and b share no individual; 3, role a is functional;
 -- 4, feature a is functional; 5, every value of role a is in class b."
@@ -64,11 +64,7 @@ soundAxiom v k = axiomFits v k && isOnward (lastOf 4 v) k (axiomNext v k)
 -- "3: first record in the chain with an unknown kind, a name outside its count, a wrong zero or a bad link."
 -- The chain from record k on, at most so many records of it
 abbrev pub axiomsRefusal : ℕ → List ℕ → ℕ → ℕ
-axiomsRefusal zero v k = 0
-axiomsRefusal (suc f) v k =
-    let rest = axiomsRefusal f v (axiomNext v k) in
-    let this = cond (soundAxiom v k) rest 3 in
-    cond (eqb k 0) 0 this
+axiomsRefusal f v k = refusalAlong 3 (axiomNext v) (soundAxiom v) f k
 
 -- "2: header count or link out of range."
 abbrev pub headedVocabulary : List ℕ → Bool
@@ -93,10 +89,7 @@ axiomAt v k =
     (range (axiomLeft v k) (axiomRight v k)))))
 
 abbrev pub axiomsFrom : ℕ → List ℕ → ℕ → List Axiom
-axiomsFrom zero v k = []
-axiomsFrom (suc f) v k =
-    let rest = axiomAt v k ∷ axiomsFrom f v (axiomNext v k) in
-    cond (eqb k 0) [] rest
+axiomsFrom f v k = listAlong (axiomNext v) (axiomAt v) f k
 
 -- "everything the vocabulary's chain states"
 unfoldable pub axiomsOf : List ℕ → List Axiom

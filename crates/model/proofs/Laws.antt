@@ -1,18 +1,19 @@
 -- Laws of the definitions, over plain lists and numbers: what a function's proof cites at its returns.
-use Prim.Native.Nat.{_<_, _≤_, suc, zero, ℕ}
+use Prim.Native.Nat.{_<_, _≤_, ℕ}
 use mathlib.Core.Bool.{Bool, _&&_, and-false, false, not, true}
 use mathlib.Core.List.{List}
-use mathlib.Core.Path.{_∙_, _≡_, refl, sym}
+use mathlib.Core.Path.{_∙_, _≡_, sym}
 use lib.Dec.{eqb, leb}
 use lib.ListN.{getD, length}
 use native.Mathlib.Omega.{arith}
 use borrow.Author.Tests.{ne-eqb, not-false, not-true}
-use Rattle.meaning.proofs.Links.{bounds, enough-end, falling-le, falls, onward-le, tests}
+use Rattle.meaning.proofs.Links.{bounds, falling-le, tests}
 use Rattle.meaning.specs.Limits.{mostIndividuals, mostModelWords}
 use Rattle.meaning.specs.Model.{factFits, factKind, factName, factNext, factOther, factOwner, factsRefusal, firstFact, headedModel}
 use Rattle.meaning.specs.Model.{individualCount, modelRefusal, soundFact}
-use Rattle.meaning.specs.Records.{Enough, Onward, falling, isName, isOnward, isSized, lastOf}
+use Rattle.meaning.specs.Records.{Onward, falling, isName, isOnward, isSized, lastOf}
 use Rattle.meaning.specs.Vocabulary.{classCount, featureCount, roleCount}
+use Rattle.records.proofs.Chains.{Reading, reading-ends, reading-falls, reading-on, reading-starts, reading-stops}
 
 -- ---- a record
 
@@ -43,47 +44,33 @@ link-sound v m k ef el ex eg = rw (ef, eg, ex, el)
 
 -- ---- the chain
 
--- the walk from the first record on has come to k: the refusal is that of the chain from k on, for which the fuel is enough
-pub record Walking (v m : List ℕ) (k : ℕ) : Type 0 where
-  pub fuel : ℕ
-  pub enough : Enough (lastOf 5 m) fuel k
-  pub same : factsRefusal (length m) v m (firstFact m) ≡ factsRefusal fuel v m k
+-- the reader has come to record k
+pub record ReadingFacts (v m : List ℕ) (k : ℕ) : Type 0 where
+  pub reading : Reading (lastOf 5 m) 33 (factNext m) (soundFact v m) (factsRefusal (length m) v m (firstFact m)) k
 
-pub walking-starts : {v m : List ℕ} {k : ℕ} → k ≡ firstFact m → firstFact m ≤ lastOf 5 m → Walking v m k
-walking-starts {v} {m} {k} e h = record { fuel = length m; enough = (omega arith, omega (arith, falling-le (lastOf 5 m) k)); same = rw e }
+pub facts-start : {v m : List ℕ} {k : ℕ} → k ≡ firstFact m → firstFact m ≤ lastOf 5 m → ReadingFacts v m k
+facts-start {m = m} e h = record { reading = reading-starts {f = length m} e (h, omega (arith, falling-le (lastOf 5 m) (firstFact m))) }
 
-pub walking-ends : {v m : List ℕ} {k : ℕ} → Walking v m k → k ≡ 0 → 0 ≡ factsRefusal (length m) v m (firstFact m)
-walking-ends {v} {m} {k} w z = sym (w .same ∙ end (w .fuel))
-  where
-    end : (f : ℕ) → factsRefusal f v m k ≡ 0
-    end zero = refl
-    end (suc f) = rw z
+pub facts-end : {v m : List ℕ} {k : ℕ} → ReadingFacts v m k → k ≡ 0 → 0 ≡ factsRefusal (length m) v m (firstFact m)
+facts-end w z = reading-ends (w .reading) z
 
 -- t is the test of record k
-module _ {v m : List ℕ} {k : ℕ} {t : Bool} (w : Walking v m k) (n : k ≡ 0 → ⊥) (e : t ≡ soundFact v m k) where
-  pub walking-stops : not t ≡ true → 33 ≡ factsRefusal (length m) v m (firstFact m)
-  walking-stops h = go (w .fuel) (w .enough) (w .same)
-    where
-      go : (f : ℕ) → Enough (lastOf 5 m) f k → factsRefusal (length m) v m (firstFact m) ≡ factsRefusal f v m k → 33 ≡ factsRefusal (length m) v m (firstFact m)
-      go zero l s = absurd (n (enough-end _ k l))
-      go (suc f) l s = rw (s, ne-eqb k 0 n, sym e ∙ not-true t h)
+module _ {v m : List ℕ} {k : ℕ} {t : Bool} (w : ReadingFacts v m k) (n : k ≡ 0 → ⊥) (e : t ≡ soundFact v m k) where
+  pub facts-stop : not t ≡ true → 33 ≡ factsRefusal (length m) v m (firstFact m)
+  facts-stop h = reading-stops (w .reading) n (sym e ∙ not-true t h)
 
-  module _ {x : ℕ} (h : not t ≡ false) (p : x ≡ factNext m k) where
+  module _ (h : not t ≡ false) where
     sound : soundFact v m k ≡ true
     sound = sym e ∙ not-false t h
 
-    onward : Onward (lastOf 5 m) k x
-    onward = let u = simp tests at sound in rw p (u .1)
+    onward : Onward (lastOf 5 m) k (factNext m k)
+    onward = let u = simp tests at sound in u .1
 
-    pub walking-falls : falling (lastOf 5 m) x < falling (lastOf 5 m) k
-    walking-falls = falls (lastOf 5 m) k x (omega arith, w .enough .0) onward
+    pub facts-fall : {x : ℕ} → x ≡ factNext m k → falling (lastOf 5 m) x < falling (lastOf 5 m) k
+    facts-fall p = reading-falls (w .reading) n sound onward p
 
-    pub walking-on : Walking v m x
-    walking-on = go (w .fuel) (w .enough) (w .same)
-      where
-        go : (f : ℕ) → Enough (lastOf 5 m) f k → factsRefusal (length m) v m (firstFact m) ≡ factsRefusal f v m k → Walking v m x
-        go zero l s = absurd (n (enough-end _ k l))
-        go (suc f) l s = record { fuel = f; enough = (onward-le _ k x onward, omega (arith, walking-falls)); same = s ∙ rw (ne-eqb k 0 n, sound, p) }
+    pub facts-on : {x : ℕ} → x ≡ factNext m k → ReadingFacts v m x
+    facts-on p = record { reading = reading-on (w .reading) n sound onward p }
 
 -- ---- the whole
 

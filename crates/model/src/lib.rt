@@ -95,7 +95,8 @@ fn is_sound(v: &[u32], m: &[u32], k: u32) -> bool
 // The first refusal along the chain, which ends: a link that does not rise is refused before it is followed.
 fn facts_refusal(v: &[u32], m: &[u32]) -> u32
     requires { ⌜ (5 ≤ length (now m)) × (firstFact (now m) ≤ lastOf 5 (now m)) ⌝ }
-    ensures { λ r. ⌜ r ≡ factsRefusal (length (now (m .entry))) (now (v .entry)) (now (m .entry)) (firstFact (now (m .entry))) ⌝ }
+    ensures { λ r. ⌜ r ≡ factsRefusal (length (now (m .entry))) (now (v .entry)) (now (m .entry))
+        (firstFact (now (m .entry))) ⌝ }
 {
     let mut k = first_fact(m);
     while k != 0 {

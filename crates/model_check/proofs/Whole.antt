@@ -1,129 +1,102 @@
--- Laws of the whole: what the model refutes, the refusals in their order, the work slice afterwards.
-use Prim.Native.Nat.{_≤_, suc, zero, ℕ}
+-- Laws of the whole: what the model refutes, and the operation.
+use Prim.Native.Nat.{ℕ}
 use mathlib.Core.Bool.{Bool, cond, false, not, true}
-use mathlib.Core.List.{List}
-use mathlib.Core.Path.{_∙_, _≡_, ap, subst, sym}
-use native.Mathlib.Omega.{arith}
-use borrow.Author.Tests.{ne-eqb, not-false, not-true}
-use lib.Dec.{eqb}
+use mathlib.Core.List.{List, []}
+use mathlib.Core.Path.{_∙_, _≡_, ap, refl, subst, sym}
 use lib.ListN.{length}
-use Rattle.extension.specs.Places.{setsAt, setsSize}
+use native.Mathlib.Omega.{arith}
+use borrow.Author.Tests.{not-false, not-true}
+use Rattle.extension.specs.Sets.{Extended}
+use Rattle.frames.proofs.Frames.{only-span, only-then}
+use Rattle.frames.proofs.Work.{Done, done-answered, done-before, done-full, done-refused, in-order, outputs-none}
+use Rattle.frames.specs.Frames.{Cleared, Only, Span}
 use Rattle.meaning.proofs.Checking.{check-judged}
-use Rattle.meaning.proofs.Refusals.{accepted-input, cond-all, orElse-assoc, orElse-first, orElse-zero, unless-some}
-use Rattle.meaning.specs.Answers.{Answer, CheckResult, checkedAnswer, no, refused, result, yes}
-use Rattle.meaning.specs.Limits.{mostModelWords, workSize}
-use Rattle.meaning.specs.Model.{Fact, factNext, factsOf, factsRefusal, firstFact, headedModel, modelRefusal, soundFact}
-use Rattle.meaning.specs.ModelCheck.{isIn, isModel, refutes}
-use Rattle.meaning.specs.Operations.{AcceptedInput, inputRefusal, modelCheck, unless, workAfter, workRefusal}
-use Rattle.meaning.specs.Policy.{Policy, policyOf}
+use Rattle.meaning.proofs.Refusals.{accepted-input, input-early, model-early, orElse-assoc, orElse-early, orElse-first, orElse-zero}
+use Rattle.meaning.proofs.Refusals.{says-unless}
+use Rattle.meaning.specs.Answers.{CheckResult, checkedAnswer, no, result, yes}
+use Rattle.meaning.specs.Limits.{workSize}
+use Rattle.meaning.specs.Model.{modelRefusal}
+use Rattle.meaning.specs.ModelCheck.{refutes}
+use Rattle.meaning.specs.Operations.{Early, Outcome, inputRefusal, modelCheck, says, workRefusal}
 use Rattle.meaning.specs.Promises.{CorrectCheck}
-use Rattle.meaning.specs.Records.{isSized, orElse}
-use Rattle.meaning.specs.Vocabulary.{Vocabulary, vocabularyOf}
+use Rattle.meaning.specs.Records.{orElse}
 use Rattle.meaning.specs.declared.Checked.{Checked}
-use Rattle.model_check.specs.Judging.{ModelCheckPost}
-use Rattle.satisfaction.specs.Places.{tablesEnd}
-use Rattle.workspace.proofs.Changes.{cleared-beyond, only-beyond}
-use Rattle.workspace.proofs.Laws.{beyond-then, inputRefusal-≤, none-before, none-full, workRefusal-≤}
-use Rattle.workspace.specs.Work.{Beyond, Cleared, Only}
+use Rattle.model_check.specs.Judging.{Checkable, ModelCheckPost, isRefuted, tablesRefusal}
+use Rattle.satisfaction.specs.Classes.{Satisfied}
+use Rattle.meaning.specs.declared.Checked.the-variants as checked
 
 -- ---- what is refuted
 
--- what stands after the sets and tables is left alone
-pub beyond-tables : {w w′ : List ℕ} → Only 0 tablesEnd w w′ → Beyond w w′
-beyond-tables a = only-beyond a (omega arith)
+-- b tells whether the vocabulary is satisfied, c whether individual 1 is in the first policy, and t whether it is in the second
+module _ {v m w w₁ : List ℕ} {b : Bool} (s : Satisfied v m w w₁ b) where
+  pub satisfied-only : Only (Span 0 workSize) w w₁
+  satisfied-only = only-span (s .only) (omega arith) (omega arith)
 
-pub beyond-sets : {w w₁ w₂ : List ℕ} → Beyond w w₁ → Only setsAt setsSize w₁ w₂ → Beyond w w₂
-beyond-sets a b = beyond-then a (only-beyond b (omega arith))
-
-module _ (F : List Fact) (K : Vocabulary) (P Q : Policy) {b : Bool} (e : b ≡ isModel F K) where
-  pub unsatisfied : not b ≡ true → false ≡ refutes F K P Q
-  unfolding refutes
-  unsatisfied h = rw (← e, not-true b h)
-
-  module _ (h : not b ≡ false) {c : Bool} (d : c ≡ isIn F P 1) where
-    pub not-inside : not c ≡ true → false ≡ refutes F K P Q
+  module _ (p q : List ℕ) where
+    pub unsatisfied : not b ≡ true → false ≡ isRefuted v p q m
     unfolding refutes
-    not-inside g = rw (← e, not-false b h, ← d, not-true c g)
+    unsatisfied h = rw (← s .told, not-true b h)
 
-    pub not-outside : {t : Bool} → not c ≡ false → t ≡ isIn F Q 1 → not t ≡ refutes F K P Q
-    unfolding refutes
-    not-outside g f = rw (← e, not-false b h, ← d, not-false c g, f)
+    module _ {w₂ : List ℕ} {c : Bool} (x : Extended p m w₁ w₂ c) (h : not b ≡ false) where
+      pub not-inside : not c ≡ true → false ≡ isRefuted v p q m
+      unfolding refutes
+      not-inside g = rw (← s .told, not-false b h, ← x .told, not-true c g)
+
+      pub not-outside : {w₃ : List ℕ} {t : Bool} → not c ≡ false → Extended q m w₂ w₃ t → not t ≡ isRefuted v p q m
+      unfolding refutes
+      not-outside g y = rw (← s .told, not-false b h, ← x .told, not-false c g, y .told)
+
+pub extended-only : {p m w w₁ w₂ : List ℕ} {b : Bool} → Only (Span 0 workSize) w w₁ → Extended p m w₁ w₂ b → Only (Span 0 workSize) w w₂
+extended-only o x = only-then o (only-span (x .only) (omega arith) (omega arith))
 
 -- ---- the refusals in their order
 
 module _ (v p q m : List ℕ) {n : ℕ} (e : n ≡ inputRefusal v p q) where
-  pub refused-input : (n ≡ 0 → ⊥) → n ≡ orElse (inputRefusal v p q) (modelRefusal v m)
+  pub refused-input : (n ≡ 0 → ⊥) → n ≡ tablesRefusal v p q m
   refused-input h = e ∙ orElse-first (inputRefusal v p q) (modelRefusal v m) (λ z. h (e ∙ z))
 
-  pub refused-model : {k : ℕ} → n ≡ 0 → k ≡ modelRefusal v m → k ≡ orElse (inputRefusal v p q) (modelRefusal v m)
+  pub refused-model : {k : ℕ} → n ≡ 0 → k ≡ modelRefusal v m → k ≡ tablesRefusal v p q m
   refused-model z f = f ∙ rw (sym e ∙ z)
 
--- 22 and 23 are not among them
-abbrev Other : ℕ → Type 0
-Other n = (n ≡ 22 → ⊥) × (n ≡ 23 → ⊥)
+tables-early : (v p q m : List ℕ) → Early (tablesRefusal v p q m)
+tables-early v p q m = orElse-early (inputRefusal v p q) (modelRefusal v m) (input-early v p q) (model-early v m)
 
-few-other : (n : ℕ) → n ≤ 21 → Other n
-few-other n h = (λ e. omega arith, λ e. omega arith)
+-- ---- the answer, and the work slice afterwards
 
-either-other : (a b : ℕ) → Other a → Other b → Other (orElse a b)
-either-other zero b h k = k
-either-other (suc a) b h k = h
+abbrev told : List ℕ → List ℕ → List ℕ → List ℕ → Outcome CheckResult
+told v p q m = says (cond (isRefuted v p q m) yes no)
 
-facts-other : (f : ℕ) (v m : List ℕ) (k : ℕ) → Other (factsRefusal f v m k)
-facts-other zero v m k = few-other 0 (omega arith)
-facts-other (suc f) v m k =
-    cond-all Other (eqb k 0) (few-other 0 (omega arith)) (cond-all Other (soundFact v m k) (facts-other f v m (factNext m k)) (λ e. omega arith, λ e. omega arith))
+pub check-post : {v p q m w w′ : List ℕ} {a : Checked} → Done (tablesRefusal v p q m) (told v p q m) (checkedAnswer a) w w′ [] [] → ModelCheckPost v p q m w w′ a
+unfolding modelCheck
+check-post {v} {p} {q} {m} {w} {a = a} d = record { answer = same; work = d .work; right = subst (CorrectCheck v p q m) (sym same) (check-judged v p q m (length w)) }
+  where
+    outside : (b : Bool) → result (cond b yes no) ≡ cond b (result yes) (result no)
+    outside true = refl
+    outside false = refl
 
-model-other : (v m : List ℕ) → Other (modelRefusal v m)
-unfolding modelRefusal
-model-other v m =
-    cond-all Other (isSized 5 mostModelWords (length m))
-    (cond-all Other (headedModel m) (facts-other (length m) v m (firstFact m)) (λ e. omega arith, λ e. omega arith)) (λ e. omega arith, λ e. omega arith)
+    same : checkedAnswer a ≡ modelCheck v p q m (length w)
+    same =
+        d .answer ∙ says-unless (orElse (tablesRefusal v p q m) (workRefusal (length w))) (cond (isRefuted v p q m) yes no)
+        ∙ rw (outside (isRefuted v p q m), ← orElse-assoc (inputRefusal v p q) (modelRefusal v m) (workRefusal (length w)))
 
 -- n is the first refusal of the tables, and r that of all
-module _ (v p q m : List ℕ) (w : ℕ) {n r : ℕ} (e : n ≡ orElse (inputRefusal v p q) (modelRefusal v m)) (f : r ≡ orElse n (workRefusal w)) where
-  abbrev told : Answer CheckResult
-  told = cond (refutes (factsOf m) (vocabularyOf v) (policyOf p) (policyOf q)) (result yes) (result no)
-
-  in-order : modelCheck v p q m w ≡ unless refused r told
-  unfolding modelCheck
-  in-order = ap (λ (k : ℕ). unless refused k told) (orElse-assoc (inputRefusal v p q) (modelRefusal v m) (workRefusal w) ∙ sym (f ∙ ap (λ (k : ℕ). orElse k (workRefusal w)) e))
-
-  pub refuses : (r ≡ 0 → ⊥) → refused r ≡ modelCheck v p q m w
-  refuses h = unless-some refused r told h ∙ sym in-order
-
-  pub early-work : (x : List ℕ) → x ≡ workAfter {A = CheckResult} (refused r) x
-  unfolding workAfter
-  early-work x =
-      let few = few-other (inputRefusal v p q) (let a = inputRefusal-≤ v p q in omega arith) in
-      let tables = either-other (inputRefusal v p q) (modelRefusal v m) few (model-other v m) in
-      let o : Other r = rw (f, e) (either-other (orElse (inputRefusal v p q) (modelRefusal v m)) (workRefusal w) tables (few-other (workRefusal w) (workRefusal-≤ w))) in
-      rw (ne-eqb r 22 (o .0), ne-eqb r 23 (o .1))
+module _ {v p q m w : List ℕ} {n r : ℕ} (e : n ≡ tablesRefusal v p q m) (f : r ≡ orElse n (workRefusal (length w))) where
+  pub refuses : (r ≡ 0 → ⊥) → ModelCheckPost v p q m w w (checked.Refused r)
+  refuses h = check-post (done-refused (in-order w e f) (told v p q m) [] (tables-early v p q m) h)
 
   module _ (z : r ≡ 0) where
-    both-taken : (inputRefusal v p q ≡ 0) × (modelRefusal v m ≡ 0)
-    both-taken = orElse-zero (inputRefusal v p q) (modelRefusal v m) (sym e ∙ none-before n w (sym f ∙ z))
+    pub checkable : Checkable v p q m w
+    checkable =
+        let t = orElse-zero (inputRefusal v p q) (modelRefusal v m) (done-before (in-order w e f) z) in
+        record { input = accepted-input v p q (t .0); model = t .1; long = done-full (in-order w e f) z }
 
-    pub input-taken : AcceptedInput v p q
-    input-taken = accepted-input v p q (both-taken .0)
+    -- b is what the model tells
+    module _ {b : Bool} {w₁ w₂ : List ℕ} (d : b ≡ isRefuted v p q m) (o : Only (Span 0 workSize) w w₁) (c : Cleared 0 workSize w₁ w₂) where
+      says-it : {a : Checked} → checkedAnswer a ≡ result (cond b yes no) → ModelCheckPost v p q m w w₂ a
+      says-it g = check-post (done-answered (in-order w e f) z {told = told v p q m} refl (g ∙ ap (λ (t : Bool). result (cond t yes no)) d) (outputs-none []) o c)
 
-    pub model-taken : modelRefusal v m ≡ 0
-    model-taken = both-taken .1
+      pub says-yes : b ≡ true → ModelCheckPost v p q m w w₂ checked.Yes
+      says-yes g = says-it (rw g)
 
-    pub work-full : workSize ≤ w
-    work-full = none-full n w (sym f ∙ z)
-
-    pub answers : {b : Bool} → b ≡ refutes (factsOf m) (vocabularyOf v) (policyOf p) (policyOf q) → cond b (result yes) (result no) ≡ modelCheck v p q m w
-    answers d = ap (λ (t : Bool). cond t (result yes) (result no)) d ∙ sym (in-order ∙ ap (λ (k : ℕ). unless refused k told) z)
-
--- ---- the work slice afterwards
-
-pub late-work : {w w₁ w₂ : List ℕ} (b : Bool) → Beyond w w₁ → Cleared 0 workSize w₁ w₂ → w₂ ≡ workAfter (cond b (result yes) (result no)) w
-unfolding workAfter
-late-work true d z = cleared-beyond d z
-late-work false d z = cleared-beyond d z
-
--- ---- what is left behind
-
-pub judged : {v p q m w w′ : List ℕ} {r : Checked} → checkedAnswer r ≡ modelCheck v p q m (length w) → w′ ≡ workAfter (checkedAnswer r) w → ModelCheckPost v p q m w w′ r
-judged {v} {p} {q} {m} {w} e f = record { answer = e; work = f; right = subst (λ a. CorrectCheck v p q m a) (sym e) (check-judged v p q m (length w)) }
+      pub says-no : b ≡ false → ModelCheckPost v p q m w w₂ checked.No
+      says-no g = says-it (rw g)

@@ -1,31 +1,23 @@
 // Model check: whether the interpretation that a model's words stand for satisfies the vocabulary and has its first individual in
 // the first policy and outside the second. Time grows with the model's records times the records of the vocabulary and of the policies.
 use extension::is_inside;
+use frames::clear;
+use frames::work_refusal;
 use meaning::Checked;
 use meaning::limits::WORK_SIZE;
 use model::model_refusal;
 use policy::input_refusal;
 use satisfaction::is_satisfied;
-use workspace::clear;
-use workspace::work_refusal;
 ghost use mathlib.Core.Path.{_≡_};
-ghost use Prim.Native.Nat.{_≤_};
-ghost use lib.ListN.{length};
+ghost use Rattle.frames.specs.Frames.{Only, Span};
 ghost use Rattle.meaning.specs.Limits.{workSize};
-ghost use Rattle.meaning.specs.Model.{factsOf, modelRefusal};
-ghost use Rattle.meaning.specs.ModelCheck.{refutes};
-ghost use Rattle.meaning.specs.Operations.{AcceptedInput, inputRefusal};
-ghost use Rattle.meaning.specs.Policy.{policyOf};
-ghost use Rattle.meaning.specs.Records.{orElse};
-ghost use Rattle.meaning.specs.Vocabulary.{vocabularyOf};
-ghost use Rattle.model_check.specs.Judging.{ModelCheckPost};
-ghost use Rattle.workspace.specs.Work.{Beyond};
+ghost use Rattle.model_check.specs.Judging.{Checkable, ModelCheckPost, isRefuted, tablesRefusal};
 
 // Whether the model satisfies the vocabulary and tells the policies apart.
 fn does_refute(v: &[u32], p: &[u32], q: &[u32], m: &[u32], work: &mut [u32]) -> bool
-    requires { ⌜ AcceptedInput (now v) (now p) (now q) × (modelRefusal (now v) (now m) ≡ 0) × (workSize ≤ length (now work)) ⌝ }
-    ensures { λ r. ⌜ r ≡ refutes (factsOf (now (m .entry))) (vocabularyOf (now (v .entry))) (policyOf (now (p .entry))) (policyOf (now (q .entry))) ⌝ }
-    ensures { λ _. ⌜ Beyond (now (work .entry)) (now (work .exit)) ⌝ }
+    requires { ⌜ Checkable (now v) (now p) (now q) (now m) (now work) ⌝ }
+    ensures { λ r. ⌜ r ≡ isRefuted (now (v .entry)) (now (p .entry)) (now (q .entry)) (now (m .entry)) ⌝ }
+    ensures { λ _. ⌜ Only (Span 0 workSize) (now (work .entry)) (now (work .exit)) ⌝ }
 {
     if !is_satisfied(v, m, work) {
         return false;
@@ -38,7 +30,7 @@ fn does_refute(v: &[u32], p: &[u32], q: &[u32], m: &[u32], work: &mut [u32]) -> 
 
 // The first refusal of the four tables: the vocabulary, the policies, the model.
 fn tables_refusal(v: &[u32], p: &[u32], q: &[u32], m: &[u32]) -> u32
-    ensures { λ r. ⌜ r ≡ orElse (inputRefusal (now (v .entry)) (now (p .entry)) (now (q .entry))) (modelRefusal (now (v .entry)) (now (m .entry))) ⌝ }
+    ensures { λ r. ⌜ r ≡ tablesRefusal (now (v .entry)) (now (p .entry)) (now (q .entry)) (now (m .entry)) ⌝ }
 {
     let refusal = input_refusal(v, p, q);
     if refusal != 0 {
@@ -49,7 +41,8 @@ fn tables_refusal(v: &[u32], p: &[u32], q: &[u32], m: &[u32]) -> u32
 
 // Model check: the refusals of the vocabulary, the policies and the model, 21, then the answer.
 pub fn model_check(v: &[u32], p: &[u32], q: &[u32], m: &[u32], work: &mut [u32]) -> Checked
-    ensures { λ r. ⌜ ModelCheckPost (now (v .entry)) (now (p .entry)) (now (q .entry)) (now (m .entry)) (now (work .entry)) (now (work .exit)) r ⌝ }
+    ensures { λ r. ⌜ ModelCheckPost (now (v .entry)) (now (p .entry)) (now (q .entry)) (now (m .entry))
+        (now (work .entry)) (now (work .exit)) r ⌝ }
 {
     let refusal = work_refusal(tables_refusal(v, p, q, m), work);
     if refusal != 0 {

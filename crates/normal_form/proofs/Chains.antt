@@ -1,15 +1,19 @@
 -- A chain's first conjunct and the rest, and what adding conjuncts does to the tables.
-use Prim.Native.Nat.{_*_, _+_, _-_, _<_, _≤_, ℕ}
+use Prim.Native.Nat.{_*_, _+_, _<_, _≤_, ℕ}
 use mathlib.Core.Bool.{Bool, _&&_, _||_, false, or-assoc, or-false, or-true, true}
 use mathlib.Core.List.{List, [], _++_, _∷_}
-use mathlib.Core.Logic.{inr}
+use mathlib.Core.Logic.{inl, inr}
 use mathlib.Core.Path.{_∙_, _≡_, ap, refl, subst, sym}
-use native.Mathlib.Omega.{arith}
 use lib.Dec.{eqb}
-use lib.ListN.{getD, length, length-append, length-set, set}
+use lib.ListN.{getD, length, length-append, set}
 use lib.Seq.{getD-set-other, getD-set-same}
+use native.Mathlib.Omega.{arith}
 use borrow.Author.Tests.{ne-eqb}
-use Rattle.hierarchy.specs.Rows.{rowOf, rowPlace}
+use Rattle.closure.specs.Rows.{rowOf}
+use Rattle.frames.proofs.Frames.{only-none, only-set, only-then, only-wider}
+use Rattle.layout.proofs.Entries.{constraints-kept}
+use Rattle.layout.specs.Places.{individualsAt, pendingAt, rowPlace, tablesEnd}
+use Rattle.layout.specs.Tables.{heldBy, intervalOf}
 use Rattle.meaning.proofs.Rules.{all-append}
 use Rattle.meaning.proofs.Terms.{chain-at}
 use Rattle.meaning.specs.Accepted.{NamedChain, Reads, reads-class, reads-end, reads-impossible, reads-interval, reads-some}
@@ -19,11 +23,11 @@ use Rattle.meaning.specs.Lists.{any, cons, nil}
 use Rattle.meaning.specs.NormalForm.{placeConstraint}
 use Rattle.meaning.specs.Policy.{Chain, childOf, class, end, hiOf, impossible, interval, kindOf, loOf, nameOf, nextOf, some}
 use Rattle.meaning.specs.Records.{Name}
-use Rattle.normal_form.proofs.Laws.{front-kept, front-row, intervals-kept, live-append, words-append, words-eq, words-kept}
-use Rattle.normal_form.specs.Parts.{Arm, armAt, bottomHere, chainAt, classesIn, conjuncts, headAt, intervalCount, intervalsIn}
-use Rattle.normal_form.specs.Parts.{joins, live, roles, wordsAt}
-use Rattle.normal_form.specs.Steps.{Adding, Adds, Entry, Good, OnlyNewRows, Placed, HasRoomFor, Sure, Told, front, intervalOf}
-use Rattle.normal_form.specs.Tables.{heldBy, pendingAt, rowsAt, tablesEnd}
+use Rattle.normal_form.proofs.Laws.{fresh-in, front-kept, front-row, in-tables, live-append, none-struck, word-same, words-append}
+use Rattle.normal_form.proofs.Laws.{words-eq, words-kept}
+use Rattle.normal_form.specs.Parts.{Arm, armAt, bottomHere, chainAt, classesIn, conjuncts, headAt, intervalCount, intervalsIn, joins}
+use Rattle.normal_form.specs.Parts.{live, roles, wordsAt}
+use Rattle.normal_form.specs.Steps.{Adding, Adds, Entry, Good, HasRoomFor, Placed, Sure, Told, constrained, front, pended}
 use Rattle.normal_form.specs.declared.Draft.{Draft}
 use Rattle.words.specs.Rows.{classWords}
 use Rattle.words.specs.Sets.{inSet}
@@ -111,20 +115,6 @@ cut p k z (reads-interval h i n) m = let e = chain-is n in let d = head-interval
 
 -- ---- adding
 
-pub kept-same : (j e u n m : ℕ) (w : List ℕ) → OnlyNewRows j e u n m w w
-kept-same j e u n m w = record {
-  before = λ i h. refl;
-  low = λ i h. refl;
-  upper = λ i h g. refl;
-  rows = λ i h g. refl;
-  constraints = λ i h g. refl;
-  behind = λ i h. refl;
-  same = refl;
-}
-
-pub front-same : {j e u n m : ℕ} {w w′ : List ℕ} → OnlyNewRows j e u n m w w′ → front w′ ≡ front w
-front-same {w = w} {w′ = w′} k = front-kept w w′ (k .same) (k .before)
-
 turn : (a s x : Bool) → (a || s) || x ≡ (x || a) || s
 turn true s true = refl
 turn true s false = refl
@@ -145,7 +135,7 @@ module _ (p : List ℕ) (x m : ℕ) (w : List ℕ) (g : Draft) where
     few = omega arith;
     first = omega arith;
     bottom = sym (or-false (g .impossible));
-    kept = kept-same j e (g .pending) mostRecords m w;
+    only = only-none;
   }
 
   module _ (g′ : Draft) where
@@ -161,7 +151,7 @@ module _ (p : List ℕ) (x m : ℕ) (w : List ℕ) (g : Draft) where
       few = omega arith;
       first = omega arith;
       bottom = hb ∙ sym (or-true (g .impossible));
-      kept = kept-same 0 0 (g .pending) mostRecords m w;
+      only = only-none;
     }
 
     add-class : (a : ℕ) (ws : List ℕ) → Name mostClasses a → tablesEnd ≤ length w → ws ≡ rowOf w a →
@@ -178,7 +168,7 @@ module _ (p : List ℕ) (x m : ℕ) (w : List ℕ) (g : Draft) where
       few = omega arith;
       first = omega arith;
       bottom = hb ∙ sym (or-false (g .impossible));
-      kept = kept-same 0 0 (g .pending) mostRecords m w;
+      only = only-none;
     }
       where
         row : ws ≡ rowOf (front w) a
@@ -190,7 +180,7 @@ module _ (p : List ℕ) (x m : ℕ) (w : List ℕ) (g : Draft) where
             ∙ ap (λ (l : List ℕ). (inSet l b || any (λ c. inSet (rowOf (front w) c) b) cs) || inSet s b) row
 
     module _ (w′ : List ℕ) (low : pendingAt ≤ g .pending) where
-      add-role : (k : ℕ) → (k ≡ 0 → ⊥) → Entry p k → g .pending < rowsAt → tablesEnd ≤ length w → w′ ≡ set w (g .pending) k →
+      add-role : (k : ℕ) → (k ≡ 0 → ⊥) → Entry p k → g .pending < individualsAt → tablesEnd ≤ length w → w′ ≡ set w (g .pending) k →
           g′ .classes ≡ g .classes → g′ .pending ≡ g .pending + 1 → g′ .constraints ≡ g .constraints → g′ .impossible ≡ g .impossible →
           Adds p x 0 0 m (λ cs. cs) (armAt p k ∷ []) (λ l. l) 0 false w w′ g g′
       add-role k z en b long ew hc hp hs hb = record {
@@ -199,19 +189,11 @@ module _ (p : List ℕ) (x m : ℕ) (w : List ℕ) (g : Draft) where
         arms = rw (at-end, ne-eqb k 0 z);
         sure = rw at-end (cons (inr en) nil);
         top = λ l h s. hs ∙ h;
-        constraints = λ l h s. intervals-kept w w′ m (heldBy x l) (λ i q f. other i (λ e. omega arith)) s;
+        constraints = λ l h s. constraints-kept w w′ m (heldBy x l) (λ i q f. other i (λ e. omega arith)) s;
         few = omega arith;
         first = omega arith;
         bottom = hb ∙ sym (or-false (g .impossible));
-        kept = record {
-          before = λ i h. other i (λ e. omega arith);
-          low = λ i h. absurd (omega arith);
-          upper = λ i h f. other i (λ e. omega arith);
-          rows = λ i h f. other i (λ e. omega arith);
-          constraints = λ i h f. other i (λ e. omega arith);
-          behind = λ i h. other i (λ e. omega arith);
-          same = ap length ew ∙ length-set w (g .pending) k;
-        };
+        only = rw ew (only-set (g .pending) k (pended (record { low = low; high = b }) (omega arith)) only-none);
       }
         where
           at-end : getD w′ (g .pending) 0 ≡ k
@@ -220,7 +202,7 @@ module _ (p : List ℕ) (x m : ℕ) (w : List ℕ) (g : Draft) where
           other : (i : ℕ) → (i ≡ g .pending → ⊥) → getD w′ i 0 ≡ getD w i 0
           other i n = ap (λ (l : List ℕ). getD l i 0) ew ∙ getD-set-other w (g .pending) i k 0 n
 
-      add-interval : (one : Bool) (f lo hi : ℕ) → g .pending ≤ rowsAt → Placed one x m (g .constraints) f lo hi w w′ (g′ .constraints) →
+      add-interval : (one : Bool) (f lo hi : ℕ) → g .pending ≤ individualsAt → Placed one x m (g .constraints) f lo hi w w′ (g′ .constraints) →
           g′ .classes ≡ g .classes → g′ .pending ≡ g .pending → g′ .impossible ≡ g .impossible →
           Adds p x 0 0 m (λ cs. cs) [] (placeConstraint one (intervalOf f lo hi)) 1 false w w′ g g′
       add-interval one f lo hi b u hc hp hb = record {
@@ -233,15 +215,7 @@ module _ (p : List ℕ) (x m : ℕ) (w : List ℕ) (g : Draft) where
         few = u .few;
         first = u .more;
         bottom = hb ∙ sym (or-false (g .impossible));
-        kept = record {
-          before = λ i h. u .low i (omega arith);
-          low = λ i h. u .low i (omega arith);
-          upper = λ i h f. u .low i (omega arith);
-          rows = λ i h f. u .low i (omega arith);
-          constraints = λ i h f. u .low i f;
-          behind = u .behind;
-          same = u .same;
-        };
+        only = only-wider (λ i s. constrained s (omega (arith, s .low))) (u .only);
       }
 
 -- one addition after another
@@ -250,7 +224,7 @@ module _ (p : List ℕ) (x j e m : ℕ) {fc fd : List ℕ → List ℕ} {rs qs :
   pub adds-then : (n : ℕ) (c : Bool) → n ≡ ns + ms → c ≡ a || b → e ≤ g .pending → Adds p x j e m fc rs fs ns a w w′ g g′ → Adds p x j e m fd qs gs ms b w′ w″ g′ g″ →
       Adds p x j e m (λ cs. fd (fc cs)) (rs ++ qs) (λ l. gs (fs l)) n c w w″ g g″
   adds-then n c en ec o s t = record {
-    classes = λ y cs q. rw (front-same (s .kept)) at (t .classes y (fc cs) (rw (front-same (s .kept)) (s .classes y cs q)));
+    classes = λ y cs q. rw (front-kept (in-tables (s .only))) at (t .classes y (fc cs) (rw (front-kept (in-tables (s .only))) (s .classes y cs q)));
     pending = let u = s .pending in let v = t .pending in omega (arith, length-append rs qs);
     arms =
         ap (live p) words ∙ live-append p (wordsAt w′ (g .pending) (length rs)) (wordsAt w″ (g′ .pending) (length qs))
@@ -261,22 +235,14 @@ module _ (p : List ℕ) (x j e m : ℕ) {fc fd : List ℕ → List ℕ} {rs qs :
     few = let u = s .few in let v = t .few in omega arith;
     first = let u = s .first in let v = t .first in omega arith;
     bottom = t .bottom ∙ ap (λ (y : Bool). y || b) (s .bottom) ∙ or-assoc (g .impossible) a b ∙ ap (λ (y : Bool). g .impossible || y) (sym ec);
-    kept = record {
-      before = λ i h. t .kept .before i h ∙ s .kept .before i h;
-      low = λ i h. t .kept .low i h ∙ s .kept .low i h;
-      upper = λ i h f. t .kept .upper i h (let u = s .pending in omega arith) ∙ s .kept .upper i h f;
-      rows = λ i h f. t .kept .rows i h f ∙ s .kept .rows i h f;
-      constraints = λ i h f. t .kept .constraints i h f ∙ s .kept .constraints i h f;
-      behind = λ i h. t .kept .behind i h ∙ s .kept .behind i h;
-      same = t .kept .same ∙ s .kept .same;
-    };
+    only = only-then (s .only) (only-wider (fresh-in (λ i z. inl z) (let u = s .pending in omega arith) (omega arith) (omega arith)) (t .only));
   }
     where
       words : wordsAt w″ (g .pending) (length (rs ++ qs)) ≡ wordsAt w′ (g .pending) (length rs) ++ wordsAt w″ (g′ .pending) (length qs)
       words =
           words-eq w″ {b = g .pending} refl (length-append rs qs) ∙ words-append w″ (g .pending) (length rs) (length qs)
           ∙ ap (λ (l : List ℕ). l ++ wordsAt w″ (g .pending + length rs) (length qs))
-          (words-kept w′ w″ (g .pending) (length rs) (λ i h f. t .kept .upper i (omega arith) (let u = s .pending in omega arith)))
+          (words-kept w′ w″ (g .pending) (length rs) (λ i h f. word-same (t .only) i (inr (omega arith)) (let u = s .pending in omega arith)))
           ∙ ap (λ (l : List ℕ). wordsAt w′ (g .pending) (length rs) ++ l) (words-eq w″ {n = length qs} (sym (s .pending)) refl)
 
 -- as an addition that keeps less
@@ -292,15 +258,7 @@ adds-less p x j e m h s = record {
   few = s .few;
   first = s .first;
   bottom = s .bottom;
-  kept = record {
-    before = s .kept .before;
-    low = λ i f. s .kept .upper i (omega arith) (omega arith);
-    upper = λ i a f. s .kept .upper i (omega arith) f;
-    rows = s .kept .rows;
-    constraints = s .kept .constraints;
-    behind = s .kept .behind;
-    same = s .kept .same;
-  };
+  only = only-wider (none-struck (omega arith) (omega arith) (omega arith)) (s .only);
 }
 
 -- ---- one conjunct
@@ -327,7 +285,7 @@ module _ (one : ℕ → Bool) (p : List ℕ) (x m k : ℕ) (w : List ℕ) (g : D
         Adding one p x m (headAt p k) w w g g′
     conj-bar i g′ hc hp hs hb = headed (head-impossible p k (sym ek ∙ i)) (add-bar p x m w g g′ hc hp hs hb)
 
-    pub role-room : kind ≡ 3 → g .pending < rowsAt
+    pub role-room : kind ≡ 3 → g .pending < individualsAt
     role-room i =
         let u = cut-here .arms in
         let v = d .pending in
@@ -385,7 +343,7 @@ module _ (one : ℕ → Bool) (p : List ℕ) (x m k : ℕ) (w : List ℕ) (g : D
             let h = s .pending in
             let i = s .few in
             let j = s .first in
-            let n = s .kept .same in
+            let n = s .only .size in
             let d1 = d .long in
             let d2 = d .low in
             let d3 = d .pending in

@@ -8,10 +8,10 @@ use native.Mathlib.Omega.{arith}
 use lib.Dec.{eqb}
 use lib.ListN.{getD, length, length-append}
 use borrow.Author.Tests.{eqb-false, eqb-true, ne-eqb}
-use Rattle.hierarchy.proofs.Pairs.{pairs-kept}
-use Rattle.hierarchy.specs.Pairs.{pairsAt}
-use Rattle.hierarchy.specs.Rows.{ClosedRows, RangeRows, roleRow, rowOf, rowPlace}
-use Rattle.hierarchy.specs.declared.Functional.{Functional}
+use Rattle.closure.specs.Rows.{rowOf}
+use Rattle.functional.specs.declared.Functional.{Functional}
+use Rattle.layout.specs.Places.{roleRow, rowPlace, tablesEnd}
+use Rattle.layout.specs.Tables.{Above}
 use Rattle.meaning.proofs.Bounds.{rangePairs-named}
 use Rattle.meaning.proofs.Rules.{all-append, head, tail}
 use Rattle.meaning.proofs.Wellformed.{accepted-counts}
@@ -19,18 +19,16 @@ use Rattle.meaning.specs.Accepted.{ChainOf, count}
 use Rattle.meaning.specs.Intervals.{Constraint}
 use Rattle.meaning.specs.Limits.{mostClasses, mostFeatures, mostRoles}
 use Rattle.meaning.specs.Lists.{All, any, cons, filter, nil}
-use Rattle.meaning.specs.NormalForm.{Form, Node, Successors, add, bare, graft, hasBottom, none, normalForm, placeSuccessor}
-use Rattle.meaning.specs.NormalForm.{successor}
+use Rattle.meaning.specs.NormalForm.{Form, Node, Successors, add, bare, graft, hasBottom, none, normalForm, placeSuccessor, successor}
 use Rattle.meaning.specs.Policy.{Chain, class, end, impossible, interval, some}
 use Rattle.meaning.specs.Records.{Name}
 use Rattle.meaning.specs.Stated.{isBelow, isFunctionalFeature, isFunctionalRole, ranges, rangesIn}
-use Rattle.meaning.specs.Vocabulary.{Vocabulary, classCount, featureCount, roleCount, vocabularyOf, vocabularyRefusal}
-use Rattle.normal_form.proofs.Laws.{front-row, row-kept}
-use Rattle.normal_form.specs.Parts.{Arm, bottomHere, bottomHereAll, classesAll, classesIn, countAll, hasBottomAll}
-use Rattle.normal_form.specs.Parts.{intervalCount, intervalsAll, intervalsIn, joins, parts, placeAll, roles, rolesAll}
-use Rattle.normal_form.specs.Parts.{successorsOf, weigh}
-use Rattle.normal_form.specs.Steps.{ArmOf, OnlyNewRows, Told, front, startOf}
-use Rattle.normal_form.specs.Tables.{Above, Prepared, pendingAt, tablesEnd}
+use Rattle.meaning.specs.Vocabulary.{Vocabulary, classCount, featureCount, roleCount, vocabularyOf}
+use Rattle.normal_form.proofs.Laws.{front-row}
+use Rattle.normal_form.specs.Parts.{Arm, bottomHere, bottomHereAll, classesAll, classesIn, countAll, hasBottomAll, intervalCount}
+use Rattle.normal_form.specs.Parts.{intervalsAll, intervalsIn, joins, parts, placeAll, roles, rolesAll, successorsOf, weigh}
+use Rattle.normal_form.specs.Steps.{ArmOf, Told, front, startOf}
+use Rattle.preparation.specs.Prepared.{Prepared}
 use Rattle.words.proofs.Laws.{in-zeros}
 use Rattle.words.specs.Rows.{classWords}
 use Rattle.words.specs.Sets.{inSet}
@@ -239,35 +237,6 @@ all-append-classes : (l : List Arm) (cs ds : List ℕ) → classesAll l (cs ++ d
 all-append-classes [] cs ds = refl
 all-append-classes (a ∷ l) cs ds = ap (classesAll l) (classes-append (a .child) cs ds) ∙ all-append-classes l (classesIn (a .child) cs) ds
 
--- ---- what writes after the rows keeps them
-
-module _ (w w′ : List ℕ) (e : length w′ ≡ length w) (before : (i : ℕ) → i < pairsAt → getD w′ i 0 ≡ getD w i 0) where
-  same-row : (i : ℕ) → i ≤ roleRow mostRoles → rowOf w′ i ≡ rowOf w i
-  same-row i h = row-kept classWords w w′ (rowPlace i) e (λ j p q. before j (omega arith))
-
-  module _ {v : List ℕ} where
-    pub closed-kept : vocabularyRefusal v ≡ 0 → ClosedRows v w → ClosedRows v w′
-    closed-kept a h = record {
-      fits = rw e (h .fits);
-      rows = λ c b n. rw (same-row c (let u = accepted-counts v a in omega arith)) (h .rows c b n);
-    }
-
-    pub ranged-kept : vocabularyRefusal v ≡ 0 → RangeRows v w → RangeRows v w′
-    ranged-kept a h = record {
-      fits = rw e (h .fits);
-      rows = λ r b n. rw (same-row (roleRow r) (let u = accepted-counts v a in omega arith)) (h .rows r b n);
-    }
-
--- what stands in front of the tables is kept, and so what is prepared
-pub prepared-same : {v w w′ : List ℕ} {f : Functional} → length w′ ≡ length w → ((i : ℕ) → i < pendingAt → getD w′ i 0 ≡ getD w i 0) → Prepared v w f → Prepared v w′ f
-prepared-same {w = w} {w′ = w′} e before g = record {
-  accepted = g .accepted;
-  closed = closed-kept w w′ e (λ i l. before i (omega arith)) (g .accepted) (g .closed);
-  ranged = ranged-kept w w′ e (λ i l. before i (omega arith)) (g .accepted) (g .ranged);
-  paired = pairs-kept w w′ before (g .paired);
-  functional = g .functional;
-}
-
 -- what the rows say is what the vocabulary says
 module _ {v w : List ℕ} {f : Functional} (prepared : Prepared v w f) where
   counts : Name mostClasses (classCount v) × (roleCount v ≤ mostRoles) × (featureCount v ≤ mostFeatures)
@@ -276,9 +245,6 @@ module _ {v w : List ℕ} {f : Functional} (prepared : Prepared v w f) where
   pub unranged : ranges (vocabularyOf v) 0 ≡ []
   unfolding ranges
   unranged = no-range (rangePairs-named v (prepared .accepted))
-
-  pub prepared-kept : {j e u n m : ℕ} {w′ : List ℕ} → OnlyNewRows j e u n m w w′ → Prepared v w′ f
-  prepared-kept k = prepared-same (k .same) (k .before) prepared
 
   module _ (long : tablesEnd ≤ length w) (b : ℕ) where
     rows-say : {cs : List ℕ} → All (Name (classCount v)) cs → any (λ c. inSet (rowOf (front w) c) b) cs ≡ any (λ c. isBelow (vocabularyOf v) c b) cs

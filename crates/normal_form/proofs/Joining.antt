@@ -4,20 +4,25 @@ use mathlib.Core.Bool.{Bool, false, true}
 use mathlib.Core.List.{List, [], _∷_}
 use mathlib.Core.Logic.{_⊎_, inl, inr}
 use mathlib.Core.Path.{_∙_, _≡_, ap, refl, subst, sym}
+use lib.ListN.{getD, length-append, set}
+use lib.Seq.{getD-set-same}
 use native.Mathlib.Omega.{arith}
-use lib.ListN.{getD, length, length-append, length-set, set}
-use lib.Seq.{getD-set-other, getD-set-same}
 use borrow.Author.Tests.{eq-eqb, ne-eqb}
+use Rattle.frames.proofs.Frames.{only-behind, only-none, only-set, only-span, only-then, only-wider}
+use Rattle.frames.specs.Frames.{Only, Span}
+use Rattle.layout.proofs.Entries.{constraints-kept}
+use Rattle.layout.specs.Places.{InTables, pendingAt}
+use Rattle.layout.specs.Tables.{ConstraintsStand, heldBy}
 use Rattle.meaning.proofs.Rules.{head, tail}
 use Rattle.meaning.specs.Intervals.{Constraint}
 use Rattle.meaning.specs.Lists.{cons, filter}
 use Rattle.meaning.specs.Policy.{Chain, childOf}
 use Rattle.normal_form.proofs.Chains.{add-none, adds-then}
-use Rattle.normal_form.proofs.Laws.{front-kept, intervals-kept, words-eq, words-kept, words-next}
-use Rattle.normal_form.specs.Parts.{Arm, armAt, bottomHere, chainAt, classesIn, intervalCount, intervalsIn, joins, live}
-use Rattle.normal_form.specs.Parts.{parts, roles, rolesAll, wordsAt}
+use Rattle.normal_form.proofs.Laws.{fresh-in, front-kept, none-struck, word-same, words-eq, words-kept, words-next}
+use Rattle.normal_form.specs.Parts.{Arm, armAt, bottomHere, chainAt, classesIn, intervalCount, intervalsIn, joins, live, parts}
+use Rattle.normal_form.specs.Parts.{roles, rolesAll, wordsAt}
 use Rattle.normal_form.specs.Steps.{Adding, Adds, Entry, Gathering, Good, HasRoomFor, HasRoomForAll, Struck, Sure, front, restAt}
-use Rattle.normal_form.specs.Tables.{IntervalsStand, heldBy, pendingAt, rowsAt}
+use Rattle.normal_form.specs.Steps.{struck}
 use Rattle.normal_form.specs.declared.Draft.{Draft}
 
 -- ---- the pending words
@@ -69,15 +74,7 @@ lower s = record {
   few = s .few;
   first = s .first;
   bottom = s .bottom;
-  kept = record {
-    before = s .kept .before;
-    low = λ i f. s .kept .low i (omega arith);
-    upper = s .kept .upper;
-    rows = s .kept .rows;
-    constraints = s .kept .constraints;
-    behind = s .kept .behind;
-    same = s .kept .same;
-  };
+  only = only-wider (fresh-in (λ i z. inl (record { low = omega (arith, z .low); high = z .high })) (omega arith) (omega arith) (omega arith)) (s .only);
 }
 
 -- `one` tells the functional roles, `two` the functional features
@@ -122,7 +119,7 @@ module _ (one two : ℕ → Bool) (p : List ℕ) (x r j stop m : ℕ) (w : List 
         )
           where
             zero′ : getD w′ j 0 ≡ 0
-            zero′ = s .0 .kept .low j (omega arith) ∙ z
+            zero′ = word-same (s .0 .only) j (inl (omega arith)) (let a = less in let b = can .1 in omega arith) ∙ z
 
       module _ {k : ℕ} (ek : k ≡ getD w j 0) (nk : k ≡ 0 → ⊥) where
         pub entry : Entry p k
@@ -159,7 +156,7 @@ module _ (one two : ℕ → Bool) (p : List ℕ) (x r j stop m : ℕ) (w : List 
           )
             where
               ek′ : k ≡ getD w′ j 0
-              ek′ = ek ∙ sym (s .0 .kept .low j (omega arith))
+              ek′ = ek ∙ sym (word-same (s .0 .only) j (inl (omega arith)) (let a = less in let b = can .1 in omega arith))
 
               passed : picks one p w r j stop ≡ picks one p w r (j + 1) stop
               passed = ap (filter (joins one r)) rest ∙ rw no
@@ -169,16 +166,16 @@ module _ (one two : ℕ → Bool) (p : List ℕ) (x r j stop m : ℕ) (w : List 
 
         -- of the role: u is the words with it struck out
         module _ (yes : joins one r (armAt p k) ≡ true) {y : ℕ} (ey : y ≡ childOf p k) {u : List ℕ} (eu : u ≡ set w j 0) where
-          u-other : (i : ℕ) → (i ≡ j → ⊥) → getD u i 0 ≡ getD w i 0
-          u-other i d = ap (λ (l : List ℕ). getD l i 0) eu ∙ getD-set-other w j i 0 0 d
+          u-only : Only (Span j (j + 1)) w u
+          u-only = rw eu (only-set j 0 (record { low = omega arith; high = omega arith }) only-none)
 
-          u-length : length u ≡ length w
-          u-length = ap length eu ∙ length-set w j 0
+          u-tables : Only InTables w u
+          u-tables = let t = less in let q = can .1 in let n = can .2 in let r = room .pending in only-span u-only (omega arith) (omega arith)
 
           pub take-chain : Good p y × HasRoomFor u m g (chainAt p y)
           take-chain =
               let e = length-append (roles (chainAt p (childOf p k))) (rolesAll (restAt p w (j + 1) stop)) in
-              let z = u-length in
+              let z = u-only .size in
               let a = room .pending in
               let b = room .constraints in
               let l = room .long in
@@ -198,10 +195,10 @@ module _ (one two : ℕ → Bool) (p : List ℕ) (x r j stop m : ℕ) (w : List 
                 let q = end-low in
                 let t = room .pending in
                 let l = room .long in
-                c .kept .upper j (omega arith) (omega arith) ∙ ap (λ (l : List ℕ). getD l j 0) eu ∙ getD-set-same w j 0 0 (omega arith)
+                word-same (c .only) j (inr (omega arith)) (omega arith) ∙ ap (λ (l : List ℕ). getD l j 0) eu ∙ getD-set-same w j 0 0 (omega arith)
 
             v-words : wordsAt v (j + 1) (stop - (j + 1)) ≡ wordsAt w (j + 1) (stop - (j + 1))
-            v-words = words-same w v (j + 1) stop (λ i a b. c .kept .upper i (omega arith) (let q = end-low in omega arith) ∙ u-other i (λ d. omega arith))
+            v-words = words-same w v (j + 1) stop (λ i a b. word-same (c .only) i (inr (omega arith)) (let q = end-low in omega arith) ∙ only-behind u-only i (omega arith))
 
             v-rest : restAt p v (j + 1) stop ≡ restAt p w (j + 1) stop
             v-rest = ap (live p) v-words
@@ -209,7 +206,7 @@ module _ (one two : ℕ → Bool) (p : List ℕ) (x r j stop m : ℕ) (w : List 
             pub take-can : Can (j + 1) v h
             take-can =
                 let e = length-append (roles (chainAt p (childOf p k))) (rolesAll (restAt p w (j + 1) stop)) in
-                let z = u-length in
+                let z = u-only .size in
                 let a = room .pending in
                 let b = room .constraints in
                 let l = room .long in
@@ -218,7 +215,7 @@ module _ (one two : ℕ → Bool) (p : List ℕ) (x r j stop m : ℕ) (w : List 
                 let c1 = c′ .pending in
                 let c2 = c′ .few in
                 let c3 = c′ .first in
-                let c4 = c′ .kept .same in
+                let c4 = c′ .only .size in
                 let q = end-low in
                 let t = less in
                 let n = can .2 in (
@@ -230,7 +227,7 @@ module _ (one two : ℕ → Bool) (p : List ℕ) (x r j stop m : ℕ) (w : List 
                 )
 
             u-front : front u ≡ front w
-            u-front = let n = can .2 in front-kept w u u-length (λ i a. u-other i (λ d. omega arith))
+            u-front = front-kept u-tables
 
             abbrev given : Chain
             given = chainAt p (childOf p k)
@@ -246,22 +243,19 @@ module _ (one two : ℕ → Bool) (p : List ℕ) (x r j stop m : ℕ) (w : List 
               few = c′ .few;
               first = c′ .first;
               bottom = c′ .bottom;
-              kept = record {
-                before = λ i a. c′ .kept .before i a ∙ u-other i (λ d. let n = can .2 in omega arith);
-                low = λ i f. c′ .kept .upper i (omega arith) (let t = less in let q = end-low in omega arith) ∙ u-other i (λ d. omega arith);
-                upper = λ i a f. c′ .kept .upper i (omega arith) f ∙ u-other i (λ d. let t = less in omega arith);
-                rows = λ i a f. c′ .kept .rows i a f ∙ u-other i (λ d. beyond i a d);
-                constraints = λ i a f. c′ .kept .constraints i a f ∙ u-other i (λ d. beyond i (omega arith) d);
-                behind = λ i a. c′ .kept .behind i a ∙ u-other i (λ d. beyond i (omega arith) d);
-                same = c′ .kept .same ∙ u-length;
-              };
+              only =
+                  let t = less in
+                  let q = end-low in
+                  let n = can .2 in
+                  let r = room .pending in
+                  only-then
+                  (only-wider (λ i z. struck (record { low = omega (arith, z .low); high = omega (arith, z .high) }) (record { low = z .low; high = omega (arith, z .high) })) u-only)
+                  (only-wider (none-struck (omega arith) (omega arith) (omega arith)) (c′ .only));
             }
               where
-                beyond : (i : ℕ) → rowsAt ≤ i → i ≡ j → ⊥
-                beyond i a d = let t = less in let q = end-low in let n = room .pending in omega arith
-
-                onto-u : (l : List Constraint) → IntervalsStand w m (heldBy x l) → IntervalsStand u m (heldBy x l)
-                onto-u l s = intervals-kept w u m (heldBy x l) (λ i a b. u-other i (λ d. beyond i (omega arith) d)) s
+                onto-u : (l : List Constraint) → ConstraintsStand w m (heldBy x l) → ConstraintsStand u m (heldBy x l)
+                onto-u l s =
+                    let t = less in let q = end-low in let r = room .pending in constraints-kept w u m (heldBy x l) (λ i a b. only-behind u-only i (omega arith)) s
 
             module _ {w′ : List ℕ} {g′ : Draft} (s : Done (j + 1) v w′ h g′) where
               taken : picks one p w r j stop ≡ armAt p k ∷ picks one p w r (j + 1) stop
@@ -271,7 +265,11 @@ module _ (one two : ℕ → Bool) (p : List ℕ) (x r j stop m : ℕ) (w : List 
               more = subst (λ (l : List Arm). Gathering two p x j stop m (filter (joins one r) l) v w′ h g′) v-rest (lower (s .0))
 
               zero′ : getD w′ j 0 ≡ 0
-              zero′ = s .0 .kept .low j (omega arith) ∙ v-zero
+              zero′ =
+                  let a = less in
+                  let b = end-low in
+                  let c1 = c′ .pending in
+                  word-same (s .0 .only) j (inl (omega arith)) (omega arith) ∙ v-zero
 
               gone : filter (parts one r) (restAt p w (j + 1) stop) ≡ filter (parts one r) (armAt p k ∷ restAt p w (j + 1) stop)
               gone = rw yes

@@ -1,24 +1,29 @@
--- Laws of the tables: words kept, constraints put and placed, a row put.
+-- Laws of what is added to the tables: pending words, places that may change, a constraint placed.
 use Prim.Native.Nat.{_+_, _-_, _<_, _≤_, max, min, suc, zero, ℕ}
 use mathlib.Core.Bool.{Bool, _&&_, cond, false, true}
 use mathlib.Core.List.{List, [], _++_, _∷_}
-use mathlib.Core.Logic.{_⊎_, inl, inr}
+use mathlib.Core.Logic.{_⊎_, inl, inr, ⊎-elim}
 use mathlib.Core.Path.{_∙_, _≡_, ap, refl, subst, sym}
-use native.Mathlib.Omega.{arith}
 use lib.Dec.{eqb}
-use lib.ListN.{drop, getD, length, length-drop, length-set, length-take, replicate, set, take}
-use lib.Seq.{ext-getD, getD-drop, getD-set-other, getD-set-same, getD-take}
+use lib.ListN.{drop, getD, length, length-take, replicate, take}
+use lib.Seq.{ext-getD, getD-take}
+use native.Mathlib.Omega.{arith}
 use borrow.Author.Tests.{eqb-true, ne-eqb}
-use Rattle.hierarchy.specs.Rows.{roleRow, rowOf, rowPlace}
+use Rattle.closure.specs.Rows.{rowOf}
+use Rattle.frames.proofs.Frames.{only-before, only-behind, only-span, only-wider, row-before, row-word}
+use Rattle.frames.proofs.Rows.{length-row}
+use Rattle.frames.specs.Frames.{Only, Span}
+use Rattle.frames.specs.Rows.{rowAt}
+use Rattle.layout.proofs.Entries.{Same, constraints-kept, held-same}
+use Rattle.layout.specs.Places.{InTables, constraintPlace, constraintsAt, individualPlace, individualsAt, pendingAt, roleRow, rowPlace}
+use Rattle.layout.specs.Places.{tablesEnd}
+use Rattle.layout.specs.Tables.{ConstraintPut, ConstraintsStand, HasEntry, Held, constraintAt, heldBy, intervalOf}
 use Rattle.meaning.specs.Intervals.{Constraint}
 use Rattle.meaning.specs.Limits.{mostRecords, mostRoles}
 use Rattle.meaning.specs.NormalForm.{placeConstraint}
 use Rattle.normal_form.specs.Parts.{Arm, armAt, live, wordsAt}
-use Rattle.normal_form.specs.Steps.{Placed, RowPut, front, intervalOf, intervalPut, startOf}
-use Rattle.normal_form.specs.Tables.{Held, IntervalStands, IntervalsStand, heldBy, individualPlace, intervalPlace, pendingAt}
-use Rattle.normal_form.specs.Tables.{tablesEnd}
-use Rattle.words.proofs.Rows.{length-put, length-row, put-after, put-before, put-row}
-use Rattle.words.specs.Rows.{classWords, putAt, rowAt}
+use Rattle.normal_form.specs.Steps.{Fresh, Placed, constrained, front, pended, rowed, startOf, struck}
+use Rattle.words.specs.Rows.{classWords}
 
 -- ---- tests
 
@@ -29,10 +34,6 @@ pub and-no : (a b : Bool) → a ≡ false → a ≡ (a && b)
 and-no a b p = rw p
 
 -- ---- words that are as they were
-
--- of the words from b to before e
-abbrev Same : List ℕ → List ℕ → ℕ → ℕ → Type 0
-Same w w′ b e = (i : ℕ) → b ≤ i → i < e → getD w′ i 0 ≡ getD w i 0
 
 pub words-kept : (w w′ : List ℕ) (b n : ℕ) → Same w w′ b (b + n) → wordsAt w′ b n ≡ wordsAt w b n
 words-kept w w′ b zero f = refl
@@ -65,22 +66,10 @@ live-append p (k ∷ l) m = go (eqb k 0) (live-append p l m)
     go true h = h
     go false h = ap (λ (x : List Arm). armAt p k ∷ x) h
 
-row-word : (n : ℕ) (w : List ℕ) (at i : ℕ) → i < n → getD (rowAt n w at) i 0 ≡ getD w (at + i) 0
-row-word n w at i h = getD-take n (drop at w) i 0 h ∙ getD-drop at w i 0
-
-pub row-kept : (n : ℕ) (w w′ : List ℕ) (at : ℕ) → length w′ ≡ length w → Same w w′ at (at + n) → rowAt n w′ at ≡ rowAt n w at
-row-kept n w w′ at e f = ext-getD 0 (rowAt n w′ at) (rowAt n w at) sizes (λ i h. go i (omega (arith, length-take n (drop at w′))))
-  where
-    sizes : length (rowAt n w′ at) ≡ length (rowAt n w at)
-    sizes = omega (arith, length-take n (drop at w′), length-take n (drop at w), length-drop at w′, length-drop at w)
-
-    go : (i : ℕ) → i < n → getD (rowAt n w′ at) i 0 ≡ getD (rowAt n w at) i 0
-    go i h = row-word n w′ at i h ∙ f (at + i) (omega arith) (omega arith) ∙ sym (row-word n w at i h)
-
 -- the rows in front of the tables
-pub front-kept : (w w′ : List ℕ) → length w′ ≡ length w → ((i : ℕ) → i < pendingAt → getD w′ i 0 ≡ getD w i 0) → front w′ ≡ front w
+pub front-kept : {w w′ : List ℕ} → Only InTables w w′ → front w′ ≡ front w
 unfolding front
-front-kept w w′ e f = row-kept pendingAt w w′ 0 e (λ i p q. f i (omega arith))
+front-kept o = row-before o pendingAt 0 (omega arith)
 
 pub front-row : (w : List ℕ) (at : ℕ) → at + classWords ≤ pendingAt → tablesEnd ≤ length w → rowAt classWords (front w) at ≡ rowAt classWords w at
 unfolding front
@@ -102,80 +91,61 @@ pub start-range : (w s : List ℕ) (r : ℕ) → (r ≡ 0 → ⊥) → r ≤ mos
 unfolding startOf
 start-range w s r n h long e = rw (ne-eqb r 0 n) (e ∙ sym (front-row w (rowPlace (roleRow r)) (omega arith) long))
 
--- ---- constraints that stand
+-- ---- places that may change
 
-step : (w : List ℕ) (n m : ℕ) → n ≡ m → {y : ℕ} → getD w m 0 ≡ y → getD w n 0 ≡ y
-step w n m e h = ap (λ (k : ℕ). getD w k 0) e ∙ h
+-- among others
+pub fresh-in : {j e u n m j′ e′ u′ n′ m′ : ℕ} → ((i : ℕ) → Span j e i → Span j′ e′ i ⊎ (u′ ≤ i)) → u′ ≤ u → n′ ≤ n → m′ ≤ m →
+    (i : ℕ) → Fresh j e u n m i → Fresh j′ e′ u′ n′ m′ i
+fresh-in f a b c i (struck s t) = ⊎-elim (struck s) (pended s) (f i t)
+fresh-in f a b c i (pended s t) = pended s (omega arith)
+fresh-in f a b c i (rowed s t) = rowed (record { low = omega (arith, s .low); high = s .high }) (omega arith)
+fresh-in f a b c i (constrained s t) = constrained (record { low = omega (arith, s .low); high = s .high }) (omega arith)
 
-pub interval-kept : (w w′ : List ℕ) (m : ℕ) (h : Held) → Same w w′ (intervalPlace m) (intervalPlace m + 4) → IntervalStands w m h → IntervalStands w′ m h
-interval-kept w w′ m h f s = record {
-  individual = f (intervalPlace m) (omega arith) (omega arith) ∙ s .individual;
-  feature = f (intervalPlace m + 1) (omega arith) (omega arith) ∙ s .feature;
-  lo = f (intervalPlace m + 2) (omega arith) (omega arith) ∙ s .lo;
-  hi = f (intervalPlace m + 3) (omega arith) (omega arith) ∙ s .hi;
-}
+-- no pending words are struck out
+pub none-struck : {j u n m j′ e′ u′ n′ m′ : ℕ} → u′ ≤ u → n′ ≤ n → m′ ≤ m → (i : ℕ) → Fresh j j u n m i → Fresh j′ e′ u′ n′ m′ i
+none-struck a b c i f = fresh-in (λ k s. absurd (omega (arith, s .low, s .high))) a b c i f
 
--- whatever stands in the two words after each
-pub intervals-same : (w w′ : List ℕ) (m : ℕ) (l : List Held) → ((n : ℕ) → m ≤ n → n < m + length l → Same w w′ (intervalPlace n) (intervalPlace n + 4)) →
-    IntervalsStand w m l → IntervalsStand w′ m l
-intervals-same w w′ m [] f s = tt
-intervals-same w w′ m (h ∷ l) f s =
-    (interval-kept w w′ m h (f m (omega arith) (omega arith)) (s .0), intervals-same w w′ (suc m) l (λ n p q. f n (omega arith) (omega arith)) (s .1))
+fresh-tables : {j e u n m : ℕ} (i : ℕ) → Fresh j e u n m i → InTables i
+fresh-tables i (struck s t) = record { low = s .low; high = omega (arith, s .high) }
+fresh-tables i (pended s t) = record { low = s .low; high = omega (arith, s .high) }
+fresh-tables i (rowed s t) = record { low = omega (arith, s .low); high = omega (arith, s .high) }
+fresh-tables i (constrained s t) = record { low = omega (arith, s .low); high = s .high }
 
-pub intervals-kept : (w w′ : List ℕ) (m : ℕ) (l : List Held) → Same w w′ (intervalPlace m) (intervalPlace (m + length l)) → IntervalsStand w m l → IntervalsStand w′ m l
-intervals-kept w w′ m l f s = intervals-same w w′ m l (λ n p q i a b. f i (omega arith) (omega arith)) s
+module _ {j e u n m : ℕ} {w w′ : List ℕ} (o : Only (Fresh j e u n m) w w′) where
+  pub in-tables : Only InTables w w′
+  in-tables = only-wider fresh-tables o
 
-pub intervals-append : (w : List ℕ) (m : ℕ) (l k : List Held) → IntervalsStand w m l → IntervalsStand w (m + length l) k → IntervalsStand w m (l ++ k)
-intervals-append w m [] k s t = subst (λ (i : ℕ). IntervalsStand w i k) (omega arith) t
-intervals-append w m (h ∷ l) k s t = (s .0, intervals-append w (suc m) l k (s .1) (subst (λ (i : ℕ). IntervalsStand w i k) (omega arith) t))
-
-pub held-length : (x : ℕ) (l : List Constraint) → length (heldBy x l) ≡ length l
-held-length x [] = refl
-held-length x (s ∷ l) = ap suc (held-length x l)
-
--- ---- a constraint put
-
-module _ (w : List ℕ) (i x f lo hi : ℕ) where
-  abbrev s : ℕ
-  s = intervalPlace i
-
-  abbrev w1 : List ℕ
-  w1 = set w s x
-
-  abbrev w2 : List ℕ
-  w2 = set w1 (s + 1) f
-
-  abbrev w3 : List ℕ
-  w3 = set w2 (s + 2) lo
-
-  pub put-stands : i < mostRecords → tablesEnd ≤ length w → IntervalStands (intervalPut w i x f lo hi) i (record { individual = x; constraint = intervalOf f lo hi })
-  unfolding intervalPut
-  put-stands h g = record {
-    individual =
-        getD-set-other w3 (s + 3) s hi 0 (λ e. omega arith) ∙ getD-set-other w2 (s + 2) s lo 0 (λ e. omega arith)
-        ∙ getD-set-other w1 (s + 1) s f 0 (λ e. omega arith) ∙ getD-set-same w s x 0 (omega arith);
-    feature =
-        getD-set-other w3 (s + 3) (s + 1) hi 0 (λ e. omega arith) ∙ getD-set-other w2 (s + 2) (s + 1) lo 0 (λ e. omega arith)
-        ∙ getD-set-same w1 (s + 1) f 0 (simp length-set (omega arith));
-    lo = getD-set-other w3 (s + 3) (s + 2) hi 0 (λ e. omega arith) ∙ getD-set-same w2 (s + 2) lo 0 (simp length-set (omega arith));
-    hi = getD-set-same w3 (s + 3) hi 0 (simp length-set (omega arith));
-  }
-
-  pub put-other : (k : ℕ) → (k < intervalPlace i) ⊎ (intervalPlace i + 4 ≤ k) → getD (intervalPut w i x f lo hi) k 0 ≡ getD w k 0
-  unfolding intervalPut
-  put-other k h = go h
+  -- a word that is neither struck out nor new
+  pub word-same : (i : ℕ) → (i < j) ⊎ (e ≤ i) → i < u → getD w′ i 0 ≡ getD w i 0
+  word-same i a b = o .others i (go a)
     where
-      go : (k < intervalPlace i) ⊎ (intervalPlace i + 4 ≤ k) → getD (set w3 (s + 3) hi) k 0 ≡ getD w k 0
-      go (inl h) =
-          getD-set-other w3 (s + 3) k hi 0 (λ e. omega arith) ∙ getD-set-other w2 (s + 2) k lo 0 (λ e. omega arith)
-          ∙ getD-set-other w1 (s + 1) k f 0 (λ e. omega arith) ∙ getD-set-other w s k x 0 (λ e. omega arith)
-      go (inr h) =
-          getD-set-other w3 (s + 3) k hi 0 (λ e. omega arith) ∙ getD-set-other w2 (s + 2) k lo 0 (λ e. omega arith)
-          ∙ getD-set-other w1 (s + 1) k f 0 (λ e. omega arith) ∙ getD-set-other w s k x 0 (λ e. omega arith)
+      go : (i < j) ⊎ (e ≤ i) → Fresh j e u n m i → ⊥
+      go (inl a) (struck s t) = omega (arith, t .low)
+      go (inr a) (struck s t) = omega (arith, t .high)
+      go (inl a) (pended s t) = omega arith
+      go (inr a) (pended s t) = omega arith
+      go (inl a) (rowed s t) = omega arith
+      go (inr a) (rowed s t) = omega arith
+      go (inl a) (constrained s t) = omega arith
+      go (inr a) (constrained s t) = omega arith
 
-  pub put-length : length (intervalPut w i x f lo hi) ≡ length w
-  unfolding intervalPut
-  put-length = simp length-set
+  pub rows-same : (i : ℕ) → individualsAt ≤ i → i < individualPlace n → i < constraintsAt → getD w′ i 0 ≡ getD w i 0
+  rows-same i h a b = o .others i go
+    where
+      go : Fresh j e u n m i → ⊥
+      go (struck s t) = omega (arith, s .high)
+      go (pended s t) = omega (arith, s .high)
+      go (rowed s t) = omega (arith, s .low)
+      go (constrained s t) = omega (arith, s .low)
+
+  pub held-still : (i : ℕ) → constraintsAt ≤ i → i < constraintPlace m → getD w′ i 0 ≡ getD w i 0
+  held-still i h a = o .others i go
+    where
+      go : Fresh j e u n m i → ⊥
+      go (struck s t) = omega (arith, s .high)
+      go (pended s t) = omega (arith, s .high)
+      go (rowed s t) = omega (arith, s .high)
+      go (constrained s t) = omega (arith, s .low)
 
 -- ---- a constraint placed
 
@@ -187,55 +157,56 @@ length-zero : (l : List Constraint) → length l ≡ 0 → l ≡ []
 length-zero [] e = refl
 length-zero (s ∷ l) e = absurd (omega arith)
 
-module _ (one : Bool) (x i top f lo hi : ℕ) (w w′ : List ℕ) (small : top < mostRecords) (long : tablesEnd ≤ length w) where
+held-as : {x f g a b c d : ℕ} → f ≡ g → a ≡ b → c ≡ d →
+    _≡_ {A = Held} (record { individual = x; constraint = intervalOf f a c }) (record { individual = x; constraint = intervalOf g b d })
+held-as p q r = cc
+
+-- as a constraint of the table that has been put
+module _ {x i f lo hi : ℕ} {w w′ : List ℕ} (u : ConstraintPut i x f lo hi w w′) where
+  put-only : i < mostRecords → Only (Span (constraintPlace i) tablesEnd) w w′
+  put-only h = only-span (u .only) (omega arith) (omega arith)
+
+  others-kept : (l : List Held) → ConstraintsStand w (suc i) l → ConstraintsStand w′ (suc i) l
+  others-kept l s = constraints-kept w w′ (suc i) l (λ k g h. only-behind (u .only) k (omega arith)) s
+
+module _ (one : Bool) (x i top f lo hi : ℕ) (w w′ : List ℕ) (small : top < mostRecords) where
   -- no constraint is left
-  pub placed-last : i ≡ top → w′ ≡ intervalPut w i x f lo hi → Placed one x i top f lo hi w w′ (top + 1)
-  placed-last e d = rw d (record {
+  pub placed-last : i ≡ top → ConstraintPut i x f lo hi w w′ → Placed one x i top f lo hi w w′ (top + 1)
+  placed-last e u = record {
     ends = λ l p q. let z = length-zero l (omega arith) in rw z (omega arith);
-    constraints = λ l p q. let z = length-zero l (omega arith) in rw z (put-stands w i x f lo hi (omega arith) long, tt);
+    constraints = λ l p q. let z = length-zero l (omega arith) in rw z (u .held, tt);
     more = omega arith;
     few = omega arith;
-    low = λ k h. put-other w i x f lo hi k (inl h);
-    behind = λ k h. put-other w i x f lo hi k (inr (omega arith));
-    same = put-length w i x f lo hi;
-  })
+    only = put-only u (omega arith);
+  }
 
-  module _ (less : i < top) {g : ℕ} {t : Bool} (eg : g ≡ getD w (intervalPlace i + 1) 0) (et : t ≡ (one && eqb g f)) where
-    tested : {b : Bool} → t ≡ b → (s : Constraint) → getD w (intervalPlace i + 1) 0 ≡ s .feature → (one && eqb (s .feature) f) ≡ b
+  module _ (less : i < top) {g : ℕ} {t : Bool} (eg : g ≡ constraintAt w i .feature) (et : t ≡ (one && eqb g f)) where
+    tested : {b : Bool} → t ≡ b → (s : Constraint) → constraintAt w i ≡ s → (one && eqb (s .feature) f) ≡ b
     tested h s e = rw (← e, ← eg) (sym et ∙ h)
 
     -- the one at i takes it
-    pub placed-here : {a b : ℕ} → t ≡ true → a ≡ max (getD w (intervalPlace i + 2) 0) lo → b ≡ min (getD w (intervalPlace i + 3) 0) hi →
-        w′ ≡ intervalPut w i x f a b → Placed one x i top f lo hi w w′ top
-    placed-here {a} {b} t ea eb d = rw d (record {
+    pub placed-here : {a b : ℕ} → t ≡ true → a ≡ max (constraintAt w i .lo) lo → b ≡ min (constraintAt w i .hi) hi →
+        ConstraintPut i x f a b w w′ → Placed one x i top f lo hi w w′ top
+    placed-here {a} {b} t ea eb u = record {
       ends = λ l p q. ends l p q;
       constraints = λ l p q. constraints l p q;
       more = omega arith;
       few = omega arith;
-      low = λ k h. put-other w i x f a b k (inl h);
-      behind = λ k h. put-other w i x f a b k (inr (omega arith));
-      same = put-length w i x f a b;
-    })
+      only = put-only u (omega arith);
+    }
       where
-        ends : (l : List Constraint) → top ≡ i + length l → IntervalsStand w i (heldBy x l) → top ≡ i + length (placeConstraint one (intervalOf f lo hi) l)
+        ends : (l : List Constraint) → top ≡ i + length l → ConstraintsStand w i (heldBy x l) → top ≡ i + length (placeConstraint one (intervalOf f lo hi) l)
         ends [] p q = absurd (omega arith)
-        ends (s ∷ l) p q = rw (tested t s (q .0 .feature)) p
+        ends (s ∷ l) p q = rw (tested t s (ap (λ (h : Held). h .constraint) (q .0))) p
 
-        constraints : (l : List Constraint) → top ≡ i + length l → IntervalsStand w i (heldBy x l) →
-            IntervalsStand (intervalPut w i x f a b) i (heldBy x (placeConstraint one (intervalOf f lo hi) l))
+        constraints : (l : List Constraint) → top ≡ i + length l → ConstraintsStand w i (heldBy x l) →
+            ConstraintsStand w′ i (heldBy x (placeConstraint one (intervalOf f lo hi) l))
         constraints [] p q = absurd (omega arith)
         constraints (s ∷ l) p q =
-            let u = put-stands w i x f a b (omega arith) long in
-            let e = tested t s (q .0 .feature) in
-            rw e (
-              record {
-                individual = u .individual;
-                feature = u .feature ∙ sym (eqb-true (s .feature) f (and-right one (eqb (s .feature) f) e));
-                lo = u .lo ∙ ea ∙ ap (λ (y : ℕ). max y lo) (q .0 .lo);
-                hi = u .hi ∙ eb ∙ ap (λ (y : ℕ). min y hi) (q .0 .hi);
-              },
-              intervals-kept w (intervalPut w i x f a b) (suc i) (heldBy x l) (λ k g h. put-other w i x f a b k (inr (omega arith))) (q .1),
-            )
+            let c : constraintAt w i ≡ s = ap (λ (h : Held). h .constraint) (q .0) in
+            let e = tested t s c in
+            let d : s .feature ≡ f = eqb-true (s .feature) f (and-right one (eqb (s .feature) f) e) in
+            rw e (u .held ∙ held-as (sym d) (ea ∙ ap (λ (y : Constraint). max (y .lo) lo) c) (eb ∙ ap (λ (y : Constraint). min (y .hi) hi) c), others-kept u (heldBy x l) (q .1))
 
     -- one after it does
     pub placed-on : {r : ℕ} → t ≡ false → Placed one x (i + 1) top f lo hi w w′ r → Placed one x i top f lo hi w w′ r
@@ -244,60 +215,56 @@ module _ (one : Bool) (x i top f lo hi : ℕ) (w w′ : List ℕ) (small : top <
       constraints = λ l p q. constraints l p q;
       more = u .more;
       few = u .few;
-      low = λ k h. u .low k (omega arith);
-      behind = u .behind;
-      same = u .same;
+      only = only-span (u .only) (omega arith) (omega arith);
     }
       where
-        behind : (l : List Constraint) → IntervalsStand w (suc i) (heldBy x l) → IntervalsStand w (i + 1) (heldBy x l)
-        behind l q = subst (λ (n : ℕ). IntervalsStand w n (heldBy x l)) (omega arith) q
+        behind : (l : List Constraint) → ConstraintsStand w (suc i) (heldBy x l) → ConstraintsStand w (i + 1) (heldBy x l)
+        behind l q = subst (λ (n : ℕ). ConstraintsStand w n (heldBy x l)) (omega arith) q
 
-        ends : (l : List Constraint) → top ≡ i + length l → IntervalsStand w i (heldBy x l) → r ≡ i + length (placeConstraint one (intervalOf f lo hi) l)
+        ends : (l : List Constraint) → top ≡ i + length l → ConstraintsStand w i (heldBy x l) → r ≡ i + length (placeConstraint one (intervalOf f lo hi) l)
         ends [] p q = absurd (omega arith)
-        ends (s ∷ l) p q = rw (tested t s (q .0 .feature)) (let h = u .ends l (omega arith) (behind l (q .1)) in omega arith)
+        ends (s ∷ l) p q = rw (tested t s (ap (λ (h : Held). h .constraint) (q .0))) (let h = u .ends l (omega arith) (behind l (q .1)) in omega arith)
 
-        constraints : (l : List Constraint) → top ≡ i + length l → IntervalsStand w i (heldBy x l) →
-            IntervalsStand w′ i (heldBy x (placeConstraint one (intervalOf f lo hi) l))
+        constraints : (l : List Constraint) → top ≡ i + length l → ConstraintsStand w i (heldBy x l) →
+            ConstraintsStand w′ i (heldBy x (placeConstraint one (intervalOf f lo hi) l))
         constraints [] p q = absurd (omega arith)
         constraints (s ∷ l) p q =
-            rw (tested t s (q .0 .feature)) (
-              interval-kept w w′ i _ (λ k g h. u .low k (omega arith)) (q .0),
-              subst (λ (n : ℕ). IntervalsStand w′ n (heldBy x (placeConstraint one (intervalOf f lo hi) l))) (omega arith) (u .constraints l (omega arith) (behind l (q .1))),
+            rw (tested t s (ap (λ (h : Held). h .constraint) (q .0))) (
+              held-same w w′ i (λ k g h. only-before (u .only) k (omega arith)) ∙ q .0,
+              subst (λ (n : ℕ). ConstraintsStand w′ n (heldBy x (placeConstraint one (intervalOf f lo hi) l))) (omega arith) (u .constraints l (omega arith) (behind l (q .1))),
             )
 
--- ---- a row put
+-- the loop that places it has come to i, and the slice is still as it was: what is placed from i on is placed from first on
+pub record Placing (one : Bool) (x first top f lo hi : ℕ) (w₀ w : List ℕ) (i : ℕ) : Type 0 where
+  pub low : first ≤ i
+  pub high : i ≤ top
+  pub same : w ≡ w₀
+  pub placed : (w′ : List ℕ) (r : ℕ) → Placed one x i top f lo hi w w′ r → Placed one x first top f lo hi w₀ w′ r
 
-row-one : (w : List ℕ) (k : ℕ) → getD (rowAt 1 w k) 0 0 ≡ getD w k 0
-row-one w k = row-word 1 w k 0 (omega arith) ∙ step w (k + 0) k (omega arith) refl
+module _ {one : Bool} {x first top f lo hi : ℕ} {w₀ : List ℕ} where
+  pub placing-starts : first ≤ top → Placing one x first top f lo hi w₀ w₀ first
+  placing-starts h = record { low = omega arith; high = h; same = refl; placed = λ w′ r p. p }
 
-pub row-put : (n i r : ℕ) (s w w′ : List ℕ) → n < mostRecords → tablesEnd ≤ length w → length s ≡ classWords →
-    w′ ≡ putAt (set (set w (individualPlace n) i) (individualPlace n + 1) r) (individualPlace n + 2) s → RowPut n i r s w w′
-row-put n i r s w w′ h long es e = rw e (record {
-  parent = before (individualPlace n) (omega arith) ∙ getD-set-other u (individualPlace n + 1) (individualPlace n) r 0 (λ d. omega arith) ∙ getD-set-same w (individualPlace n) i 0 (omega arith);
-  role = before (individualPlace n + 1) (omega arith) ∙ getD-set-same u (individualPlace n + 1) r 0 (omega (arith, length-set w (individualPlace n) i));
-  classes = ap (λ (m : ℕ). rowAt m (putAt v at s) at) (sym es) ∙ put-row v at s room;
-  low = λ k g. before k (omega arith) ∙ two k (λ d. omega arith) (λ d. omega arith);
-  high = λ k g. after k (omega arith) ∙ two k (λ d. omega arith) (λ d. omega arith);
-  same = length-put v at s room ∙ length-set u (individualPlace n + 1) r ∙ length-set w (individualPlace n) i;
-})
-  where
-    u : List ℕ
-    u = set w (individualPlace n) i
+  module _ {w : List ℕ} {i : ℕ} (small : top < mostRecords) (s : Placing one x first top f lo hi w₀ w i) where
+    pub placing-entry : {k : ℕ} → k ≤ top → HasEntry top w₀ → HasEntry k w
+    placing-entry h e = (omega arith, let n = ap length (s .same) in omega (arith, e .1))
 
-    v : List ℕ
-    v = set u (individualPlace n + 1) r
+    pub placing-last : {w′ : List ℕ} → top ≤ i → ConstraintPut top x f lo hi w w′ → Placed one x first top f lo hi w₀ w′ (top + 1)
+    placing-last {w′} h u =
+        let a = s .high in
+        let e : i ≡ top = omega arith in
+        s .placed w′ (top + 1) (placed-last one x i top f lo hi w w′ small e (subst (λ (k : ℕ). ConstraintPut k x f lo hi w w′) (sym e) u))
 
-    at : ℕ
-    at = individualPlace n + 2
+    module _ (less : i < top) {g : ℕ} {t : Bool} (eg : g ≡ constraintAt w i .feature) (et : t ≡ (one && eqb g f)) where
+      pub placing-here : {a b c d : ℕ} {w′ : List ℕ} → t ≡ true → a ≡ max c lo → b ≡ min d hi → c ≡ constraintAt w i .lo → d ≡ constraintAt w i .hi →
+          ConstraintPut i x f a b w w′ → Placed one x first top f lo hi w₀ w′ top
+      placing-here {w′ = w′} z ea eb ec ed u =
+          s .placed w′ top (placed-here one x i top f lo hi w w′ small less eg et z (ea ∙ ap (λ (y : ℕ). max y lo) ec) (eb ∙ ap (λ (y : ℕ). min y hi) ed) u)
 
-    room : at + length s ≤ length v
-    room = omega (arith, length-set u (individualPlace n + 1) r, length-set w (individualPlace n) i)
-
-    before : (k : ℕ) → k + 1 ≤ at → getD (putAt v at s) k 0 ≡ getD v k 0
-    before k g = sym (row-one (putAt v at s) k) ∙ ap (λ (l : List ℕ). getD l 0 0) (put-before v at s room 1 k g) ∙ row-one v k
-
-    after : (k : ℕ) → at + length s ≤ k → getD (putAt v at s) k 0 ≡ getD v k 0
-    after k g = sym (row-one (putAt v at s) k) ∙ ap (λ (l : List ℕ). getD l 0 0) (put-after v at s room 1 k g) ∙ row-one v k
-
-    two : (k : ℕ) → (k ≡ individualPlace n → ⊥) → (k ≡ individualPlace n + 1 → ⊥) → getD v k 0 ≡ getD w k 0
-    two k a b = getD-set-other u (individualPlace n + 1) k r 0 b ∙ getD-set-other w (individualPlace n) k i 0 a
+      pub placing-on : t ≡ false → Placing one x first top f lo hi w₀ w (i + 1)
+      placing-on z = record {
+        low = let a = s .low in omega arith;
+        high = omega arith;
+        same = s .same;
+        placed = λ w′ r p. s .placed w′ r (placed-on one x i top f lo hi w w′ small less eg et z p);
+      }

@@ -4,5 +4,4 @@ pub mod Chains
 pub mod Joining
 pub mod Groups
 pub mod Nodes
-pub mod Cleanness
 pub mod Callers

@@ -2,37 +2,41 @@
 use Prim.Native.Nat.{_+_, _-_, _<_, _≤_, suc, ℕ}
 use mathlib.Core.Bool.{Bool, _||_, false, or-assoc, or-false}
 use mathlib.Core.List.{List, [], _++_, _∷_, append-nil}
-use mathlib.Core.Logic.{inr}
+use mathlib.Core.Logic.{inl, inr}
 use mathlib.Core.Path.{_∙_, _≡_, ap, fun-ext, refl, subst, sym}
-use native.Mathlib.Omega.{arith}
 use lib.ListN.{getD, length, length-append, length-set, set}
-use lib.Seq.{getD-set-other, getD-set-same}
-use Rattle.hierarchy.specs.declared.Functional.{Functional}
+use lib.Seq.{getD-set-same}
+use native.Mathlib.Omega.{arith}
+use Rattle.frames.proofs.Frames.{only-before, only-behind, only-none, only-set, only-then, only-wider}
+use Rattle.frames.specs.Frames.{Only}
+use Rattle.functional.specs.declared.Functional.{Functional}
+use Rattle.layout.proofs.Entries.{constraints-append, constraints-kept, held-below-length, held-length, row-stays, rows-kept}
+use Rattle.layout.specs.Places.{InTables, individualsAt, pendingAt, tablesEnd}
+use Rattle.layout.specs.Tables.{ConstraintsStand, IndividualPut, RowStands, RowsStand, Tabled, heldBelow, heldBy}
+use Rattle.layout.specs.declared.Tables.{Tables}
 use Rattle.meaning.proofs.Rules.{head, tail}
 use Rattle.meaning.specs.Accepted.{ChainOf, count}
 use Rattle.meaning.specs.Countermodel.{size}
 use Rattle.meaning.specs.Limits.{mostRecords, mostRoles}
 use Rattle.meaning.specs.Lists.{All, cons, filter, nil}
-use Rattle.meaning.specs.NormalForm.{Form, Node, Successors, hasBottom, none, normalForm, successor}
-use Rattle.meaning.specs.Policy.{Chain, childOf, nameOf}
-use Rattle.meaning.specs.Splitting.{constraintsBelow, constraintsOf}
+use Rattle.meaning.specs.NormalForm.{Node, Successors, hasBottom, none, normalForm, successor}
+use Rattle.meaning.specs.Policy.{Chain, childOf, nameOf, termAt}
+use Rattle.meaning.specs.Splitting.{constraintsBelow}
 use Rattle.meaning.specs.Stated.{ranges}
 use Rattle.meaning.specs.Vocabulary.{Vocabulary, vocabularyOf}
-use Rattle.normal_form.proofs.Chains.{adds-less, adds-then, kept-same}
-use Rattle.normal_form.proofs.Groups.{all-count, filter-all, filter-length, filter-weigh, hasBottomAll-filter}
-use Rattle.normal_form.proofs.Groups.{hasBottomAll-roles, named-below, prepared-kept, successors-cons, successors-root}
-use Rattle.normal_form.proofs.Groups.{told-above, unranged}
+use Rattle.normal_form.proofs.Chains.{adds-less, adds-then}
+use Rattle.normal_form.proofs.Groups.{all-count, filter-all, filter-length, filter-weigh, hasBottomAll-filter, hasBottomAll-roles}
+use Rattle.normal_form.proofs.Groups.{named-below, successors-cons, successors-root, told-above, unranged}
 use Rattle.normal_form.proofs.Joining.{rest-arm, rest-none, rest-zero, sure-cons, sure-entry, sure-tail, words-same}
-use Rattle.normal_form.proofs.Laws.{held-length, intervals-append, intervals-kept, row-kept, words-eq, words-kept}
-use Rattle.normal_form.specs.Parts.{Arm, armAt, bottomHereAll, chainAt, classesAll, countAll, hasBottomAll, intervalsAll}
-use Rattle.normal_form.specs.Parts.{joins, live, parts, roles, rolesAll, successorsOf, weigh, wordsAt}
-use Rattle.normal_form.specs.Steps.{Adding, ArmOf, Built, Entry, Gathering, Good, Grown, OnlyNewRows, Noded, HasRoomFor, HasRoomForAll}
-use Rattle.normal_form.specs.Steps.{Room, RowPut, Struck, Sure, everyAt, front, othersAt, restAt, startOf}
-use Rattle.normal_form.specs.Tables.{Fit, IntervalsStand, Normalised, Prepared, RowStands, RowsStand, Tabled, heldBelow}
-use Rattle.normal_form.specs.Tables.{heldBy, heldIn, individualPlace, pendingAt, rowsAt, tablesEnd, termAt}
+use Rattle.normal_form.proofs.Laws.{fresh-in, held-still, in-tables, none-struck, rows-same, word-same, words-eq, words-kept}
+use Rattle.normal_form.specs.Parts.{Arm, armAt, bottomHereAll, chainAt, classesAll, countAll, hasBottomAll, intervalsAll, joins}
+use Rattle.normal_form.specs.Parts.{live, parts, roles, rolesAll, successorsOf, weigh, wordsAt}
+use Rattle.normal_form.specs.Steps.{Adding, ArmOf, Built, Entry, Gathering, Good, Grown, HasRoomFor, HasRoomForAll, Noded, Room}
+use Rattle.normal_form.specs.Steps.{Struck, Sure, everyAt, front, othersAt, restAt, rowed, startOf}
+use Rattle.normal_form.specs.Tables.{Fit, Normalised}
 use Rattle.normal_form.specs.declared.Draft.{Draft}
-use Rattle.normal_form.specs.declared.Tables.{Tables}
-use Rattle.words.specs.Rows.{classWords}
+use Rattle.preparation.proofs.Laws.{prepared-kept}
+use Rattle.preparation.specs.Prepared.{Prepared}
 use Rattle.words.specs.Sets.{inSet}
 
 -- ---- one individual; `one` tells the functional roles, `two` the functional features
@@ -101,7 +105,7 @@ module _ (one two : ℕ → Bool) (p w : List ℕ) (j stop n m k : ℕ) (less : 
       c′ = subst (λ (i : ℕ). Adding two p x m (chainAt p i) w w1 start mine) ey c
 
       same-words : wordsAt w1 (j + 1) (stop - (j + 1)) ≡ wordsAt w (j + 1) (stop - (j + 1))
-      same-words = words-same w w1 (j + 1) stop (λ i a b. c .kept .upper i (omega arith) (omega arith))
+      same-words = words-same w w1 (j + 1) stop (λ i a b. word-same (c .only) i (inr (omega arith)) (omega arith))
 
       same-rest : restAt p w1 (j + 1) stop ≡ R
       same-rest = ap (live p) same-words
@@ -118,7 +122,7 @@ module _ (one two : ℕ → Bool) (p w : List ℕ) (j stop n m k : ℕ) (less : 
           let e = c′ .pending in
           let f = c′ .few in
           let h = c′ .first in
-          let i = c′ .kept .same in (
+          let i = c′ .only .size in (
             omega arith,
             omega arith,
             omega arith,
@@ -140,10 +144,10 @@ module _ (one two : ℕ → Bool) (p w : List ℕ) (j stop n m k : ℕ) (less : 
             (subst (λ (l : List Arm). Gathering two p x (j + 1) stop m (filter (joins one (nameOf p k)) l) w1 w2 mine g) same-rest (q .0))
 
         pub row-long : tablesEnd ≤ length w2
-        row-long = let a = total .kept .same in let b = room .long in omega arith
+        row-long = let a = total .only .size in let b = room .long in omega arith
 
         pub noded : {i : ℕ} {w3 : List ℕ} {b : Bool} → x ≡ n + 1 → start .classes .words ≡ startOf (front w) r → start .impossible ≡ b →
-            RowPut n i r (g .classes .words) w2 w3 → Noded two p every others (nameOf p k) j stop i n m b w w3 g
+            IndividualPut n i r (g .classes .words) w2 w3 → Noded two p every others (nameOf p k) j stop i n m b w w3 g
         noded {i} {w3} {b} ex ec eb u =
             let s1 = sums .heavy in
             let s2 = sums .both in
@@ -155,7 +159,7 @@ module _ (one two : ℕ → Bool) (p w : List ℕ) (j stop n m k : ℕ) (less : 
             let num = number in
             let none-yet : start .constraints ≡ m + 0 = omega arith in
             let tp : g .pending ≡ start .pending + length (rolesAll every) = total .pending in
-            let kp : (h : ℕ) → h < rowsAt → getD w3 h 0 ≡ getD w2 h 0 = (λ h o. u .low h (omega arith)) in
+            let kp : (h : ℕ) → h < individualsAt → getD w3 h 0 ≡ getD w2 h 0 = (λ h o. only-before (u .only) h (omega arith)) in
             let arms-same : wordsAt w3 stop (length (rolesAll every)) ≡ wordsAt w2 (start .pending) (length (rolesAll every)) =
             words-kept w2 w3 stop (length (rolesAll every)) (λ h e f. kp h (omega arith)) ∙ words-eq w2 {n = length (rolesAll every)} (sym sp) refl in
             let left-same : wordsAt w3 (j + 1) (stop - (j + 1)) ≡ wordsAt w2 (j + 1) (stop - (j + 1)) = words-same w2 w3 (j + 1) stop (λ h e f. kp h (omega arith)) in
@@ -164,8 +168,8 @@ module _ (one two : ℕ → Bool) (p w : List ℕ) (j stop n m k : ℕ) (less : 
               role = u .role ∙ er;
               classes = rw (u .classes) (total .classes (startOf (front w) (nameOf p k)) [] (rw (ec ∙ ap (startOf (front w)) er) (λ h. refl)));
               top = total .top [] none-yet tt;
-              constraints = subst (λ (z : ℕ). IntervalsStand w3 m (heldBy z (intervalsAll two every []))) ex
-                  (intervals-kept w2 w3 m (heldBy x (intervalsAll two every [])) (λ h e f. u .high h (omega arith)) (total .constraints [] none-yet tt));
+              constraints = subst (λ (z : ℕ). ConstraintsStand w3 m (heldBy z (intervalsAll two every []))) ex
+                  (constraints-kept w2 w3 m (heldBy x (intervalsAll two every [])) (λ h e f. only-behind (u .only) h (omega arith)) (total .constraints [] none-yet tt));
               few = let f = total .few in omega arith;
               pending = omega arith;
               arms = ap (live p) arms-same ∙ total .arms;
@@ -173,55 +177,10 @@ module _ (one two : ℕ → Bool) (p w : List ℕ) (j stop n m k : ℕ) (less : 
               left = ap (live p) left-same ∙ q .1 .left ∙ ap (filter (parts one (nameOf p k))) same-rest;
               left-sure = subst (λ (l : List ℕ). Sure p l) (sym left-same) (q .1 .sure);
               bottom = total .bottom ∙ ap (λ (y : Bool). y || bottomHereAll every) eb;
-              kept = record {
-                before = λ h o. kp h (omega arith) ∙ total .kept .before h o;
-                low = λ h o. kp h (omega arith) ∙ total .kept .low h (omega arith);
-                upper = λ h o f. absurd (omega arith);
-                rows = λ h o f. u .low h f ∙ total .kept .rows h o (omega arith);
-                constraints = λ h o f. u .high h (omega arith) ∙ total .kept .constraints h o f;
-                behind = λ h o. u .high h (omega arith) ∙ total .kept .behind h o;
-                same = u .same ∙ total .kept .same;
-              };
+              only = only-then
+                  (only-wider (fresh-in (λ h o. inr (omega (arith, o .low))) (omega arith) (omega arith) (omega arith)) (total .only))
+                  (only-wider (λ h o. rowed (record { low = o .low; high = omega (arith, o .high) }) (omega (arith, o .low))) (u .only));
             }
-
--- ---- rows that stand
-
-module _ (K : Vocabulary) (w w′ : List ℕ) (same : length w′ ≡ length w) where
-  row-kept-at : (n i r : ℕ) (cs : List ℕ) → ((h : ℕ) → individualPlace n ≤ h → h < individualPlace (n + 1) → getD w′ h 0 ≡ getD w h 0) → RowStands K w n i r cs → RowStands K w′ n i r cs
-  row-kept-at n i r cs f s = record {
-    parent = f (individualPlace n) (omega arith) (omega arith) ∙ s .parent;
-    role = f (individualPlace n + 1) (omega arith) (omega arith) ∙ s .role;
-    classes = rw (row-kept classWords w w′ (individualPlace n + 2) same (λ h a b. f h (omega arith) (omega arith))) (s .classes);
-  }
-
-  pub rows-kept : (ks : Successors) (i n : ℕ) → ((h : ℕ) → individualPlace n ≤ h → h < individualPlace (n + size ks) → getD w′ h 0 ≡ getD w h 0) → RowsStand K w ks i n → RowsStand K w′ ks i n
-  rows-kept none i n f s = tt
-  rows-kept (successor r m under next) i n f s = (
-    row-kept-at n i r (m .classes) (λ h a b. f h a (omega arith)) (s .0),
-    rows-kept under (suc n) (suc n) (λ h a b. f h (omega arith) (omega arith)) (s .1),
-    rows-kept next i (suc n + size under) (λ h a b. f h (omega arith) (omega arith)) (s .2),
-  )
-
-pub held-below : (ks : Successors) (k : ℕ) → length (heldBelow ks k) ≡ length (constraintsBelow ks)
-held-below none k = refl
-held-below (successor r n under next) k =
-    let a = held-below under (suc k) in
-    let b = held-below next (suc k + size under) in
-    let c = held-length k (n .constraints) in
-    let d = length-append (heldBy k (n .constraints)) (heldBelow under (suc k) ++ heldBelow next (suc k + size under)) in
-    let e = length-append (heldBelow under (suc k)) (heldBelow next (suc k + size under)) in
-    let f = length-append (n .constraints) (constraintsBelow under ++ constraintsBelow next) in
-    let g = length-append (constraintsBelow under) (constraintsBelow next) in
-    omega arith
-
--- a constraint of the table for each of the form's
-pub held-in : (t : Form) → length (heldIn t) ≡ length (constraintsOf t)
-held-in t =
-    let a = held-below (t .successors) 2 in
-    let b = held-length 1 (t .node .constraints) in
-    let c = length-append (heldBy 1 (t .node .constraints)) (heldBelow (t .successors) 2) in
-    let d = length-append (t .node .constraints) (constraintsBelow (t .successors)) in
-    omega arith
 
 -- ---- the ways of `successors`
 
@@ -244,7 +203,7 @@ module _ (f : Functional) (p w : List ℕ) (j stop i : ℕ) (t : Tables) (room :
     few = omega arith;
     fewer = omega arith;
     bottom = sym (or-false (t .impossible));
-    kept = kept-same j j j (t .individuals) (t .constraints) w;
+    only = only-none;
   })
 
   module _ (ne : j ≡ stop → ⊥) where
@@ -289,15 +248,7 @@ module _ (f : Functional) (p w : List ℕ) (j stop i : ℕ) (t : Tables) (room :
         few = s .few;
         fewer = s .fewer;
         bottom = s .bottom;
-        kept = record {
-          before = s .kept .before;
-          low = λ h a. s .kept .low h (omega arith);
-          upper = λ h a b. absurd (omega arith);
-          rows = s .kept .rows;
-          constraints = s .kept .constraints;
-          behind = s .kept .behind;
-          same = s .kept .same;
-        };
+        only = only-wider (none-struck (omega arith) (omega arith) (omega arith)) (s .only);
       })
 
     module _ {k : ℕ} (ek : k ≡ getD w j 0) (nz : k ≡ 0 → ⊥) where
@@ -334,7 +285,7 @@ module _ (f : Functional) (p w : List ℕ) (j stop i : ℕ) (t : Tables) (room :
             let s5 = S .cut-heavy in
             let a = nd .pending in
             let b = nd .few in
-            let c = nd .kept .same in
+            let c = nd .only .size in
             let r1 = room .pending in
             let r2 = room .rows in
             let r3 = room .constraints in
@@ -365,7 +316,7 @@ module _ (f : Functional) (p w : List ℕ) (j stop i : ℕ) (t : Tables) (room :
         module _ {x : ℕ} (ex : x ≡ t .individuals + 1) {w2 : List ℕ} {u : Tables}
             (ch : Built f (restAt p w1 stop (g .pending)) stop x (t .individuals + 1) (g .constraints) (g .impossible) w1 w2 u) where
           old-words : wordsAt w2 (j + 1) (stop - (j + 1)) ≡ wordsAt w1 (j + 1) (stop - (j + 1))
-          old-words = words-same w1 w2 (j + 1) stop (λ h a b. ch .kept .low h b)
+          old-words = words-same w1 w2 (j + 1) stop (λ h a b. word-same (ch .only) h (inl b) b)
 
           old-rest : restAt p w2 (j + 1) stop ≡ ot
           old-rest = ap (live p) old-words ∙ nd .left
@@ -393,8 +344,8 @@ module _ (f : Functional) (p w : List ℕ) (j stop i : ℕ) (t : Tables) (room :
               let s6 = S .cut-long in
               let a = nd .pending in
               let b = nd .few in
-              let c = nd .kept .same in
-              let d = ch .kept .same in
+              let c = nd .only .size in
+              let d = ch .only .size in
               let h = ch .few in
               let o = ch .fewer in
               let r1 = room .pending in
@@ -416,6 +367,9 @@ module _ (f : Functional) (p w : List ℕ) (j stop i : ℕ) (t : Tables) (room :
                 rows = omega arith;
                 constraints = omega arith;
               }
+
+          room-most : u .individuals ≤ mostRecords
+          room-most = let a = next-room .rows in omega arith
 
           pub next-falls : {n : ℕ} → undone p w j stop ≡ n → undone p w2 (j + 1) stop < n
           next-falls q =
@@ -443,7 +397,7 @@ module _ (f : Functional) (p w : List ℕ) (j stop i : ℕ) (t : Tables) (room :
               me = record { classes = classesAll ev (ranges K (nameOf p k)); constraints = intervalsAll two ev [] }
 
               prepared1 : Prepared v w1 f
-              prepared1 = prepared-kept q (nd .kept)
+              prepared1 = prepared-kept (in-tables (nd .only)) q
 
               below : Grown K under x (t .individuals + 1) (g .constraints) w2 u
               unfolding under
@@ -453,7 +407,7 @@ module _ (f : Functional) (p w : List ℕ) (j stop i : ℕ) (t : Tables) (room :
               unfolding next
               behind =
                   subst (λ (l : List Arm). All (ArmOf v) l → Grown K (successorsOf K l) i (u .individuals) (u .constraints) w3 u3) old-rest
-                  (nx .grown v (prepared-kept prepared1 (ch .kept))) (filter-all (parts one (nameOf p k)) (tail named))
+                  (nx .grown v (prepared-kept (in-tables (ch .only)) prepared1)) (filter-all (parts one (nameOf p k)) (tail named))
 
               -- where they stand
               x-is : x ≡ suc (t .individuals)
@@ -471,10 +425,10 @@ module _ (f : Functional) (p w : List ℕ) (j stop i : ℕ) (t : Tables) (room :
 
               rows-all : RowsStand K w3 (successor (nameOf p k) me under next) i (t .individuals)
               rows-all = (
-                row-kept-at K w1 w3 (nx .kept .same ∙ ch .kept .same) (t .individuals) i (nameOf p k) (me .classes)
-                    (λ h a b. nx .kept .rows h (omega arith) (let c = then in omega arith) ∙ ch .kept .rows h (omega arith) (omega arith)) row-me,
-                rows-kept K w2 w3 (nx .kept .same) under (suc (t .individuals)) (suc (t .individuals))
-                    (λ h a b. nx .kept .rows h (omega arith) (let c = then in omega arith))
+                row-stays K w1 w3 (nx .only .size ∙ ch .only .size) (t .individuals) i (nameOf p k) (me .classes)
+                    (λ h a b. let f = few in rows-same (nx .only) h (omega arith) (let c = then in omega arith) (omega arith) ∙ rows-same (ch .only) h (omega arith) (omega arith) (omega arith)) row-me,
+                rows-kept K w2 w3 (nx .only .size) under (suc (t .individuals)) (suc (t .individuals))
+                    (λ h a b. let c = then in let d = room-most in rows-same (nx .only) h (omega arith) (omega arith) (omega arith))
                     (subst (λ (y : ℕ). RowsStand K w2 under y (suc (t .individuals))) x-is (subst (λ (y : ℕ). RowsStand K w2 under x y) (sym after) (below .rows))),
                 subst (λ (y : ℕ). RowsStand K w3 next i y) then (behind .rows),
               )
@@ -483,36 +437,36 @@ module _ (f : Functional) (p w : List ℕ) (j stop i : ℕ) (t : Tables) (room :
               unfolding me
               mid = let a = below .top in let b = nd .top in omega arith
 
-              me-held : IntervalsStand w1 (t .constraints) (heldBy (t .individuals + 1) (me .constraints))
+              me-held : ConstraintsStand w1 (t .constraints) (heldBy (t .individuals + 1) (me .constraints))
               unfolding me
               me-held = nd .constraints
 
-              held-all : IntervalsStand w3 (t .constraints) (heldBelow (successor (nameOf p k) me under next) (t .individuals + 1))
+              held-all : ConstraintsStand w3 (t .constraints) (heldBelow (successor (nameOf p k) me under next) (t .individuals + 1))
               held-all =
                   let a = held-length (t .individuals + 1) (me .constraints) in
-                  let b = held-below under (suc (t .individuals + 1)) in
+                  let b = held-below-length under (suc (t .individuals + 1)) in
                   let c = mid in
                   let d : t .individuals + 1 + 1 ≡ suc (t .individuals + 1) = omega arith in
                   let e : u .individuals + 1 ≡ suc (t .individuals + 1) + size under = let h = then in omega arith in
-                  intervals-append w3 (t .constraints) (heldBy (t .individuals + 1) (me .constraints)) (heldBelow under (suc (t .individuals + 1)) ++ heldBelow next (suc (t .individuals + 1) + size under))
+                  constraints-append w3 (t .constraints) (heldBy (t .individuals + 1) (me .constraints)) (heldBelow under (suc (t .individuals + 1)) ++ heldBelow next (suc (t .individuals + 1) + size under))
                   mine-held
-                  (intervals-append w3 (t .constraints + length (heldBy (t .individuals + 1) (me .constraints))) (heldBelow under (suc (t .individuals + 1))) (heldBelow next (suc (t .individuals + 1) + size under))
-                  (subst (λ (y : ℕ). IntervalsStand w3 y (heldBelow under (suc (t .individuals + 1)))) (let v = nd-top in omega arith)
-                  (intervals-kept w2 w3 (g .constraints) (heldBelow under (suc (t .individuals + 1))) (λ h o l. nx .kept .constraints h (let v = nd-top in omega arith) (let v = nd-top in omega arith))
-                  (subst (λ (y : ℕ). IntervalsStand w2 (g .constraints) (heldBelow under y)) d (below .held))))
-                  (subst (λ (y : ℕ). IntervalsStand w3 y (heldBelow next (suc (t .individuals + 1) + size under))) (omega arith)
-                  (subst (λ (y : ℕ). IntervalsStand w3 (u .constraints) (heldBelow next y)) e (behind .held))))
+                  (constraints-append w3 (t .constraints + length (heldBy (t .individuals + 1) (me .constraints))) (heldBelow under (suc (t .individuals + 1))) (heldBelow next (suc (t .individuals + 1) + size under))
+                  (subst (λ (y : ℕ). ConstraintsStand w3 y (heldBelow under (suc (t .individuals + 1)))) (let v = nd-top in omega arith)
+                  (constraints-kept w2 w3 (g .constraints) (heldBelow under (suc (t .individuals + 1))) (λ h o l. let v = nd-top in held-still (nx .only) h (omega arith) (omega arith))
+                  (subst (λ (y : ℕ). ConstraintsStand w2 (g .constraints) (heldBelow under y)) d (below .held))))
+                  (subst (λ (y : ℕ). ConstraintsStand w3 y (heldBelow next (suc (t .individuals + 1) + size under))) (omega arith)
+                  (subst (λ (y : ℕ). ConstraintsStand w3 (u .constraints) (heldBelow next y)) e (behind .held))))
                 where
                   nd-top : g .constraints ≡ t .constraints + length (me .constraints)
                   nd-top = let a = below .top in let b = mid in omega arith
 
-                  mine-held : IntervalsStand w3 (t .constraints) (heldBy (t .individuals + 1) (me .constraints))
+                  mine-held : ConstraintsStand w3 (t .constraints) (heldBy (t .individuals + 1) (me .constraints))
                   mine-held =
                       let a = held-length (t .individuals + 1) (me .constraints) in
                       let b = nd-top in
                       let c = mid in
-                      intervals-kept w1 w3 (t .constraints) (heldBy (t .individuals + 1) (me .constraints))
-                      (λ h o l. nx .kept .constraints h (omega arith) (omega arith) ∙ ch .kept .constraints h (omega arith) (omega arith)) me-held
+                      constraints-kept w1 w3 (t .constraints) (heldBy (t .individuals + 1) (me .constraints))
+                      (λ h o l. held-still (nx .only) h (omega arith) (omega arith) ∙ held-still (ch .only) h (omega arith) (omega arith)) me-held
 
               together : Grown K (successor (nameOf p k) me under next) i (t .individuals) (t .constraints) w3 u3
               together =
@@ -568,15 +522,13 @@ module _ (f : Functional) (p w : List ℕ) (j stop i : ℕ) (t : Tables) (room :
                   few = omega arith;
                   fewer = omega arith;
                   bottom = bars-all;
-                  kept = record {
-                    before = λ h a. nx .kept .before h a ∙ ch .kept .before h a ∙ nd .kept .before h a;
-                    low = λ h a. nx .kept .low h (omega arith) ∙ ch .kept .low h (let l = less in omega arith) ∙ nd .kept .low h a;
-                    upper = λ h a b. absurd (omega arith);
-                    rows = λ h a b. nx .kept .rows h a (omega arith) ∙ ch .kept .rows h a (omega arith) ∙ nd .kept .rows h a b;
-                    constraints = λ h a b. nx .kept .constraints h a (omega arith) ∙ ch .kept .constraints h a (omega arith) ∙ nd .kept .constraints h a b;
-                    behind = λ h a. nx .kept .behind h a ∙ ch .kept .behind h a ∙ nd .kept .behind h a;
-                    same = nx .kept .same ∙ ch .kept .same ∙ nd .kept .same;
-                  };
+                  only =
+                      let l = less in
+                      let r1 = room .pending in
+                      let d1 = nd .pending in
+                      only-then (nd .only) (only-then
+                      (only-wider (none-struck (omega arith) (omega arith) (omega arith)) (ch .only))
+                      (only-wider (none-struck (omega arith) (omega arith) (omega arith)) (nx .only)));
                 })
 
 -- ---- the whole form
@@ -626,27 +578,14 @@ module _ (p w : List ℕ) (s : ℕ) (fit : Fit p w s) where
         let c3 = fit .few in
         let c4 : count (chainAt p (childOf p s)) ≡ count (termAt p s) = ap count term in
         (omega arith, omega arith);
-    before = λ h a. b .kept .before h a ∙ other h (λ e. omega arith);
-    behind = λ h a. b .kept .behind h a ∙ other h (λ e. omega arith);
-    same = b .kept .same ∙ length-set w pendingAt s;
+    only = only-then root (in-tables (b .only));
   }
     where
       b : Built f (armAt p s ∷ []) pendingAt 0 0 0 false (set w pendingAt s) w′ u
       b = subst (λ (l : List Arm). Built f l pendingAt 0 0 0 false (set w pendingAt s) w′ u) one-rest built
 
-      other : (h : ℕ) → (h ≡ pendingAt → ⊥) → getD (set w pendingAt s) h 0 ≡ getD w h 0
-      other h n = getD-set-other w pendingAt h s 0 n
-
-      root : OnlyNewRows pendingAt 0 0 0 0 w (set w pendingAt s)
-      root = record {
-        before = λ h a. other h (λ e. omega arith);
-        low = λ h a. other h (λ e. omega arith);
-        upper = λ h a c. absurd (omega arith);
-        rows = λ h a c. absurd (omega arith);
-        constraints = λ h a c. absurd (omega arith);
-        behind = λ h a. other h (λ e. omega arith);
-        same = length-set w pendingAt s;
-      }
+      root : Only InTables w (set w pendingAt s)
+      root = only-set pendingAt s (record { low = omega arith; high = omega arith }) only-none
 
       arm : armAt p s ≡ record { role = 0; child = termAt p s }
       arm = ap (λ (r : ℕ). record { role = r; child = chainAt p (childOf p s) }) (fit .nameless) ∙ ap (λ (c : Chain). record { role = 0; child = c }) term
@@ -657,7 +596,7 @@ module _ (p w : List ℕ) (s : ℕ) (fit : Fit p w s) where
           let t = normalForm K (termAt p s) in
           let g : Grown K (successor 0 (t .node) (t .successors) none) 0 0 0 w′ u =
           subst (λ (y : Successors). Grown K y 0 0 0 w′ u) (ap (λ (a : Arm). successorsOf K (a ∷ [])) arm ∙ successors-root K (termAt p s) (unranged q))
-          (b .grown v (prepared-kept q root) (cons (let a = fit .nameless in omega arith, rw term n) nil)) in
+          (b .grown v (prepared-kept root q) (cons (let a = fit .nameless in omega arith, rw term n) nil)) in
           let c1 = g .count in
           let c2 = g .top in
           let c6 = length-append (t .node .constraints) (constraintsBelow (t .successors) ++ []) in

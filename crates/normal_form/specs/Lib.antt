@@ -2,4 +2,3 @@
 pub mod Tables
 pub mod Parts
 pub mod Steps
-pub mod Clean

@@ -1,13 +1,18 @@
 -- What each function of the crate asks, and what it does to the tables.
-use Prim.Native.Nat.{_+_, _-_, _<_, _≤_, ℕ}
+use Prim.Native.Nat.{_+_, _-_, _≤_, ℕ}
 use mathlib.Core.Bool.{Bool, _||_, cond}
 use mathlib.Core.List.{List, [], _∷_}
 use mathlib.Core.Logic.{_⊎_}
 use mathlib.Core.Path.{_≡_}
 use lib.Dec.{eqb}
-use lib.ListN.{getD, length, replicate, set, take}
-use Rattle.hierarchy.specs.Rows.{roleRow, rowOf}
-use Rattle.hierarchy.specs.declared.Functional.{Functional}
+use lib.ListN.{getD, length, replicate, take}
+use Rattle.closure.specs.Rows.{rowOf}
+use Rattle.frames.specs.Frames.{Only, Span}
+use Rattle.frames.specs.Rows.{rowAt}
+use Rattle.functional.specs.declared.Functional.{Functional}
+use Rattle.layout.specs.Places.{constraintPlace, constraintsAt, individualPlace, individualsAt, pendingAt, roleRow, tablesEnd}
+use Rattle.layout.specs.Tables.{ConstraintsStand, RowsStand, heldBelow, heldBy, intervalOf}
+use Rattle.layout.specs.declared.Tables.{Tables}
 use Rattle.meaning.specs.Accepted.{ChainOf, NamedChain, Reads}
 use Rattle.meaning.specs.Countermodel.{size}
 use Rattle.meaning.specs.Intervals.{Constraint}
@@ -17,14 +22,12 @@ use Rattle.meaning.specs.NormalForm.{Successors, placeConstraint}
 use Rattle.meaning.specs.Policy.{Chain, childOf, nameOf}
 use Rattle.meaning.specs.Splitting.{constraintsBelow}
 use Rattle.meaning.specs.Vocabulary.{Vocabulary, roleCount, vocabularyOf}
-use Rattle.normal_form.specs.Parts.{Arm, armAt, bottomHere, bottomHereAll, chainAt, classesAll, classesIn, countAll}
-use Rattle.normal_form.specs.Parts.{hasBottomAll, intervalCount, intervalsAll, intervalsIn, joins, live, parts, roles}
-use Rattle.normal_form.specs.Parts.{rolesAll, successorsOf, weigh, wordsAt}
-use Rattle.normal_form.specs.Tables.{IntervalsStand, Prepared, RowsStand, heldBelow, heldBy, individualPlace, intervalPlace}
-use Rattle.normal_form.specs.Tables.{intervalsAt, pendingAt, rowWidth, rowsAt, tablesEnd}
+use Rattle.normal_form.specs.Parts.{Arm, armAt, bottomHere, bottomHereAll, chainAt, classesAll, classesIn, countAll, hasBottomAll}
+use Rattle.normal_form.specs.Parts.{intervalCount, intervalsAll, intervalsIn, joins, live, parts, roles, rolesAll, successorsOf}
+use Rattle.normal_form.specs.Parts.{weigh, wordsAt}
 use Rattle.normal_form.specs.declared.Draft.{Draft}
-use Rattle.normal_form.specs.declared.Tables.{Tables}
-use Rattle.words.specs.Rows.{classWords, rowAt}
+use Rattle.preparation.specs.Prepared.{Prepared}
+use Rattle.words.specs.Rows.{classWords}
 use Rattle.words.specs.Sets.{inSet}
 
 -- ---- the policy
@@ -62,40 +65,28 @@ Told h s ws cs = (b : ℕ) → inSet ws b ≡ any (λ c. inSet (rowOf h c) b) cs
 
 -- ---- the work slice
 
--- the rows before the tables, the words below j and from e to before u, the first n rows and m constraints, and what lies after
--- the tables are as they were
-pub record OnlyNewRows (j e u n m : ℕ) (w w′ : List ℕ) : Type 0 where
-  pub before : (i : ℕ) → i < pendingAt → getD w′ i 0 ≡ getD w i 0
-  pub low : (i : ℕ) → i < j → getD w′ i 0 ≡ getD w i 0
-  pub upper : (i : ℕ) → e ≤ i → i < u → getD w′ i 0 ≡ getD w i 0
-  pub rows : (i : ℕ) → rowsAt ≤ i → i < individualPlace n → getD w′ i 0 ≡ getD w i 0
-  pub constraints : (i : ℕ) → intervalsAt ≤ i → i < intervalPlace m → getD w′ i 0 ≡ getD w i 0
-  pub behind : (i : ℕ) → tablesEnd ≤ i → getD w′ i 0 ≡ getD w i 0
-  pub same : length w′ ≡ length w
-
--- constraint i, as four words
-unfoldable pub intervalPut : List ℕ → ℕ → ℕ → ℕ → ℕ → ℕ → List ℕ
-intervalPut w i x f lo hi = set (set (set (set w (intervalPlace i) x) (intervalPlace i + 1) f) (intervalPlace i + 2) lo) (intervalPlace i + 3) hi
-
-abbrev pub intervalOf : ℕ → ℕ → ℕ → Constraint
-intervalOf f lo hi = record { feature = f; lo = lo; hi = hi }
+-- the places that may change while an individual is worked on: pending words from j to before e, which are struck out, and from u on
+-- pending words, rows from n on and constraints from m on
+pub data Fresh (j e u n m i : ℕ) : Type 0 where
+  struck : Span pendingAt individualsAt i → Span j e i → Fresh j e u n m i
+  pended : Span pendingAt individualsAt i → u ≤ i → Fresh j e u n m i
+  rowed : Span (individualPlace n) constraintsAt i → u ≤ i → Fresh j e u n m i
+  constrained : Span (constraintPlace m) tablesEnd i → u ≤ i → Fresh j e u n m i
 
 -- the constraint has gone to those of individual x, from place i on
 pub record Placed (one : Bool) (x i top f lo hi : ℕ) (w w′ : List ℕ) (r : ℕ) : Type 0 where
-  pub ends : (l : List Constraint) → top ≡ i + length l → IntervalsStand w i (heldBy x l) → r ≡ i + length (placeConstraint one (intervalOf f lo hi) l)
-  pub constraints : (l : List Constraint) → top ≡ i + length l → IntervalsStand w i (heldBy x l) →
-      IntervalsStand w′ i (heldBy x (placeConstraint one (intervalOf f lo hi) l))
+  pub ends : (l : List Constraint) → top ≡ i + length l → ConstraintsStand w i (heldBy x l) → r ≡ i + length (placeConstraint one (intervalOf f lo hi) l)
+  pub constraints : (l : List Constraint) → top ≡ i + length l → ConstraintsStand w i (heldBy x l) →
+      ConstraintsStand w′ i (heldBy x (placeConstraint one (intervalOf f lo hi) l))
   pub more : top ≤ r
   pub few : r ≤ top + 1
-  pub low : (k : ℕ) → k < intervalPlace i → getD w′ k 0 ≡ getD w k 0
-  pub behind : (k : ℕ) → tablesEnd ≤ k → getD w′ k 0 ≡ getD w k 0
-  pub same : length w′ ≡ length w
+  pub only : Only (Span (constraintPlace i) tablesEnd) w w′
 
 -- there is room for so many arms and constraints
 pub record HasRoom (w : List ℕ) (m : ℕ) (g : Draft) (nr ns : ℕ) : Type 0 where
   pub long : tablesEnd ≤ length w
   pub low : pendingAt ≤ g .pending
-  pub pending : g .pending + nr ≤ rowsAt
+  pub pending : g .pending + nr ≤ individualsAt
   pub first : m ≤ g .constraints
   pub constraints : g .constraints + ns ≤ mostRecords
 
@@ -106,12 +97,12 @@ pub record Adds (p : List ℕ) (x j e m : ℕ) (fc : List ℕ → List ℕ) (rs 
   pub pending : g′ .pending ≡ g .pending + length rs
   pub arms : live p (wordsAt w′ (g .pending) (length rs)) ≡ rs
   pub sure : Sure p (wordsAt w′ (g .pending) (length rs))
-  pub top : (l : List Constraint) → g .constraints ≡ m + length l → IntervalsStand w m (heldBy x l) → g′ .constraints ≡ m + length (fs l)
-  pub constraints : (l : List Constraint) → g .constraints ≡ m + length l → IntervalsStand w m (heldBy x l) → IntervalsStand w′ m (heldBy x (fs l))
+  pub top : (l : List Constraint) → g .constraints ≡ m + length l → ConstraintsStand w m (heldBy x l) → g′ .constraints ≡ m + length (fs l)
+  pub constraints : (l : List Constraint) → g .constraints ≡ m + length l → ConstraintsStand w m (heldBy x l) → ConstraintsStand w′ m (heldBy x (fs l))
   pub few : g′ .constraints ≤ g .constraints + ns
   pub first : g .constraints ≤ g′ .constraints
   pub bottom : g′ .impossible ≡ g .impossible || b
-  pub kept : OnlyNewRows j e (g .pending) mostRecords m w w′
+  pub only : Only (Fresh j e (g .pending) mostRecords m) w w′
 
 -- the conjuncts of a chain, and those of arms, have been added; `one` tells the functional features
 abbrev pub Adding : (ℕ → Bool) → List ℕ → ℕ → ℕ → Chain → List ℕ → List ℕ → Draft → Draft → Type 0
@@ -144,22 +135,13 @@ Gathered f p r j stop x m w w′ g g′ =
     Gathering (inSet (f .features)) p x j stop m (filter (joins (inSet (f .roles)) r) (restAt p w j stop)) w w′ g g′
     × Struck (inSet (f .roles)) p r j stop w w′
 
--- row n
-pub record RowPut (n i r : ℕ) (s w w′ : List ℕ) : Type 0 where
-  pub parent : getD w′ (individualPlace n) 0 ≡ i
-  pub role : getD w′ (individualPlace n + 1) 0 ≡ r
-  pub classes : rowAt classWords w′ (individualPlace n + 2) ≡ s
-  pub low : (k : ℕ) → k < individualPlace n → getD w′ k 0 ≡ getD w k 0
-  pub high : (k : ℕ) → individualPlace n + rowWidth ≤ k → getD w′ k 0 ≡ getD w k 0
-  pub same : length w′ ≡ length w
-
 -- arms pending from j to stop, and room for what lies below them, after n individuals and m constraints
 pub record Room (p w : List ℕ) (j stop n m : ℕ) : Type 0 where
   pub long : tablesEnd ≤ length w
   pub low : pendingAt ≤ j
   pub order : j ≤ stop
   pub sure : Sure p (wordsAt w j (stop - j))
-  pub pending : stop + weigh (restAt p w j stop) ≤ rowsAt
+  pub pending : stop + weigh (restAt p w j stop) ≤ individualsAt
   pub rows : n + length (restAt p w j stop) + weigh (restAt p w j stop) ≤ mostRecords
   pub constraints : m + weigh (restAt p w j stop) ≤ mostRecords
 
@@ -169,7 +151,7 @@ pub record Noded (one : ℕ → Bool) (p : List ℕ) (every others : List Arm) (
   pub role : getD w′ (individualPlace n + 1) 0 ≡ r
   pub classes : Told (front w) (startOf (front w) r) (rowAt classWords w′ (individualPlace n + 2)) (classesAll every [])
   pub top : g .constraints ≡ m + length (intervalsAll one every [])
-  pub constraints : IntervalsStand w′ m (heldBy (n + 1) (intervalsAll one every []))
+  pub constraints : ConstraintsStand w′ m (heldBy (n + 1) (intervalsAll one every []))
   pub few : g .constraints ≤ m + countAll every
   pub pending : g .pending ≡ stop + length (rolesAll every)
   pub arms : live p (wordsAt w′ stop (length (rolesAll every))) ≡ rolesAll every
@@ -177,7 +159,7 @@ pub record Noded (one : ℕ → Bool) (p : List ℕ) (every others : List Arm) (
   pub left : restAt p w′ (j + 1) stop ≡ others
   pub left-sure : Sure p (wordsAt w′ (j + 1) (stop - (j + 1)))
   pub bottom : g .impossible ≡ b || bottomHereAll every
-  pub kept : OnlyNewRows j j j n m w w′
+  pub only : Only (Fresh j j j n m) w w′
 
 -- the arms that go to the individual of record k's arm, and the others, of those pending from j on
 abbrev pub everyAt : (ℕ → Bool) → List ℕ → List ℕ → ℕ → ℕ → ℕ → List Arm
@@ -197,7 +179,7 @@ pub record Grown (K : Vocabulary) (ks : Successors) (i n m : ℕ) (w : List ℕ)
   pub count : t .individuals ≡ n + size ks
   pub top : t .constraints ≡ m + length (constraintsBelow ks)
   pub rows : RowsStand K w ks i n
-  pub held : IntervalsStand w m (heldBelow ks (n + 1))
+  pub held : ConstraintsStand w m (heldBelow ks (n + 1))
 
 -- an arm with names of v's, or no name
 abbrev pub ArmOf : List ℕ → Arm → Type 0
@@ -210,7 +192,7 @@ pub record Built (f : Functional) (l : List Arm) (j i n m : ℕ) (b : Bool) (w w
   pub few : t .individuals ≤ n + length l + weigh l
   pub fewer : t .constraints ≤ m + weigh l
   pub bottom : t .impossible ≡ b || hasBottomAll l
-  pub kept : OnlyNewRows j j j n m w w′
+  pub only : Only (Fresh j j j n m) w w′
 
 -- the individuals of the arms pending from j to stop have been built, after what t counts
 abbrev pub BuiltFrom : Functional → List ℕ → ℕ → ℕ → ℕ → Tables → List ℕ → List ℕ → Tables → Type 0

@@ -1,15 +1,15 @@
 // The normal form of a term, as flat tables of the work slice: one walk, no tree, no numbering afterwards.
-use hierarchy::Functional;
-use hierarchy::PAIRS;
-use hierarchy::PAIRS_END;
-use hierarchy::above;
-use hierarchy::pair_at;
-use hierarchy::range_above;
-use intervals::is_nonempty;
+use closure::above;
+use closure::range_above;
+use functional::Functional;
+use layout::PENDING;
+use layout::Tables;
+use layout::feature_of;
+use layout::put_constraint;
+use layout::put_individual;
 use meaning::ClassNo;
 use meaning::FeatureNo;
 use meaning::RoleNo;
-use meaning::limits::MOST_RECORDS;
 use policy::child_of;
 use policy::hi_of;
 use policy::kind_of;
@@ -17,41 +17,22 @@ use policy::lo_of;
 use policy::name_of;
 use policy::next_of;
 use words::ClassSet;
+use words::place;
 ghost use mathlib.Core.Bool.{_&&_};
 ghost use mathlib.Core.Path.{_≡_};
 ghost use Prim.Native.Nat.{_+_, _<_, _≤_, max, min};
 ghost use lib.Dec.{eqb};
 ghost use lib.ListN.{getD, length};
-ghost use Rattle.hierarchy.specs.Pairs.{mostPairs, pairAt, pairCount, pairsEnd};
-ghost use Rattle.meaning.specs.Limits.{mostRecords, mostRoles};
-ghost use Rattle.meaning.specs.Lists.{all, counting};
-ghost use Rattle.normal_form.specs.Clean.{DecidesClean, agreeIn, hasBoth, nonEmptyAt, setAt};
+ghost use Rattle.layout.specs.Places.{tablesEnd};
+ghost use Rattle.layout.specs.Tables.{HasEntry};
+ghost use Rattle.meaning.specs.Limits.{mostRoles};
+ghost use Rattle.meaning.specs.Lists.{all};
+ghost use Rattle.meaning.specs.Policy.{termAt};
 ghost use Rattle.normal_form.specs.Parts.{armAt, chainAt, headAt, joins};
-ghost use Rattle.normal_form.specs.Steps.{Adding, BuiltFrom, Gatherable, Gathered, Good, NodedFrom, Placed, HasRoomFor, Room};
-ghost use Rattle.normal_form.specs.Steps.{RowPut, front, intervalPut, startOf};
-ghost use Rattle.normal_form.specs.Tables.{Fit, Normalised, tablesEnd, termAt};
+ghost use Rattle.normal_form.specs.Steps.{Adding, BuiltFrom, Gatherable, Gathered, Good, HasRoomFor, NodedFrom, Placed, Room, front};
+ghost use Rattle.normal_form.specs.Steps.{startOf};
+ghost use Rattle.normal_form.specs.Tables.{Fit, Normalised};
 ghost use Rattle.words.specs.Sets.{inSet};
-
-// After what hierarchy writes, room for each record of a policy: those of roles that are still to be followed, 0 for one that was
-// merged away.
-const PENDING: usize = PAIRS_END;
-
-// Individuals: parent, role, set of classes.
-pub const ROWS: usize = PENDING + MOST_RECORDS;
-
-pub const ROW: usize = 2 + ClassSet::WORDS;
-
-// Constraints: individual, feature, lo, hi, and two words for whoever splits them.
-pub const INTERVALS: usize = ROWS + ROW * MOST_RECORDS;
-
-pub const INTERVAL: usize = 6;
-
-// What the tables hold, and whether the impossible concept stands in the term.
-pub struct Tables {
-    pub individuals: u32,
-    pub constraints: usize,
-    pub impossible: bool,
-}
 
 // What the conjuncts of an individual have given: its classes, the ends of the pending roles and of the constraints, and whether
 // one is the impossible concept.
@@ -80,66 +61,43 @@ fn both(one: bool, f: u32, g: u32) -> bool
     one && f == g
 }
 
-fn put_interval(work: &mut [u32], i: usize, x: u32, f: u32, lo: u32, hi: u32)
-    requires { ⌜ (i < mostRecords) × (tablesEnd ≤ length (now work)) ⌝ }
-    ensures { λ _. ⌜ now (work .exit) ≡ intervalPut (now (work .entry)) i x f lo hi ⌝ }
-{
-    let at = INTERVALS + INTERVAL * i;
-    work[at] = x;
-    work[at + 1] = f;
-    work[at + 2] = lo;
-    work[at + 3] = hi;
-}
-
-// The constraint joins the first of its feature from place i on, where the feature is functional; else it stands last.
+// The constraint of individual x joins the first of its feature from place first on, where the feature is functional; else it stands
+// last.
 fn add_interval(
     work: &mut [u32],
     one: bool,
     x: u32,
-    i: usize,
+    first: usize,
     top: usize,
-    f: u32,
+    f: FeatureNo,
     lo: u32,
     hi: u32,
 ) -> usize
-    requires { ⌜ (i ≤ top) × (top < mostRecords) × (tablesEnd ≤ length (now work)) ⌝ }
-    ensures { λ r. ⌜ Placed one x i top f lo hi (now (work .entry)) (now (work .exit)) r ⌝ }
+    requires { ⌜ (first ≤ top) × HasEntry top (now work) ⌝ }
+    ensures { λ r. ⌜ Placed one x first top (f .0) lo hi (now (work .entry)) (now (work .exit)) r ⌝ }
 {
-    if i == top {
-        put_interval(work, i, x, f, lo, hi);
-        return top + 1;
+    for i in first..top {
+        let g = feature_of(work, i);
+        if both(one, g.0, f.0) {
+            let a = larger(layout::lo_of(work, i), lo);
+            let b = smaller(layout::hi_of(work, i), hi);
+            put_constraint(work, i, x, f, a, b);
+            return top;
+        }
     }
-    let at = INTERVALS + INTERVAL * i;
-    let g = work[at + 1];
-    if both(one, g, f) {
-        let a = larger(work[at + 2], lo);
-        let b = smaller(work[at + 3], hi);
-        put_interval(work, i, x, f, a, b);
-        return top;
-    }
-    add_interval(work, one, x, i + 1, top, f, lo, hi)
-}
-
-// One individual's row.
-fn put_row(work: &mut [u32], n: u32, parent: u32, r: u32, s: ClassSet)
-    requires { ⌜ (n < mostRecords) × (tablesEnd ≤ length (now work)) ⌝ }
-    ensures { λ _. ⌜ RowPut n parent r (s .words) (now (work .entry)) (now (work .exit)) ⌝ }
-{
-    let at = ROWS + ROW * (n as usize);
-    work[at] = parent;
-    work[at + 1] = r;
-    s.store(work, at + 2);
+    put_constraint(work, top, x, f, lo, hi);
+    top + 1
 }
 
 // The classes of a new individual by role r: those above r's ranges. The first individual is by no role.
-fn start_classes(work: &[u32], r: u32) -> ClassSet
-    requires { ⌜ (r ≤ mostRoles) × (tablesEnd ≤ length (now work)) ⌝ }
-    ensures { λ s. ⌜ s .words ≡ startOf (front (now (work .entry))) r ⌝ }
+fn start_classes(work: &[u32], r: RoleNo) -> ClassSet
+    requires { ⌜ (r .0 ≤ mostRoles) × (tablesEnd ≤ length (now work)) ⌝ }
+    ensures { λ s. ⌜ s .words ≡ startOf (front (now (work .entry))) (r .0) ⌝ }
 {
-    if r == 0 {
+    if r.0 == 0 {
         ClassSet::new()
     } else {
-        range_above(work, RoleNo(r))
+        range_above(work, r)
     }
 }
 
@@ -154,7 +112,8 @@ fn conjunct(
     g: Draft,
 ) -> Draft
     requires { ⌜ (k ≡ 0 → ⊥) × Good (now p) k × HasRoomFor (now work) first g (chainAt (now p) k) ⌝ }
-    ensures { λ r. ⌜ Adding (inSet (f .features)) (now (p .entry)) x first (headAt (now (p .entry)) k) (now (work .entry)) (now (work .exit)) g r ⌝ }
+    ensures { λ r. ⌜ Adding (inSet (f .features)) (now (p .entry)) x first (headAt (now (p .entry)) k)
+        (now (work .entry)) (now (work .exit)) g r ⌝ }
 {
     let kind = kind_of(p, k);
     let a = name_of(p, k);
@@ -186,14 +145,15 @@ fn conjunct(
             }
         }
         _ => {
-            let one = f.has_feature(FeatureNo(a));
+            let feature = FeatureNo(a);
+            let one = f.has_feature(feature);
             let top = add_interval(
                 work,
                 one,
                 x,
                 first,
                 g.constraints,
-                a,
+                feature,
                 lo_of(p, k),
                 hi_of(p, k),
             );
@@ -218,7 +178,8 @@ fn chain(
     g: Draft,
 ) -> Draft
     requires { ⌜ Good (now p) k × HasRoomFor (now work) first g (chainAt (now p) k) ⌝ }
-    ensures { λ r. ⌜ Adding (inSet (f .features)) (now (p .entry)) x first (chainAt (now (p .entry)) k) (now (work .entry)) (now (work .exit)) g r ⌝ }
+    ensures { λ r. ⌜ Adding (inSet (f .features)) (now (p .entry)) x first (chainAt (now (p .entry)) k)
+        (now (work .entry)) (now (work .exit)) g r ⌝ }
 {
     if k == 0 {
         return g;
@@ -228,12 +189,12 @@ fn chain(
 }
 
 // Whether record k's role is r and functional: then it reaches the individual that another record of r has made.
-fn does_join(p: &[u32], f: Functional, k: u32, r: u32) -> bool
-    ensures { λ b. ⌜ b ≡ joins (inSet (f .roles)) r (armAt (now (p .entry)) k) ⌝ }
+fn does_join(p: &[u32], f: Functional, k: u32, r: RoleNo) -> bool
+    ensures { λ b. ⌜ b ≡ joins (inSet (f .roles)) (r .0) (armAt (now (p .entry)) k) ⌝ }
 {
-    let a = name_of(p, k);
-    let one = f.has_role(RoleNo(a));
-    both(one, a, r)
+    let a = RoleNo(name_of(p, k));
+    let one = f.has_role(a);
+    both(one, a.0, r.0)
 }
 
 // Of the pending roles from j to stop, those that join role r give their conjuncts to individual x and are struck out.
@@ -241,7 +202,7 @@ fn gather(
     p: &[u32],
     work: &mut [u32],
     f: Functional,
-    r: u32,
+    r: RoleNo,
     j: usize,
     stop: usize,
     x: u32,
@@ -249,7 +210,7 @@ fn gather(
     g: Draft,
 ) -> Draft
     requires { ⌜ Gatherable (now p) (now work) j stop first g ⌝ }
-    ensures { λ s. ⌜ Gathered f (now (p .entry)) r j stop x first (now (work .entry)) (now (work .exit)) g s ⌝ }
+    ensures { λ s. ⌜ Gathered f (now (p .entry)) (r .0) j stop x first (now (work .entry)) (now (work .exit)) g s ⌝ }
 {
     if j == stop {
         return g;
@@ -277,10 +238,11 @@ fn node(
     parent: u32,
     t: Tables,
 ) -> Draft
-    requires { ⌜ (j < stop) × (k ≡ getD (now work) j 0) × (k ≡ 0 → ⊥) × Room (now p) (now work) j stop (t .individuals) (t .constraints) ⌝ }
+    requires { ⌜ (j < stop) × (k ≡ getD (now work) j 0) × (k ≡ 0 → ⊥)
+        × Room (now p) (now work) j stop (t .individuals) (t .constraints) ⌝ }
     ensures { λ g. ⌜ NodedFrom f (now (p .entry)) j k stop parent t (now (work .entry)) (now (work .exit)) g ⌝ }
 {
-    let r = name_of(p, k);
+    let r = RoleNo(name_of(p, k));
     let child = child_of(p, k);
     let x = t.individuals + 1;
     let first = t.constraints;
@@ -293,7 +255,7 @@ fn node(
     let own = chain(p, work, f, child, x, first, start);
     let all = gather(p, work, f, r, j + 1, stop, x, first, own);
     let classes = all.classes;
-    put_row(work, t.individuals, parent, r, classes);
+    put_individual(work, place(t.individuals), parent, r, classes);
     all
 }
 
@@ -355,68 +317,4 @@ pub fn normalise(p: &[u32], work: &mut [u32], f: Functional, s: u32) -> Tables
             impossible: false,
         },
     )
-}
-
-// Whether both classes of pair i are in the set.
-fn has_both(work: &[u32], i: u32, s: ClassSet) -> bool
-    requires { ⌜ (i < mostPairs) × (pairsEnd ≤ length (now work)) ⌝ }
-    ensures { λ r. ⌜ r ≡ hasBoth (s .words) (pairAt (now (work .entry)) i) ⌝ }
-{
-    let at = pair_at(i);
-    let a = work[at];
-    let b = work[at + 1];
-    s.has(ClassNo(a)) && s.has(ClassNo(b))
-}
-
-// Whether that is so of no pair. The set is closed upward, so one look at each pair is enough.
-fn is_compatible(work: &[u32], s: ClassSet) -> bool
-    requires { ⌜ (pairCount (now work) ≤ mostPairs) × (pairsEnd ≤ length (now work)) ⌝ }
-    ensures { λ r. ⌜ r ≡ agreeIn (now (work .entry)) (s .words) ⌝ }
-{
-    let n = work[PAIRS];
-    for i in 0..n {
-        if has_both(work, i, s) {
-            return false;
-        }
-    }
-    true
-}
-
-// Rule 7 at each of the first n individuals.
-fn are_compatible(work: &[u32], n: u32) -> bool
-    requires { ⌜ (pairCount (now work) ≤ mostPairs) × (n ≤ mostRecords) × (tablesEnd ≤ length (now work)) ⌝ }
-    ensures { λ r. ⌜ r ≡ all (λ i. agreeIn (now (work .entry)) (setAt (now (work .entry)) i)) (counting 0 n) ⌝ }
-{
-    for i in 0..n {
-        let s = ClassSet::load(work, ROWS + ROW * (i as usize) + 2);
-        if !is_compatible(work, s) {
-            return false;
-        }
-    }
-    true
-}
-
-// Rule 3 at each of the first n constraints.
-pub fn are_nonempty(work: &[u32], n: usize) -> bool
-    requires { ⌜ (n ≤ mostRecords) × (tablesEnd ≤ length (now work)) ⌝ }
-    ensures { λ r. ⌜ r ≡ all (nonEmptyAt (now (work .entry))) (counting 0 n) ⌝ }
-{
-    for i in 0..n {
-        let at = INTERVALS + INTERVAL * i;
-        let lo = work[at + 2];
-        let hi = work[at + 3];
-        if !is_nonempty(lo, hi) {
-            return false;
-        }
-    }
-    true
-}
-
-// Whether rules 3 and 7 find nothing in the form that the tables hold. Time grows with the individuals times the pairs.
-pub fn is_clean(work: &[u32], t: Tables) -> bool
-    requires { ⌜ (pairCount (now work) ≤ mostPairs) × (tablesEnd ≤ length (now work)) ⌝ }
-    requires { ⌜ (t .individuals ≤ mostRecords) × (t .constraints ≤ mostRecords) ⌝ }
-    ensures { λ r. ⌜ DecidesClean (now (work .entry)) t r ⌝ }
-{
-    are_nonempty(work, t.constraints) && are_compatible(work, t.individuals)
 }

@@ -1,2 +1,4 @@
--- Laws that the proofs of the functions cite.
+-- Laws that the functions' proofs cite, and the way along the terms of a policy, which other crates cite.
 pub mod Laws
+pub mod Walking
+pub mod Terms

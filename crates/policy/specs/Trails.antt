@@ -1,13 +1,13 @@
 -- What the walk leaves behind: the records reached so far as bits, and a fault, and when they agree with the definition's walk.
-use Prim.Native.Nat.{_/_, _≤_, suc, ℕ}
-use mathlib.Core.Bool.{Bool, cond}
+use Prim.Native.Nat.{_-_, _/_, _≤_, suc, ℕ}
+use mathlib.Core.Bool.{cond}
 use mathlib.Core.List.{List}
 use mathlib.Core.Path.{_≡_}
 use lib.Dec.{eqb}
 use lib.ListN.{length}
-use Rattle.meaning.specs.Limits.{mostRecords}
+use Rattle.meaning.specs.Limits.{mostDepth, mostRecords}
 use Rattle.meaning.specs.Lists.{any}
-use Rattle.meaning.specs.Policy.{Walk, fault, reached, walk}
+use Rattle.meaning.specs.Policy.{Walk, fault, reached, soundRecord, walk}
 use Rattle.meaning.specs.Records.{Enough, lastOf}
 use Rattle.words.specs.Sets.{inSet}
 
@@ -15,10 +15,17 @@ use Rattle.words.specs.Sets.{inSet}
 abbrev pub trailWords : ℕ
 trailWords = mostRecords / 32
 
--- "at one record in the order 7, 6, 8": the fault of a record that was reached before or not, is sound or not, is at depth 17 or not;
--- 0 is none
-unfoldable pub faultAt : Bool → Bool → Bool → ℕ
-faultAt before sound deep = cond before 7 (cond sound (cond deep 8 0) 6)
+-- "at one record in the order 7, 6, 8": reached before, by the bits s; not sound; at depth 17. 0 is none
+unfoldable pub faultAt : List ℕ → List ℕ → ℕ → ℕ → List ℕ → ℕ
+faultAt v p depth k s = cond (inSet s k) 7 (cond (soundRecord v p depth k) (cond (eqb depth (suc mostDepth)) 8 0) 6)
+
+-- how many levels a policy may have: the header's chain, and those of conjuncts
+abbrev pub levels : ℕ
+levels = suc mostDepth
+
+-- how deep a chain is where so many levels may still stand, its own among them
+abbrev pub depthAt : ℕ → ℕ
+depthAt left = levels - left
 
 -- the words' bits are the records of the list
 pub record Marks (words seen : List ℕ) : Type 0 where
@@ -28,10 +35,9 @@ pub record Marks (words seen : List ℕ) : Type 0 where
 -- the words' bits and the number are what a walk ends with: the records reached and 0, or the fault
 pub data Arrived (words : List ℕ) (n : ℕ) : Walk → Type 0 where
   going : {seen : List ℕ} → n ≡ 0 → Marks words seen → Arrived words n (reached seen)
-  stopped : {m : ℕ} → n ≡ suc m → Arrived words n (fault (suc m))
+  stopped : (n ≡ 0 → ⊥) → Arrived words n (fault n)
 
--- with the bits s, the walk from record k on at a depth ends with the bits s′ and the number n: for every fuel that is enough, and every
--- list that s is of
-pub record Follows (v p : List ℕ) (depth k : ℕ) (s s′ : List ℕ) (n : ℕ) : Type 0 where
-  pub arrives : (f : ℕ) (seen : List ℕ) → Enough (lastOf 6 p) f k → Marks s seen → Arrived s′ n (walk f v p depth k seen)
-  pub size : length s′ ≡ length s
+-- with the bits s and so many levels left, the walk from record k on ends with the bits s′ and the number n: for every fuel that is
+-- enough, and every list that s is of
+pub record Follows (v p : List ℕ) (left k : ℕ) (s s′ : List ℕ) (n : ℕ) : Type 0 where
+  pub arrives : (f : ℕ) (seen : List ℕ) → Enough (lastOf 6 p) f k → Marks s seen → Arrived s′ n (walk f v p (depthAt left) k seen)

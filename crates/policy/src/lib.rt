@@ -16,18 +16,18 @@ use words::has;
 use words::insert;
 ghost use mathlib.Core.Path.{_≡_};
 ghost use mathlib.Core.Bool.{cond, not};
-ghost use Prim.Native.Nat.{_≤_, suc};
+ghost use Prim.Native.Nat.{_≤_};
 ghost use lib.Dec.{eqb};
 ghost use lib.ListN.{length};
 ghost use Rattle.meaning.specs.Answers.{readingAnswer};
-ghost use Rattle.meaning.specs.Limits.{mostDepth, mostRecords};
+ghost use Rattle.meaning.specs.Limits.{mostRecords};
 ghost use Rattle.meaning.specs.Operations.{inputRefusal, readPolicy, readSecondPolicy};
 ghost use Rattle.meaning.specs.Policy.{childOf, firstTerm, headedPolicy, hiOf, kindOf, loOf, nameOf, nextOf, policyRefusal};
 ghost use Rattle.meaning.specs.Policy.{recordFits, secondRefusal, soundRecord};
 ghost use Rattle.meaning.specs.Records.{lastOf, orElse};
 ghost use Rattle.meaning.specs.Vocabulary.{vocabularyRefusal};
 ghost use Rattle.policy.specs.Numbers.{numbered};
-ghost use Rattle.policy.specs.Trails.{Follows, faultAt};
+ghost use Rattle.policy.specs.Trails.{Follows, depthAt, faultAt, levels};
 
 pub fn kind_of(p: &[u32], k: u32) -> u32
     ensures { λ r. ⌜ r ≡ kindOf (now (p .entry)) k ⌝ }
@@ -120,42 +120,47 @@ fn is_sound(v: &[u32], p: &[u32], depth: u32, k: u32) -> bool
 // Words with a bit for each record.
 const MARKS: usize = MOST_RECORDS / 32;
 
-// The fault at record k, 0 for none, in the order 7, 6, 8.
-fn fault_at(v: &[u32], p: &[u32], depth: u32, k: u32, reached: bool) -> u32
-    requires { ⌜ (6 ≤ length (now p)) × (depth ≤ suc mostDepth) ⌝ }
-    ensures { λ r. ⌜ r ≡ faultAt reached (soundRecord (now (v .entry)) (now (p .entry)) depth k) (eqb depth (suc mostDepth)) ⌝ }
+// The header's chain is a level too.
+const LEVELS: u32 = MOST_DEPTH + 1;
+
+// The fault at record k, 0 for none, in the order 7, 6, 8. left counts the levels that may still stand, the record's own among them.
+fn fault_at(v: &[u32], p: &[u32], left: u32, k: u32, seen: &[u32]) -> u32
+    requires { ⌜ (6 ≤ length (now p)) × (left ≤ levels) ⌝ }
+    ensures { λ r. ⌜ r ≡ faultAt (now (v .entry)) (now (p .entry)) (depthAt left) k (now (seen .entry)) ⌝ }
 {
-    let sound = is_sound(v, p, depth, k);
+    let reached = has(seen, k);
+    let sound = is_sound(v, p, LEVELS - left, k);
     if reached {
         return 7;
     }
     if !sound {
         return 6;
     }
-    if MOST_DEPTH < depth { 8 } else { 0 }
+    if left == 0 { 8 } else { 0 }
 }
 
-// The first fault of the walk from record k on, 0 for none; the records reached are marked. It ends, since the links of a sound record
-// rise.
-fn walk_from(v: &[u32], p: &[u32], depth: u32, k: u32, seen: &mut [u32]) -> u32
-    requires { ⌜ (6 ≤ length (now p)) × (lastOf 6 (now p) ≤ mostRecords) × (k ≤ lastOf 6 (now p)) × (depth ≤ suc mostDepth) ⌝ }
-    ensures { λ r. ⌜ Follows (now (v .entry)) (now (p .entry)) depth k (now (seen .entry)) (now (seen .exit)) r ⌝ }
+// The first fault of the walk from record first on, 0 for none; the records reached are marked. It ends, since levels fall into a child
+// chain and links rise along a chain. Only the former is a call: the stack does not grow with a chain's length.
+fn walk_from(v: &[u32], p: &[u32], left: u32, first: u32, seen: &mut [u32]) -> u32
+    requires { ⌜ (6 ≤ length (now p)) × (lastOf 6 (now p) ≤ mostRecords) × (first ≤ lastOf 6 (now p)) × (left ≤ levels) ⌝ }
+    ensures { λ r. ⌜ Follows (now (v .entry)) (now (p .entry)) left first (now (seen .entry)) (now (seen .exit)) r ⌝ }
 {
-    if k == 0 {
-        return 0;
+    let mut k = first;
+    while k != 0 {
+        let fault = fault_at(v, p, left, k, seen);
+        if fault != 0 {
+            return fault;
+        }
+        let child = child_of(p, k);
+        let next = next_of(p, k);
+        insert(seen, k);
+        let inner = walk_from(v, p, left - 1, child, seen);
+        if inner != 0 {
+            return inner;
+        }
+        k = next;
     }
-    let fault = fault_at(v, p, depth, k, has(seen, k));
-    if fault != 0 {
-        return fault;
-    }
-    let child = child_of(p, k);
-    let next = next_of(p, k);
-    insert(seen, k);
-    let inner = walk_from(v, p, depth + 1, child, seen);
-    if inner != 0 {
-        return inner;
-    }
-    walk_from(v, p, depth, next, seen)
+    0
 }
 
 fn is_headed(p: &[u32]) -> bool
@@ -178,7 +183,7 @@ pub fn policy_refusal(v: &[u32], p: &[u32]) -> u32
         return 5;
     }
     let mut seen = [0; MARKS];
-    walk_from(v, p, 0, first_term(p), &mut seen)
+    walk_from(v, p, LEVELS, first_term(p), &mut seen)
 }
 
 // A second policy's refusals are 10 greater.
@@ -191,7 +196,8 @@ fn second_refusal(refusal: u32) -> u32
 
 // The vocabulary's first refusal, then that of a policy, which may be the latter of two.
 fn refusal_of(v: &[u32], p: &[u32], latter: bool) -> u32
-    ensures { λ r. ⌜ r ≡ orElse (vocabularyRefusal (now (v .entry))) (numbered latter (policyRefusal (now (v .entry)) (now (p .entry)))) ⌝ }
+    ensures { λ r. ⌜ r ≡ orElse (vocabularyRefusal (now (v .entry)))
+        (numbered latter (policyRefusal (now (v .entry)) (now (p .entry)))) ⌝ }
 {
     let refusal = vocabulary_refusal(v);
     if refusal != 0 {

@@ -1,140 +1,124 @@
 -- Laws of one record of the model: the fact that it states, by its kind and name.
 use Prim.Native.Nat.{_+_, _-_, _≤_, ℕ}
-use mathlib.Core.Bool.{Bool, and-false, cond, false, not, true}
+use mathlib.Core.Bool.{Bool, and-false, false, not, true}
 use mathlib.Core.List.{List}
-use mathlib.Core.Path.{_∙_, _≡_, refl, sym}
+use mathlib.Core.Path.{_∙_, _≡_, refl, subst, sym}
 use native.Mathlib.Omega.{arith}
 use borrow.Author.Tests.{eq-eqb, eqb-false, eqb-true, ne-eqb, not-false, not-true}
 use lib.Dec.{eqb}
-use lib.ListN.{getD, set}
-use Rattle.meaning.specs.Model.{Fact, edge, factAt, factKind, factName, factOther, factOwner, member, value}
-use Rattle.meaning.specs.ModelCheck.{onEdge}
-use Rattle.model.specs.Chain.{Stated}
-use Rattle.satisfaction.specs.Classes.{entered, follows}
-use Rattle.satisfaction.specs.Links.{agrees, link, linkOf, none, noted}
+use lib.ListN.{getD, length, set}
+use Rattle.meaning.proofs.Links.{split}
+use Rattle.meaning.specs.Limits.{mostIndividuals, workSize}
+use Rattle.meaning.specs.Lists.{All, cons, nil}
+use Rattle.meaning.specs.Model.{Fact, edge, factAt, factKind, factName, factOther, factOwner, factsOf, individualCount}
+use Rattle.meaning.specs.Model.{member, value}
+use Rattle.meaning.specs.Records.{Name}
+use Rattle.model.specs.Chain.{Readable, Stated, factLinks}
+use Rattle.records.specs.Chains.{Along, along-end, along-more}
+use Rattle.satisfaction.specs.Classes.{Interpreted, entered, follows, isRanged, ownerOf}
+use Rattle.satisfaction.specs.Links.{Compared, link, linkOf, none}
 use Rattle.satisfaction.specs.Places.{classPlace, classesOf, flagOf, flagsAt, putIn, valuesAt}
 use Rattle.words.specs.Rows.{classWords}
 use Rattle.words.specs.Sets.{inSet}
 
--- ---- what a record states
+module _ {m : List ℕ} {k : ℕ} (s : Stated m k) where
+  -- what holds of the fact, by the three kinds
+  pub by-kind : (P : Fact → Type 0) → (factKind m k ≡ 1 → P (member (factName m k) (factOwner m k))) →
+      (factKind m k ≡ 2 → P (edge (factName m k) (factOwner m k) (factOther m k))) →
+      (factKind m k ≡ 3 → P (value (factName m k) (factOwner m k) (factOther m k))) → P (factAt m k)
+  by-kind P f g h =
+      split P (eqb (factKind m k) 1) (λ a. f (eqb-true (factKind m k) 1 a)) (λ a.
+      split P (eqb (factKind m k) 2) (λ b. g (eqb-true (factKind m k) 2 b)) (λ b.
+      let i = s .kind in
+      let x = eqb-false (factKind m k) 1 a in
+      let y = eqb-false (factKind m k) 2 b in h (omega arith)))
 
-module _ (m : List ℕ) (k : ℕ) {kind : ℕ} (ek : kind ≡ factKind m k) where
-  member-fact : kind ≡ 1 → factAt m k ≡ member (factName m k) (factOwner m k)
-  member-fact e = rw (sym ek ∙ e)
+  pub owner-at : ownerOf (factAt m k) ≡ factOwner m k
+  owner-at = by-kind (λ x. ownerOf x ≡ factOwner m k) (λ _. refl) (λ _. refl) (λ _. refl)
 
-  pub edge-fact : kind ≡ 2 → factAt m k ≡ edge (factName m k) (factOwner m k) (factOther m k)
-  edge-fact e = rw (sym ek ∙ e)
-
-  pub value-fact : kind ≡ 3 → factAt m k ≡ value (factName m k) (factOwner m k) (factOther m k)
-  value-fact e = rw (sym ek ∙ e)
-
-  not-member : (kind ≡ 1 → ⊥) → (P : Fact → Type 0) → ((r i j : ℕ) → P (edge r i j)) → ((f i v : ℕ) → P (value f i v)) → P (factAt m k)
-  not-member n P e v = rw (← ek, ne-eqb kind 1 n) (go (eqb kind 2))
-    where
-      go : (b : Bool) → P (cond b (edge (factName m k) (factOwner m k) (factOther m k)) (value (factName m k) (factOwner m k) (factOther m k)))
-      go true = e (factName m k) (factOwner m k) (factOther m k)
-      go false = v (factName m k) (factOwner m k) (factOther m k)
-
-  pub not-edge : (kind ≡ 2 → ⊥) → (P : Fact → Type 0) → ((a i : ℕ) → P (member a i)) → ((f i v : ℕ) → P (value f i v)) → P (factAt m k)
-  not-edge n P e v = rw (← ek, ne-eqb kind 2 n) (go (eqb kind 1))
-    where
-      go : (b : Bool) → P (cond b (member (factName m k) (factOwner m k)) (value (factName m k) (factOwner m k) (factOther m k)))
-      go true = e (factName m k) (factOwner m k)
-      go false = v (factName m k) (factOwner m k) (factOther m k)
-
-  pub not-value : Stated m k → (kind ≡ 3 → ⊥) → (P : Fact → Type 0) → ((a i : ℕ) → P (member a i)) → ((r i j : ℕ) → P (edge r i j)) → P (factAt m k)
-  not-value s n P f e = go (eqb kind 1) refl
-    where
-      go : (b : Bool) → eqb kind 1 ≡ b → P (factAt m k)
-      go true d = rw (member-fact (eqb-true kind 1 d)) (f (factName m k) (factOwner m k))
-      go false d =
-          let z = eqb-false kind 1 d in
-          let i = s .kind in
-          rw (edge-fact (omega arith)) (e (factName m k) (factOwner m k) (factOther m k))
-
-  -- ---- a class entered
-
-  pub entered-none : (w : List ℕ) → (kind ≡ 1 → ⊥) → w ≡ entered w (factAt m k)
-  entered-none w n = not-member n (λ x. w ≡ entered w x) (λ r i j. refl) (λ f i v. refl)
-
-  pub entered-one : (w : List ℕ) {i a at : ℕ} {w′ : List ℕ} → kind ≡ 1 → i ≡ factOwner m k → a ≡ factName m k → at ≡ classPlace i → w′ ≡ putIn classWords w at a →
-      w′ ≡ entered w (factAt m k)
-  entered-one w e ei ea ep h = h ∙ rw (member-fact e, ep, ei, ea)
-
-  -- ---- an edge
-
-  module _ (r : ℕ) (q : ℕ → ℕ → Bool) where
-    pub unranged : (kind ≡ 2 → ⊥) → true ≡ onEdge r q (factAt m k)
-    unranged n = not-edge n (λ x. true ≡ onEdge r q x) (λ a i. refl) (λ f i v. refl)
-
-    module _ {a : ℕ} (e : kind ≡ 2) (ea : a ≡ factName m k) where
-      pub other-role : (a ≡ r → ⊥) → true ≡ onEdge r q (factAt m k)
-      other-role n = rw (edge-fact e, ← ea, ne-eqb r a (λ d. n (sym d)))
-
-      pub ranged : {b : Bool} → a ≡ r → b ≡ q (factOwner m k) (factOther m k) → b ≡ onEdge r q (factAt m k)
-      ranged d h = h ∙ rw (edge-fact e, ← ea, eq-eqb r a (sym d))
-
-  -- ---- a value of a name
-
-  module _ (s : Stated m k) (sort a : ℕ) where
-    unlinked : (kind ≡ sort → ⊥) → linkOf sort a (factAt m k) ≡ none
-    unlinked n = go (eqb kind 1) (eqb kind 2) refl refl
-      where
-        go : (b c : Bool) → eqb kind 1 ≡ b → eqb kind 2 ≡ c → linkOf sort a (factAt m k) ≡ none
-        go true c d e = rw (member-fact (eqb-true kind 1 d))
-        go false true d e = let z = eqb-true kind 2 e in rw (edge-fact z, ne-eqb sort 2 (λ h. n (z ∙ sym h)))
-        go false false d e =
-            let x = eqb-false kind 1 d in
-            let y = eqb-false kind 2 e in
-            let i = s .kind in
-            let z : kind ≡ 3 = omega arith in
-            rw (value-fact z, ne-eqb sort 3 (λ h. n (z ∙ sym h)))
-
-    module _ {b : ℕ} (e : kind ≡ sort) (eb : b ≡ factName m k) (least : 2 ≤ sort) where
-      -- by the two kinds that have a value
-      valued : (P : Fact → Type 0) → (sort ≡ 2 → P (edge b (factOwner m k) (factOther m k))) → (sort ≡ 3 → P (value b (factOwner m k) (factOther m k))) → P (factAt m k)
-      valued P f g = go (eqb kind 2) refl
-        where
-          go : (c : Bool) → eqb kind 2 ≡ c → P (factAt m k)
-          go true d = let z = eqb-true kind 2 d in rw (edge-fact z, ← eb) (f (sym e ∙ z))
-          go false d =
-              let y = eqb-false kind 2 d in
-              let i = s .kind in
-              let z : kind ≡ 3 = omega arith in
-              rw (value-fact z, ← eb) (g (sym e ∙ z))
-
-      misnamed : (b ≡ a → ⊥) → linkOf sort a (factAt m k) ≡ none
-      misnamed n =
-          valued (λ x. linkOf sort a x ≡ none) (λ z. rw (ne-eqb a b (λ d. n (sym d)), and-false (eqb sort 2)))
-          (λ z. rw (ne-eqb a b (λ d. n (sym d)), and-false (eqb sort 3)))
-
-      linked-to : b ≡ a → linkOf sort a (factAt m k) ≡ link (factOwner m k) (factOther m k)
-      linked-to d = valued (λ x. linkOf sort a x ≡ link (factOwner m k) (factOther m k)) (λ z. rw (z, eq-eqb a b (sym d))) (λ z. rw (z, eq-eqb a b (sym d)))
+  module _ {kind : ℕ} (ek : kind ≡ factKind m k) where
+    -- ---- a class entered
 
     module _ (w : List ℕ) where
-      -- the answer, and the words afterwards
-      abbrev Told : Bool → List ℕ → Type 0
-      Told t w′ = (t ≡ agrees w (linkOf sort a (factAt m k))) × (w′ ≡ noted w (linkOf sort a (factAt m k)))
+      pub entered-none : (kind ≡ 1 → ⊥) → w ≡ entered w (factAt m k)
+      entered-none n = by-kind (λ x. w ≡ entered w x) (λ e. absurd (n (ek ∙ e))) (λ _. refl) (λ _. refl)
 
-      untold : linkOf sort a (factAt m k) ≡ none → Told true w
-      untold e = (rw e, rw e)
+      pub entered-one : {i a at : ℕ} {w′ : List ℕ} → kind ≡ 1 → i ≡ factOwner m k → a ≡ factName m k → at ≡ classPlace i → w′ ≡ putIn classWords w at a →
+          w′ ≡ entered w (factAt m k)
+      entered-one {w′ = w′} e ei ea ep h =
+          by-kind (λ x. w′ ≡ entered w x) (λ _. h ∙ rw (ep, ei, ea)) (λ d. absurd (omega arith)) (λ d. absurd (omega arith))
 
-      pub note-kind : (kind ≡ sort → ⊥) → Told true w
-      note-kind n = untold (unlinked n)
+    -- ---- an edge
 
-      module _ {b : ℕ} (e : kind ≡ sort) (eb : b ≡ factName m k) (least : 2 ≤ sort) where
-        pub note-name : (b ≡ a → ⊥) → Told true w
-        note-name n = untold (misnamed e eb least n)
+    module _ (r c : ℕ) where
+      pub unranged : (kind ≡ 2 → ⊥) → true ≡ isRanged (factsOf m) r c (factAt m k)
+      unranged n = by-kind (λ x. true ≡ isRanged (factsOf m) r c x) (λ _. refl) (λ e. absurd (n (ek ∙ e))) (λ _. refl)
 
-        module _ {i x at : ℕ} (d : b ≡ a) (ei : i ≡ factOwner m k) (ea : at ≡ i - 1) (ex : x ≡ factOther m k) where
-          here : linkOf sort a (factAt m k) ≡ link i x
-          here = linked-to e eb least d ∙ rw (ei, ex)
+      pub other-role : {a : ℕ} → a ≡ factName m k → (a ≡ r → ⊥) → true ≡ isRanged (factsOf m) r c (factAt m k)
+      other-role {a} ea n = by-kind (λ x. true ≡ isRanged (factsOf m) r c x) (λ _. refl) (λ _. rw (← ea, ne-eqb r a (λ d. n (sym d)))) (λ _. refl)
 
-          pub note-again : (getD w (flagsAt + at) 0 ≡ 0 → ⊥) → Told (eqb (getD w (valuesAt + at) 0) x) w
-          note-again n = let f : eqb (flagOf w i) 0 ≡ false = ne-eqb (flagOf w i) 0 (rw ea at n) in (rw (here, f, ea), rw (here, f))
+    module _ {w : List ℕ} {j : ℕ} (i : Interpreted m w) (e : kind ≡ 2) (ej : j ≡ factOther m k) where
+      pub target-named : Name mostIndividuals j × (workSize ≤ length w)
+      target-named = let t = s .target (sym ek ∙ e) in let n = i .readable .individuals in (omega arith, i .long)
 
-          pub note-first : getD w (flagsAt + at) 0 ≡ 0 → Told true (set (set w (flagsAt + at) 1) (valuesAt + at) x)
-          note-first z = let f : eqb (flagOf w i) 0 ≡ true = eq-eqb (flagOf w i) 0 (rw ea at z) in (rw (here, f), rw (here, f, ea))
+      pub ranged : (r c : ℕ) {a : ℕ} {b : Bool} → a ≡ factName m k → a ≡ r → b ≡ inSet (classesOf w j) c → b ≡ isRanged (factsOf m) r c (factAt m k)
+      ranged r c {a} {b} ea d h =
+          by-kind (λ x. b ≡ isRanged (factsOf m) r c x) (λ d. absurd (omega arith))
+          (λ z. h ∙ i .classed .rows j c (rw ej (s .target z)) ∙ rw (← ea, eq-eqb r a (sym d), ej)) (λ d. absurd (omega arith))
+
+    -- ---- a value of a name
+
+    module _ (sort a : ℕ) where
+      unlinked : (kind ≡ sort → ⊥) → linkOf sort a (factAt m k) ≡ none
+      unlinked n =
+          by-kind (λ x. linkOf sort a x ≡ none) (λ _. refl) (λ e. rw (ne-eqb sort 2 (λ h. n (ek ∙ e ∙ sym h))))
+          (λ e. rw (ne-eqb sort 3 (λ h. n (ek ∙ e ∙ sym h))))
+
+      module _ {b : ℕ} (eb : b ≡ factName m k) where
+        misnamed : (b ≡ a → ⊥) → linkOf sort a (factAt m k) ≡ none
+        misnamed n =
+            let d = ne-eqb a b (λ d. n (sym d)) in
+            by-kind (λ x. linkOf sort a x ≡ none) (λ _. refl) (λ _. rw (← eb, d, and-false (eqb sort 2))) (λ _. rw (← eb, d, and-false (eqb sort 3)))
+
+        linked-to : kind ≡ sort → 2 ≤ sort → b ≡ a → linkOf sort a (factAt m k) ≡ link (factOwner m k) (factOther m k)
+        linked-to e least d =
+            let h = eq-eqb a b (sym d) in
+            by-kind (λ x. linkOf sort a x ≡ link (factOwner m k) (factOther m k)) (λ z. absurd (omega arith))
+            (λ z. rw (sym e ∙ ek ∙ z, ← eb, h)) (λ z. rw (sym e ∙ ek ∙ z, ← eb, h))
+
+      module _ (w : List ℕ) where
+        -- the answer, and the words afterwards
+        abbrev Told : Bool → List ℕ → Type 0
+        Told t w′ = Compared w w′ (linkOf sort a (factAt m k)) t
+
+        untold : linkOf sort a (factAt m k) ≡ none → Told true w
+        untold e = record { told = rw e; words = rw e }
+
+        pub note-kind : (kind ≡ sort → ⊥) → Told true w
+        note-kind n = untold (unlinked n)
+
+        module _ {b : ℕ} (eb : b ≡ factName m k) where
+          pub note-name : (b ≡ a → ⊥) → Told true w
+          note-name n = untold (misnamed eb n)
+
+          module _ {i x at : ℕ} (e : kind ≡ sort) (least : 2 ≤ sort) (d : b ≡ a) (ei : i ≡ factOwner m k) (ea : at ≡ i - 1) (ex : x ≡ factOther m k) where
+            here : linkOf sort a (factAt m k) ≡ link i x
+            here = linked-to eb e least d ∙ rw (ei, ex)
+
+            pub note-again : (getD w (flagsAt + at) 0 ≡ 0 → ⊥) → Told (eqb (getD w (valuesAt + at) 0) x) w
+            note-again n = let f = ne-eqb (flagOf w i) 0 (rw ea at n) in record { told = rw (here, f, ea); words = rw (here, f) }
+
+            pub note-first : getD w (flagsAt + at) 0 ≡ 0 → Told true (set (set w (flagsAt + at) 1) (valuesAt + at) x)
+            note-first z = let f = eq-eqb (flagOf w i) 0 (rw ea at z) in record { told = rw (here, f); words = rw (here, f, ea) }
+
+-- each individual that has a fact is one of the header's
+pub owners-named : {m : List ℕ} → Readable m → All (λ x. Name (individualCount m) (ownerOf x)) (factsOf m)
+unfolding factLinks
+owners-named {m} r = go (r .facts)
+  where
+    go : {k : ℕ} {F : List Fact} → Along (factLinks m) k F → All (λ x. Name (individualCount m) (ownerOf x)) F
+    go (along-end e) = nil
+    go (along-more n o s l) = cons (subst (Name (individualCount m)) (sym (owner-at s)) (s .owner)) (go l)
 
 -- ---- a pair of classes
 

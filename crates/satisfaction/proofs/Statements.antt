@@ -1,134 +1,120 @@
 -- Laws of what a vocabulary states: tests of one after another, and what the facts obey.
-use Prim.Native.Nat.{_+_, _<_, _≤_, suc, zero, ℕ}
-use mathlib.Core.Bool.{Bool, _&&_, _||_, cond, false, not, true}
-use mathlib.Core.List.{List, [], _∷_, foldl}
+use Prim.Native.Nat.{_+_, _-_, _<_, _≤_, suc, zero, ℕ}
+use mathlib.Core.Bool.{Bool, _||_, cond, false, not, true}
+use mathlib.Core.List.{List, [], _∷_}
 use mathlib.Core.Logic.{_↔_}
-use mathlib.Core.Path.{_∙_, _≡_, ap, refl, subst, sym}
+use mathlib.Core.Path.{_∙_, _≡_, refl, sym}
+use lib.Dec.{T, T-not, not-T}
+use native.Mathlib.Numerals.{add-one}
 use native.Mathlib.Omega.{arith}
-use borrow.Author.Tests.{eqb-false, eqb-true, ne-eqb, not-false, not-true}
-use lib.Dec.{T, T-not, eqb, not-T}
+use borrow.Author.Tests.{ne-eqb, not-false, not-true}
 use Rattle.meaning.proofs.ModelCheck.{is-member, member-is, obeys-iff}
-use Rattle.meaning.proofs.Rules.{any-in, any-mono, any-out, isTrue, same-test}
-use Rattle.meaning.specs.Lists.{_∈_, all, any, counting, here, there}
-use Rattle.meaning.specs.Model.{Fact, edge, factAt, factKind, factName, factOther, factOwner, factsOf, individualCount, member}
-use Rattle.meaning.specs.Model.{value}
+use Rattle.meaning.proofs.Rules.{all-at, all-in, all-out, any-in, any-mono, any-out, same-test}
+use Rattle.meaning.specs.Lists.{All, _∈_, all, any, cons, counting, nil}
+use Rattle.meaning.specs.Model.{Fact, factsOf, individualCount, member}
 use Rattle.meaning.specs.ModelCheck.{isMember, isModel, obeys}
-use Rattle.meaning.specs.Records.{Name}
-use Rattle.meaning.specs.Vocabulary.{Axiom, Vocabulary, axiomAt, axiomKind, axiomLeft, axiomNext, axiomRight, below, disjoint}
-use Rattle.meaning.specs.Vocabulary.{functionalFeature, functionalRole, range, vocabularyOf}
-use Rattle.model.specs.Chain.{Lists, Readable, lists-more, lists-none}
-use Rattle.satisfaction.specs.Classes.{Classed, follows, ownerOf}
+use Rattle.meaning.specs.Records.{Name, falling, lastOf}
+use Rattle.meaning.specs.Vocabulary.{axiomAt, axiomKind, axiomLeft, axiomNext, axiomRight, below, disjoint, firstAxiom}
+use Rattle.meaning.specs.Vocabulary.{functionalFeature, functionalRole, range, vocabularyOf, vocabularyRefusal}
+use Rattle.model.specs.Chain.{Readable}
+use Rattle.records.proofs.Chains.{Walking, walking-ends, walking-falls, walking-found, walking-on, walking-starts}
+use Rattle.satisfaction.proofs.Facts.{owners-named}
+use Rattle.satisfaction.specs.Classes.{Classed, follows}
 use Rattle.satisfaction.specs.Places.{classesOf}
-use Rattle.vocabulary.proofs.Chain.{Walking, walking-on}
+use Rattle.vocabulary.proofs.Chain.{axiomLinks, axioms-along}
+use Rattle.words.proofs.Lists.{in-counting}
 use Rattle.words.specs.Sets.{inSet}
 
 -- ---- one after another
 
 -- c is the test of the first, and b the whole answer
-module _ {A : Type 0} (p : A → Bool) (x : A) {b c : Bool} (e : c ≡ p x) where
-  pub all-fails : (l : List A) → b ≡ all p (x ∷ l) → not c ≡ true → false ≡ b
-  all-fails l h n = sym (h ∙ rw (← e, not-true c n))
+module _ {A : Type 0} (p : A → Bool) (x : A) {b c : Bool} (e : c ≡ p x) (l : List A) (h : b ≡ all p (x ∷ l)) where
+  pub all-fails : not c ≡ true → false ≡ b
+  all-fails n = sym (h ∙ rw (← e, not-true c n))
 
-  pub all-on : (l : List A) → b ≡ all p (x ∷ l) → not c ≡ false → b ≡ all p l
-  all-on l h n = h ∙ rw (← e, not-false c n)
+  pub all-on : not c ≡ false → b ≡ all p l
+  all-on n = h ∙ rw (← e, not-false c n)
 
-module _ (p : ℕ → Bool) where
-  pub counted-all : (n : ℕ) → ((d : ℕ) → 1 ≤ d → d ≤ n → p d ≡ true) → true ≡ all p (counting 1 n)
-  counted-all n f = sym (go 1 n (λ d a b. f d a (omega arith)))
-    where
-      go : (k n : ℕ) → ((d : ℕ) → k ≤ d → d < k + n → p d ≡ true) → all p (counting k n) ≡ true
-      go k zero f = refl
-      go k (suc n) f = rw (f k (omega arith) (omega arith)) (go (suc k) n (λ d a b. f d (omega arith) (omega arith)))
+-- a loop over 1 to n that has come past i: what holds of those that are left
+pub record Counting (T : List ℕ → Type 0) (n i : ℕ) : Type 0 where
+  pub bound : i ≤ n
+  pub holds : T (counting (i + 1) (n - i))
 
-  pub counted-fails : (n d : ℕ) → 1 ≤ d → d ≤ n → p d ≡ false → false ≡ all p (counting 1 n)
-  counted-fails n d a b f = sym (go 1 n a (omega arith))
-    where
-      go : (k n : ℕ) → k ≤ d → d < k + n → all p (counting k n) ≡ false
-      go k zero l h = absurd (omega arith)
-      go k (suc n) l h = at (eqb k d) refl (λ i. go (suc k) n (omega arith) (omega arith))
-        where
-          both : (b : Bool) → b && false ≡ false
-          both true = refl
-          both false = refl
+module _ {T : List ℕ → Type 0} {n : ℕ} where
+  pub counting-starts : T (counting 1 n) → Counting T n 0
+  counting-starts h = let e : n - 0 ≡ n = omega arith in record { bound = omega arith; holds = rw e h }
 
-          at : (b : Bool) → eqb k d ≡ b → ((k ≡ d → ⊥) → all p (counting (suc k) n) ≡ false) → p k && all p (counting (suc k) n) ≡ false
-          at true e rest = rw (ap p (eqb-true k d e) ∙ f)
-          at false e rest = rw (rest (eqb-false k d e)) (both (p k))
+  module _ {i : ℕ} (t : Counting T n i) where
+    pub counting-ends : n ≤ i → T []
+    counting-ends h = let e : n - i ≡ 0 = omega arith in rw e at (t .holds)
 
-  -- d more are tested
-  pub counted-more : {d : ℕ} → ((j : ℕ) → 1 ≤ j → j ≤ d → p j ≡ true) → p (d + 1) ≡ true → (j : ℕ) → 1 ≤ j → j ≤ d + 1 → p j ≡ true
-  counted-more {d} f h j a b = go (eqb j (d + 1)) refl
-    where
-      go : (t : Bool) → eqb j (d + 1) ≡ t → p j ≡ true
-      go true e = ap p (eqb-true j (d + 1) e) ∙ h
-      go false e = let n = eqb-false j (d + 1) e in f j a (omega arith)
+    module _ (h : i < n) where
+      next : T ((i + 1) ∷ counting (i + 1 + 1) (n - (i + 1)))
+      next = let e : n - i ≡ suc (n - (i + 1)) = omega arith in rw (e, ← add-one (i + 1)) at (t .holds)
 
--- ---- the facts of the model
+      -- what this one settles, whatever follows
+      pub counting-found : {B : Type 0} → ((l : List ℕ) → T ((i + 1) ∷ l) → B) → B
+      counting-found f = f (counting (i + 1 + 1) (n - (i + 1))) next
 
-pub owner-at : (m : List ℕ) (k : ℕ) → ownerOf (factAt m k) ≡ factOwner m k
-owner-at m k = go (eqb (factKind m k) 1) (eqb (factKind m k) 2)
-  where
-    go : (b c : Bool) → ownerOf (cond b (member (factName m k) (factOwner m k)) (cond c (edge (factName m k) (factOwner m k) (factOther m k)) (value (factName m k) (factOwner m k) (factOther m k)))) ≡ factOwner m k
-    go true c = refl
-    go false true = refl
-    go false false = refl
+      pub counting-on : {U : List ℕ → Type 0} → ((l : List ℕ) → T ((i + 1) ∷ l) → U l) → Counting U n (i + 1)
+      counting-on f = record { bound = omega arith; holds = f (counting (i + 1 + 1) (n - (i + 1))) next }
 
-pub owners-named : {m : List ℕ} {k : ℕ} {F : List Fact} → Lists m k F → (x : Fact) → x ∈ F → Name (individualCount m) (ownerOf x)
-owners-named (lists-none e) x i = elim i [ ]
-owners-named {m} (lists-more {k = k} {F = F} s l) x i = go (λ j. owners-named l x j) i
-  where
-    go : (x ∈ F → Name (individualCount m) (ownerOf x)) → x ∈ (factAt m k ∷ F) → Name (individualCount m) (ownerOf x)
-    go f (here e) = subst (λ (j : ℕ). Name (individualCount m) j) (sym (ap ownerOf e ∙ owner-at m k)) (s .owner)
-    go f (there j) = f j
+-- ---- two classes
+
+imp-out : (s t : Bool) → T (not s || t) → T s → T t
+imp-out true t h k = h
+imp-out false t h k = absurd k
+
+imp-in : (s t : Bool) → (T s → T t) → T (not s || t)
+imp-in true t f = f tt
+imp-in false t f = tt
+
+counted : {P : ℕ → Type 0} (k n : ℕ) → ((i : ℕ) → k ≤ i → i < k + n → P i) → All P (counting k n)
+counted k zero f = nil
+counted k (suc n) f = cons (f k (omega arith) (omega arith)) (counted (suc k) n (λ i a b. f i (omega arith) (omega arith)))
 
 member-iff : (F : List Fact) (a i : ℕ) → T (any (isMember a i) F) ↔ (member a i ∈ F)
 member-iff F a i = (λ t. any-mono (λ x m. member-is a i x m) (any-out (isMember a i) F t), λ m. any-in (isMember a i) (any-mono (λ x e. is-member a i x e) m))
-
--- ---- two classes
 
 -- by the sets of the work slice, which are right
 module _ {m w : List ℕ} (r : Readable m) (c : Classed m w) (a b : ℕ) where
   abbrev F : List Fact
   F = factsOf m
 
-  in-iff : (i d : ℕ) → Name (individualCount m) i → T (inSet (classesOf w i) d) ↔ (member d i ∈ F)
-  in-iff i d n = rw (c .rows i d n) (member-iff F d i)
+  in-iff : (d i : ℕ) → Name (individualCount m) i → T (inSet (classesOf w i) d) ↔ (member d i ∈ F)
+  in-iff d i n = rw (c .rows i d n) (member-iff F d i)
 
   abbrev concludes : Bool → ℕ → Bool
   concludes apart i = cond apart (not (inSet (classesOf w i) b)) (inSet (classesOf w i) b)
 
   module _ (apart : Bool) where
     pairs : T (all (follows w a b apart) (counting 1 (individualCount m))) ↔ ((i : ℕ) → Name (individualCount m) i → member a i ∈ F → T (concludes apart i))
-    pairs = (λ t i n e. out (inSet (classesOf w i) a) (concludes apart i) (at t i n) (in-iff i a n .1 e), λ f. isTrue (sym (counted-all (follows w a b apart) (individualCount m) (λ d p q. back f d (p, q)))))
-      where
-        out : (s t : Bool) → T (not s || t) → T s → T t
-        out true t h k = h
-        out false t h k = absurd k
+    pairs = (
+      λ t i n e.
+          let f = all-at (all-out (follows w a b apart) (counting 1 (individualCount m)) t) (in-counting 1 (individualCount m) i (n .0) (omega arith)) in
+          imp-out (inSet (classesOf w i) a) (concludes apart i) f (in-iff a i n .1 e),
+      λ f. all-in (follows w a b apart) (counted 1 (individualCount m) (λ i l h.
+          let n : Name (individualCount m) i = (l, omega arith) in
+          imp-in (inSet (classesOf w i) a) (concludes apart i) (λ t. f i n (in-iff a i n .0 t)))),
+    )
 
-        at : T (all (follows w a b apart) (counting 1 (individualCount m))) → (i : ℕ) → Name (individualCount m) i → T (follows w a b apart i)
-        at t i n = go (follows w a b apart i) refl
-          where
-            go : (s : Bool) → follows w a b apart i ≡ s → T s
-            go true e = tt
-            go false e = subst T (sym (counted-fails (follows w a b apart) (individualCount m) i (n .0) (n .1) e)) t
-
-        back : ((i : ℕ) → Name (individualCount m) i → member a i ∈ F → T (concludes apart i)) → (d : ℕ) → Name (individualCount m) d → follows w a b apart d ≡ true
-        back f d n = go (inSet (classesOf w d) a) (concludes apart d) (λ t. f d n (in-iff d a n .0 t))
-          where
-            go : (s t : Bool) → (T s → T t) → not s || t ≡ true
-            go true true h = refl
-            go true false h = absurd (h tt)
-            go false t h = refl
-
-  named : (i d : ℕ) → member d i ∈ F → Name (individualCount m) i
-  named i d e = owners-named (r .lists) (member d i) e
+  named : (d i : ℕ) → member d i ∈ F → Name (individualCount m) i
+  named d i e = all-at (owners-named r) e
 
   module _ {t : Bool} {n : ℕ} (en : n ≡ individualCount m) where
     pub below-told : t ≡ all (follows w a b false) (counting 1 n) → t ≡ obeys F (below a b)
-    below-told e = e ∙ rw en (same-test _ (obeys F (below a b)) (λ h. obeys-iff F 0 (below a b) .1 (λ i k. let n = named i a k in in-iff i b n .0 (pairs false .0 h i n k))) (λ h. pairs false .1 (λ i n k. in-iff i b n .1 (obeys-iff F 0 (below a b) .0 h i k))))
+    below-told e =
+        let o = obeys-iff F 0 (below a b) in
+        e ∙ rw en (same-test (all (follows w a b false) (counting 1 (individualCount m))) (obeys F (below a b))
+        (λ h. o .1 (λ i k. let n = named a i k in in-iff b i n .0 (pairs false .0 h i n k)))
+        (λ h. pairs false .1 (λ i n k. in-iff b i n .1 (o .0 h i k))))
 
     pub disjoint-told : t ≡ all (follows w a b true) (counting 1 n) → t ≡ obeys F (disjoint a b)
-    disjoint-told e = e ∙ rw en (same-test _ (obeys F (disjoint a b)) (λ h. obeys-iff F 0 (disjoint a b) .1 (λ i k l. let n = named i a k in T-not (inSet (classesOf w i) b) (pairs true .0 h i n k) (in-iff i b n .1 l))) (λ h. pairs true .1 (λ i n k. not-T (inSet (classesOf w i) b) (λ l. obeys-iff F 0 (disjoint a b) .0 h i k (in-iff i b n .0 l)))))
+    disjoint-told e =
+        let o = obeys-iff F 0 (disjoint a b) in
+        e ∙ rw en (same-test (all (follows w a b true) (counting 1 (individualCount m))) (obeys F (disjoint a b))
+        (λ h. o .1 (λ i k l. let n = named a i k in T-not (inSet (classesOf w i) b) (pairs true .0 h i n k) (in-iff b i n .1 l)))
+        (λ h. pairs true .1 (λ i n k. not-T (inSet (classesOf w i) b) (λ l. o .0 h i k (in-iff b i n .0 l)))))
 
 -- ---- what record k of the vocabulary states, by its kind
 
@@ -150,31 +136,28 @@ module _ (F : List Fact) (v : List ℕ) (k : ℕ) {kind a b : ℕ} (ek : kind �
 
 -- ---- all that is stated
 
-module _ (F : List Fact) where
-  -- so far, and what is stated next
-  abbrev pub obeyed : Bool → Axiom → Bool
-  obeyed b x = b && obeys F x
+-- a loop that has come to record k of the vocabulary: the answer for all is that for those that are left
+pub record Obeying (F : List Fact) (v : List ℕ) (k : ℕ) : Type 0 where
+  pub walk : Walking (axiomLinks v) (λ l. isModel F (vocabularyOf v) ≡ all (obeys F) l) k
 
-  fold-false : (K : List Axiom) → foldl obeyed false K ≡ false
-  fold-false [] = refl
-  fold-false (x ∷ K) = fold-false K
+module _ {F : List Fact} {v : List ℕ} {k : ℕ} where
+  pub obeying-starts : vocabularyRefusal v ≡ 0 → k ≡ firstAxiom v → Obeying F v k
+  obeying-starts h e = record { walk = walking-starts (axioms-along v h) e refl }
 
-  fold-true : (K : List Axiom) → foldl obeyed true K ≡ all (obeys F) K
-  fold-true [] = refl
-  fold-true (x ∷ K) = go (obeys F x) (fold-true K)
-    where
-      go : (b : Bool) → foldl obeyed true K ≡ all (obeys F) K → foldl obeyed b K ≡ b && all (obeys F) K
-      go true h = h
-      go false h = fold-false K
+  module _ (x : Obeying F v k) where
+    pub obeying-ends : k ≡ 0 → true ≡ isModel F (vocabularyOf v)
+    obeying-ends z = sym (walking-ends (x .walk) z)
 
-  pub model-told : (K : Vocabulary) {b : Bool} → b ≡ foldl obeyed true (K .axioms) → b ≡ isModel F K
-  model-told K e = e ∙ fold-true (K .axioms)
+    module _ (n : k ≡ 0 → ⊥) where
+      pub obeying-fails : {b : Bool} → b ≡ obeys F (axiomAt v k) → not b ≡ true → false ≡ isModel F (vocabularyOf v)
+      unfolding axiomLinks
+      obeying-fails e h = walking-found (x .walk) n (λ l a. all-fails (obeys F) (axiomAt v k) e l a h)
 
-  module _ {v : List ℕ} {k : ℕ} {b : Bool} (w : Walking v obeyed true k true) (n : k ≡ 0 → ⊥) (e : b ≡ obeys F (axiomAt v k)) where
-    pub model-fails : not b ≡ true → false ≡ isModel F (vocabularyOf v)
-    model-fails h =
-        let a = walking-on w n refl {t = false} (sym (sym e ∙ not-true b h)) in
-        model-told (vocabularyOf v) (sym (fold-false (a .left)) ∙ a .same)
+      module _ {j : ℕ} (z : j ≡ axiomNext v k) where
+        pub obeying-on : {b : Bool} → b ≡ obeys F (axiomAt v k) → not b ≡ false → Obeying F v j
+        unfolding axiomLinks
+        obeying-on e h = record { walk = walking-on (x .walk) n z (λ l a. all-on (obeys F) (axiomAt v k) e l a h) }
 
-    pub model-on : {x : ℕ} → not b ≡ false → x ≡ axiomNext v k → Walking v obeyed true x true
-    model-on h p = walking-on w n p (sym (sym e ∙ not-false b h))
+        pub obeying-falls : falling (lastOf 4 v) j < falling (lastOf 4 v) k
+        unfolding axiomLinks
+        obeying-falls = walking-falls (x .walk) n z

@@ -4,17 +4,17 @@ use mathlib.Core.Bool.{Bool, _||_, cond, not}
 use mathlib.Core.List.{List}
 use mathlib.Core.Path.{_≡_}
 use lib.ListN.{length}
+use Rattle.frames.specs.Frames.{Only, Span}
 use Rattle.meaning.specs.Limits.{workSize}
 use Rattle.meaning.specs.Lists.{any}
 use Rattle.meaning.specs.Model.{Fact, edge, factsOf, individualCount, member, value}
-use Rattle.meaning.specs.ModelCheck.{isMember, isModel}
+use Rattle.meaning.specs.ModelCheck.{isMember, isModel, onEdge}
 use Rattle.meaning.specs.Records.{Name}
 use Rattle.meaning.specs.Vocabulary.{vocabularyOf}
 use Rattle.model.specs.Chain.{Readable}
-use Rattle.satisfaction.specs.Places.{classPlace, classesOf, putIn, tablesEnd}
+use Rattle.satisfaction.specs.Places.{classPlace, classesEnd, classesOf, putIn, valuesEnd}
 use Rattle.words.specs.Rows.{classWords}
 use Rattle.words.specs.Sets.{inSet}
-use Rattle.workspace.specs.Work.{Only}
 
 -- whom a fact is of
 abbrev pub ownerOf : Fact → ℕ
@@ -26,6 +26,11 @@ ownerOf (value f i v) = i
 pub record Classed (m w : List ℕ) : Type 0 where
   pub rows : (i a : ℕ) → Name (individualCount m) i → inSet (classesOf w i) a ≡ any (isMember a i) (factsOf m)
 
+-- and nothing else changed
+pub record AllEntered (m w w′ : List ℕ) : Type 0 where
+  pub classed : Classed m w′
+  pub only : Only (Span 0 classesEnd) w w′
+
 -- what one fact puts in
 abbrev pub entered : List ℕ → Fact → List ℕ
 entered w (member a i) = putIn classWords w (classPlace i) a
@@ -35,6 +40,10 @@ entered w (value f i v) = w
 -- individual i, where it is in class a, is in class b, or is apart from it
 abbrev pub follows : List ℕ → ℕ → ℕ → Bool → ℕ → Bool
 follows w a b apart i = not (inSet (classesOf w i) a) || cond apart (not (inSet (classesOf w i) b)) (inSet (classesOf w i) b)
+
+-- a fact, where it is an edge of role r, leads into class c
+abbrev pub isRanged : List Fact → ℕ → ℕ → Fact → Bool
+isRanged F r c x = onEdge r (λ i j. any (isMember c j) F) x
 
 -- a model that was read, with its individuals' classes in a full work slice
 pub record Interpreted (m w : List ℕ) : Type 0 where
@@ -46,4 +55,4 @@ pub record Interpreted (m w : List ℕ) : Type 0 where
 pub record Satisfied (v m w w′ : List ℕ) (r : Bool) : Type 0 where
   pub told : r ≡ isModel (factsOf m) (vocabularyOf v)
   pub interpreted : Interpreted m w′
-  pub only : Only 0 tablesEnd w w′
+  pub only : Only (Span 0 valuesEnd) w w′

@@ -1,10 +1,11 @@
--- The values of one role or feature, and the test that no individual has two.
+-- The values of one role or feature, and that no individual has two.
 use Prim.Native.Nat.{_+_, _-_, ℕ}
-use mathlib.Core.Bool.{Bool, _&&_, _||_, cond, not, true}
-use mathlib.Core.List.{List, map}
+use mathlib.Core.Bool.{Bool, _&&_, _||_, cond, true}
+use mathlib.Core.List.{List}
+use mathlib.Core.Path.{_≡_}
 use lib.Dec.{eqb}
 use lib.ListN.{set}
-use Rattle.meaning.specs.Lists.{all}
+use Rattle.meaning.specs.Lists.{Any}
 use Rattle.meaning.specs.Model.{Fact, edge, member, value}
 use Rattle.satisfaction.specs.Places.{flagOf, flagsAt, valueOf, valuesAt}
 
@@ -19,18 +20,13 @@ linkOf kind a (member b i) = none
 linkOf kind a (edge r i j) = cond (eqb kind 2 && eqb a r) (link i j) none
 linkOf kind a (value f i v) = cond (eqb kind 3 && eqb a f) (link i v) none
 
--- "no individual has two values": two are of different individuals, or the same
-abbrev pub alike : Link → Link → Bool
-alike none y = true
-alike (link i j) none = true
-alike (link i j) (link h k) = not (eqb i h) || eqb j k
+-- some fact gives individual i the value j
+abbrev pub Gives : (Fact → Link) → ℕ → ℕ → List Fact → Type 0
+Gives says i j F = Any (λ x. link i j ≡ says x) F
 
-unfoldable pub isFunctional : List Link → Bool
-isFunctional l = all (λ x. all (alike x) l) l
-
--- the values of one name
-abbrev pub linksOf : ℕ → ℕ → List Fact → List Link
-linksOf kind a F = map (linkOf kind a) F
+-- "no individual has two values"
+abbrev pub Single : (Fact → Link) → List Fact → Type 0
+Single says F = (i j k : ℕ) → Gives says i j F → Gives says i k F → j ≡ k
 
 -- the first value seen of the individual, where there is one, is this
 abbrev pub agrees : List ℕ → Link → Bool
@@ -41,3 +37,8 @@ agrees w (link i j) = eqb (flagOf w i) 0 || eqb (valueOf w i) j
 abbrev pub noted : List ℕ → Link → List ℕ
 noted w none = w
 noted w (link i j) = cond (eqb (flagOf w i) 0) (set (set w (flagsAt + (i - 1)) 1) (valuesAt + (i - 1)) j) w
+
+-- r tells whether a fact's value agrees with the first seen, which is noted
+pub record Compared (w w′ : List ℕ) (x : Link) (r : Bool) : Type 0 where
+  pub told : r ≡ agrees w x
+  pub words : w′ ≡ noted w x

@@ -1,9 +1,10 @@
--- Where satisfaction keeps its sets and tables in the work slice.
-use Prim.Native.Nat.{_*_, _+_, _-_, ℕ}
+-- Where the model check keeps its tables in the work slice, one after another; src/lib.rt has the map.
+use Prim.Native.Nat.{_*_, _+_, _-_, _/_, suc, ℕ}
 use mathlib.Core.List.{List}
 use lib.ListN.{getD}
-use Rattle.meaning.specs.Limits.{mostIndividuals}
-use Rattle.words.specs.Rows.{classWords, putAt, rowAt}
+use Rattle.frames.specs.Rows.{putAt, rowAt}
+use Rattle.meaning.specs.Limits.{mostIndividuals, mostRecords}
+use Rattle.words.specs.Rows.{classWords}
 use Rattle.words.specs.Sets.{including}
 
 -- a set of classes for each individual, from 1 on
@@ -13,15 +14,18 @@ classPlace i = (i - 1) * classWords
 abbrev pub classesOf : List ℕ → ℕ → List ℕ
 classesOf w i = rowAt classWords w (classPlace i)
 
-abbrev pub classesSize : ℕ
-classesSize = mostIndividuals * classWords
+abbrev pub classesEnd : ℕ
+classesEnd = mostIndividuals * classWords
 
 -- the value first seen of each individual, and whether one was
 abbrev pub valuesAt : ℕ
-valuesAt = classesSize
+valuesAt = classesEnd
 
 abbrev pub flagsAt : ℕ
 flagsAt = valuesAt + mostIndividuals
+
+abbrev pub valuesEnd : ℕ
+valuesEnd = flagsAt + mostIndividuals
 
 abbrev pub valueOf : List ℕ → ℕ → ℕ
 valueOf w i = getD w (valuesAt + (i - 1)) 0
@@ -29,12 +33,21 @@ valueOf w i = getD w (valuesAt + (i - 1)) 0
 abbrev pub flagOf : List ℕ → ℕ → ℕ
 flagOf w i = getD w (flagsAt + (i - 1)) 0
 
-abbrev pub tablesSize : ℕ
-tablesSize = mostIndividuals + mostIndividuals
+-- a set of individuals for each record of a policy, the header among them
+abbrev pub individualWords : ℕ
+individualWords = mostIndividuals / 32
 
--- the words from here on are left alone
-abbrev pub tablesEnd : ℕ
-tablesEnd = valuesAt + tablesSize
+abbrev pub setsAt : ℕ
+setsAt = valuesEnd
+
+abbrev pub setPlace : ℕ → ℕ
+setPlace k = setsAt + individualWords * k
+
+abbrev pub setOf : List ℕ → ℕ → List ℕ
+setOf w k = rowAt individualWords w (setPlace k)
+
+abbrev pub setsEnd : ℕ
+setsEnd = setPlace (suc mostRecords)
 
 -- the words with x in the set of n words at a place
 abbrev pub putIn : ℕ → List ℕ → ℕ → ℕ → List ℕ

@@ -1,7 +1,17 @@
 // Satisfaction: whether the interpretation that a model's words stand for satisfies the vocabulary.
-// In the work slice: a set of classes for each of 512 individuals, then the value first seen of each individual and whether one was,
-// 512 words each. With 8 words to a set of classes that is 4,096 + 1,024 = 5,120 words, and with 10 it is 6,144.
+//
+// The tables that the model check keeps in the work slice, one after another. A set of classes takes 8 words, and 10 at 320 classes.
+//
+//     table                                        entries    words    from at 256 classes    from at 320 classes
+//     the classes of an individual                     512   8 / 10                      0                      0
+//     the value first seen of an individual            512        1                  4,096                  5,120
+//     whether one was seen                             512        1                  4,608                  5,632
+//     the individuals at a policy's record             513       16                  5,120                  6,144
+//     the end, of 16,384                                                            13,328                 14,352
+use frames::clear;
 use meaning::ClassNo;
+use meaning::FeatureNo;
+use meaning::RoleNo;
 use meaning::limits::MOST_INDIVIDUALS;
 use model::fact_kind;
 use model::fact_name;
@@ -18,32 +28,34 @@ use vocabulary::first_axiom;
 use words::ClassSet;
 use words::insert;
 use words::place;
-use workspace::clear;
 ghost use mathlib.Core.Path.{_≡_};
+ghost use mathlib.Core.Logic.{_↔_};
 ghost use Prim.Native.Nat.{_+_, _≤_};
+ghost use lib.Dec.{T};
 ghost use lib.ListN.{length};
+ghost use Rattle.frames.specs.Frames.{Only, Span};
 ghost use Rattle.meaning.specs.Limits.{mostIndividuals, workSize};
-ghost use Rattle.meaning.specs.Lists.{all, any, counting};
+ghost use Rattle.meaning.specs.Lists.{all, counting};
 ghost use Rattle.meaning.specs.Model.{factAt, factsOf};
-ghost use Rattle.meaning.specs.ModelCheck.{isMember, isModel, obeys, onEdge};
+ghost use Rattle.meaning.specs.ModelCheck.{isModel, obeys};
 ghost use Rattle.meaning.specs.Records.{Name};
-ghost use Rattle.meaning.specs.Vocabulary.{axiomAt, range, vocabularyOf, vocabularyRefusal};
+ghost use Rattle.meaning.specs.Vocabulary.{axiomAt, functionalFeature, functionalRole, range, vocabularyOf, vocabularyRefusal};
 ghost use Rattle.model.specs.Chain.{Readable, Stated};
-ghost use Rattle.satisfaction.specs.Classes.{Classed, Interpreted, Satisfied, entered, follows};
-ghost use Rattle.satisfaction.specs.Links.{agrees, isFunctional, linkOf, linksOf, noted};
-ghost use Rattle.satisfaction.specs.Places.{classPlace, classesOf, classesSize, putIn, tablesSize, valuesAt};
+ghost use Rattle.satisfaction.specs.Classes.{AllEntered, Interpreted, Satisfied, entered, follows, isRanged};
+ghost use Rattle.satisfaction.specs.Links.{Compared, Single, linkOf};
+ghost use Rattle.satisfaction.specs.Places.{classPlace, classesOf, putIn, valuesAt, valuesEnd};
 ghost use Rattle.words.specs.Sets.{inSet};
-ghost use Rattle.workspace.specs.Work.{Only};
 
 const INDIVIDUALS: usize = MOST_INDIVIDUALS as usize;
 
-// The two tables stand after the sets of classes.
 const VALUES: usize = INDIVIDUALS * ClassSet::WORDS;
 
 const FLAGS: usize = VALUES + INDIVIDUALS;
 
-// The words of the work slice from here on are left alone.
-pub const END: usize = FLAGS + INDIVIDUALS;
+// The sets of individuals, which crate extension makes, and how many words each takes.
+pub const SETS: usize = FLAGS + INDIVIDUALS;
+
+pub const SET_WORDS: usize = INDIVIDUALS / 32;
 
 // Puts x into the set of n words at a place.
 pub fn put(work: &mut [u32], at: usize, n: usize, x: u32)
@@ -62,12 +74,12 @@ fn class_place(i: u32) -> usize
     place(i - 1) * ClassSet::WORDS
 }
 
-// Whether individual i is in class a.
-pub fn is_member(work: &[u32], i: u32, a: u32) -> bool
+// Whether individual i is in class c.
+pub fn is_member(work: &[u32], i: u32, c: ClassNo) -> bool
     requires { ⌜ Name mostIndividuals i × (workSize ≤ length (now work)) ⌝ }
-    ensures { λ r. ⌜ r ≡ inSet (classesOf (now (work .entry)) i) a ⌝ }
+    ensures { λ r. ⌜ r ≡ inSet (classesOf (now (work .entry)) i) (c .0) ⌝ }
 {
-    ClassSet::has_at(work, class_place(i), ClassNo(a))
+    ClassSet::has_at(work, class_place(i), c)
 }
 
 // What record f says, where it says that an individual is in a class.
@@ -85,7 +97,7 @@ fn enter(m: &[u32], work: &mut [u32], f: u32)
 // The classes of every individual, by one walk over the records.
 fn enter_all(m: &[u32], work: &mut [u32])
     requires { ⌜ Readable (now m) × (workSize ≤ length (now work)) ⌝ }
-    ensures { λ _. ⌜ Classed (now (m .entry)) (now (work .exit)) × Only 0 classesSize (now (work .entry)) (now (work .exit)) ⌝ }
+    ensures { λ _. ⌜ AllEntered (now (m .entry)) (now (work .entry)) (now (work .exit)) ⌝ }
 {
     clear(work, 0, VALUES);
     let mut f = first_fact(m);
@@ -96,9 +108,9 @@ fn enter_all(m: &[u32], work: &mut [u32])
 }
 
 // Whether individual i, where it is in class a, is in class b, or with `apart` is not.
-fn does_follow(work: &[u32], i: u32, a: u32, b: u32, apart: bool) -> bool
+fn does_follow(work: &[u32], i: u32, a: ClassNo, b: ClassNo, apart: bool) -> bool
     requires { ⌜ Name mostIndividuals i × (workSize ≤ length (now work)) ⌝ }
-    ensures { λ r. ⌜ r ≡ follows (now (work .entry)) a b apart i ⌝ }
+    ensures { λ r. ⌜ r ≡ follows (now (work .entry)) (a .0) (b .0) apart i ⌝ }
 {
     if !is_member(work, i, a) {
         return true;
@@ -108,9 +120,9 @@ fn does_follow(work: &[u32], i: u32, a: u32, b: u32, apart: bool) -> bool
 }
 
 // Whether each of n individuals does.
-fn do_follow(work: &[u32], n: u32, a: u32, b: u32, apart: bool) -> bool
+fn do_follow(work: &[u32], n: u32, a: ClassNo, b: ClassNo, apart: bool) -> bool
     requires { ⌜ (n ≤ mostIndividuals) × (workSize ≤ length (now work)) ⌝ }
-    ensures { λ r. ⌜ r ≡ all (follows (now (work .entry)) a b apart) (counting 1 n) ⌝ }
+    ensures { λ r. ⌜ r ≡ all (follows (now (work .entry)) (a .0) (b .0) apart) (counting 1 n) ⌝ }
 {
     for i in 0..n {
         if !does_follow(work, i + 1, a, b, apart) {
@@ -121,14 +133,14 @@ fn do_follow(work: &[u32], n: u32, a: u32, b: u32, apart: bool) -> bool
 }
 
 // Whether record f, where it is an edge of role r, leads into class c.
-fn is_ranged(m: &[u32], work: &[u32], f: u32, r: u32, c: u32) -> bool
+fn is_ranged(m: &[u32], work: &[u32], f: u32, r: RoleNo, c: ClassNo) -> bool
     requires { ⌜ Stated (now m) f × Interpreted (now m) (now work) ⌝ }
-    ensures { λ t. ⌜ t ≡ onEdge r (λ i j. any (isMember c j) (factsOf (now (m .entry)))) (factAt (now (m .entry)) f) ⌝ }
+    ensures { λ t. ⌜ t ≡ isRanged (factsOf (now (m .entry))) (r .0) (c .0) (factAt (now (m .entry)) f) ⌝ }
 {
     if fact_kind(m, f) != 2 {
         return true;
     }
-    if fact_name(m, f) != r {
+    if fact_name(m, f) != r.0 {
         return true;
     }
     let target = fact_other(m, f);
@@ -136,9 +148,9 @@ fn is_ranged(m: &[u32], work: &[u32], f: u32, r: u32, c: u32) -> bool
 }
 
 // Whether every edge of role r leads into class c.
-fn are_ranged(m: &[u32], work: &[u32], r: u32, c: u32) -> bool
+fn are_ranged(m: &[u32], work: &[u32], r: RoleNo, c: ClassNo) -> bool
     requires { ⌜ Interpreted (now m) (now work) ⌝ }
-    ensures { λ t. ⌜ t ≡ obeys (factsOf (now (m .entry))) (range r c) ⌝ }
+    ensures { λ t. ⌜ t ≡ obeys (factsOf (now (m .entry))) (range (r .0) (c .0)) ⌝ }
 {
     let mut f = first_fact(m);
     while f != 0 {
@@ -153,8 +165,7 @@ fn are_ranged(m: &[u32], work: &[u32], r: u32, c: u32) -> bool
 // Whether record f gives its individual no second value of name a, kind 2 for a role's and 3 for a feature's. A first is noted.
 fn note(m: &[u32], work: &mut [u32], f: u32, kind: u32, a: u32) -> bool
     requires { ⌜ Stated (now m) f × Readable (now m) × (2 ≤ kind) × (workSize ≤ length (now work)) ⌝ }
-    ensures { λ r. ⌜ r ≡ agrees (now (work .entry)) (linkOf kind a (factAt (now (m .entry)) f)) ⌝ }
-    ensures { λ _. ⌜ now (work .exit) ≡ noted (now (work .entry)) (linkOf kind a (factAt (now (m .entry)) f)) ⌝ }
+    ensures { λ r. ⌜ Compared (now (work .entry)) (now (work .exit)) (linkOf kind a (factAt (now (m .entry)) f)) r ⌝ }
 {
     if fact_kind(m, f) != kind {
         return true;
@@ -172,11 +183,11 @@ fn note(m: &[u32], work: &mut [u32], f: u32, kind: u32, a: u32) -> bool
     true
 }
 
-// Whether no individual has two values of name a, by one walk over the records.
+// Whether no individual has two values of name a, a role's or a feature's by the kind, by one walk over the records.
 fn is_functional(m: &[u32], work: &mut [u32], kind: u32, a: u32) -> bool
     requires { ⌜ Readable (now m) × (2 ≤ kind) × (workSize ≤ length (now work)) ⌝ }
-    ensures { λ r. ⌜ r ≡ isFunctional (linksOf kind a (factsOf (now (m .entry)))) ⌝ }
-    ensures { λ _. ⌜ Only valuesAt tablesSize (now (work .entry)) (now (work .exit)) ⌝ }
+    ensures { λ r. ⌜ T r ↔ Single (linkOf kind a) (factsOf (now (m .entry))) ⌝ }
+    ensures { λ _. ⌜ Only (Span valuesAt valuesEnd) (now (work .entry)) (now (work .exit)) ⌝ }
 {
     clear(work, FLAGS, INDIVIDUALS);
     let mut f = first_fact(m);
@@ -189,21 +200,39 @@ fn is_functional(m: &[u32], work: &mut [u32], kind: u32, a: u32) -> bool
     true
 }
 
+// Whether no individual reaches two by role r.
+fn is_functional_role(m: &[u32], work: &mut [u32], r: RoleNo) -> bool
+    requires { ⌜ Readable (now m) × (workSize ≤ length (now work)) ⌝ }
+    ensures { λ t. ⌜ t ≡ obeys (factsOf (now (m .entry))) (functionalRole (r .0)) ⌝ }
+    ensures { λ _. ⌜ Only (Span valuesAt valuesEnd) (now (work .entry)) (now (work .exit)) ⌝ }
+{
+    is_functional(m, work, 2, r.0)
+}
+
+// Whether no individual has two values of feature f.
+fn is_functional_feature(m: &[u32], work: &mut [u32], f: FeatureNo) -> bool
+    requires { ⌜ Readable (now m) × (workSize ≤ length (now work)) ⌝ }
+    ensures { λ t. ⌜ t ≡ obeys (factsOf (now (m .entry))) (functionalFeature (f .0)) ⌝ }
+    ensures { λ _. ⌜ Only (Span valuesAt valuesEnd) (now (work .entry)) (now (work .exit)) ⌝ }
+{
+    is_functional(m, work, 3, f.0)
+}
+
 // Whether what record k of the vocabulary states is so.
 fn is_obeyed(v: &[u32], m: &[u32], work: &mut [u32], k: u32) -> bool
     requires { ⌜ Interpreted (now m) (now work) ⌝ }
     ensures { λ r. ⌜ r ≡ obeys (factsOf (now (m .entry))) (axiomAt (now (v .entry)) k) ⌝ }
-    ensures { λ _. ⌜ Only valuesAt tablesSize (now (work .entry)) (now (work .exit)) ⌝ }
+    ensures { λ _. ⌜ Only (Span valuesAt valuesEnd) (now (work .entry)) (now (work .exit)) ⌝ }
 {
     let kind = axiom_kind(v, k);
     let a = axiom_left(v, k);
     let b = axiom_right(v, k);
     match kind {
-        1 => do_follow(work, individual_count(m), a, b, false),
-        2 => do_follow(work, individual_count(m), a, b, true),
-        3 => is_functional(m, work, 2, a),
-        4 => is_functional(m, work, 3, a),
-        _ => are_ranged(m, work, a, b),
+        1 => do_follow(work, individual_count(m), ClassNo(a), ClassNo(b), false),
+        2 => do_follow(work, individual_count(m), ClassNo(a), ClassNo(b), true),
+        3 => is_functional_role(m, work, RoleNo(a)),
+        4 => is_functional_feature(m, work, FeatureNo(a)),
+        _ => are_ranged(m, work, RoleNo(a), ClassNo(b)),
     }
 }
 
@@ -211,7 +240,7 @@ fn is_obeyed(v: &[u32], m: &[u32], work: &mut [u32], k: u32) -> bool
 fn are_obeyed(v: &[u32], m: &[u32], work: &mut [u32]) -> bool
     requires { ⌜ (vocabularyRefusal (now v) ≡ 0) × Interpreted (now m) (now work) ⌝ }
     ensures { λ r. ⌜ r ≡ isModel (factsOf (now (m .entry))) (vocabularyOf (now (v .entry))) ⌝ }
-    ensures { λ _. ⌜ Only valuesAt tablesSize (now (work .entry)) (now (work .exit)) ⌝ }
+    ensures { λ _. ⌜ Only (Span valuesAt valuesEnd) (now (work .entry)) (now (work .exit)) ⌝ }
 {
     let mut k = first_axiom(v);
     while k != 0 {

@@ -8,11 +8,11 @@ use lib.Dec.{eqb}
 use lib.ListN.{drop, length, length-append, length-set, length-take, take}
 use lib.Seq.{sets-eq, take-at}
 use borrow.Author.Tests.{eq-eqb, eqb-false, eqb-true, ne-eqb}
+use Rattle.meaning.proofs.Terms.{chain-at}
 use Rattle.meaning.specs.Accepted.{Reads, count, reads-class, reads-end, reads-impossible, reads-interval, reads-some}
 use Rattle.meaning.specs.Policy.{Chain, childOf, class, end, hiOf, impossible, interval, kindOf, loOf, nameOf, nextOf, some}
 use Rattle.meaning.specs.Splitting.{ends}
-use Rattle.normal_form.proofs.Chains.{chain-end, chain-is}
-use Rattle.normal_form.specs.Parts.{chainAt}
+use Rattle.policy.specs.Terms.{conjunctsAt}
 use Rattle.splitting.specs.Ends.{Chained, Paired, endsIn, pairsOf, pairsPut}
 
 -- ---- pairs and ends
@@ -48,15 +48,15 @@ module _ (f : ℕ) where
 
 -- what the first record of a chain leaves to do
 record Cut (q : List ℕ) (k : ℕ) (c : Chain) : Type 0 where
-  pub next : Reads q (nextOf q k) (chainAt q (nextOf q k))
-  pub child : kindOf q k ≡ 3 → Reads q (childOf q k) (chainAt q (childOf q k))
-  pub role : kindOf q k ≡ 3 → c ≡ some (nameOf q k) (chainAt q (childOf q k)) (chainAt q (nextOf q k))
-  pub constraint : kindOf q k ≡ 4 → c ≡ interval (nameOf q k) (loOf q k) (hiOf q k) (chainAt q (nextOf q k))
+  pub next : Reads q (nextOf q k) (conjunctsAt q (nextOf q k))
+  pub child : kindOf q k ≡ 3 → Reads q (childOf q k) (conjunctsAt q (childOf q k))
+  pub role : kindOf q k ≡ 3 → c ≡ some (nameOf q k) (conjunctsAt q (childOf q k)) (conjunctsAt q (nextOf q k))
+  pub constraint : kindOf q k ≡ 4 → c ≡ interval (nameOf q k) (loOf q k) (hiOf q k) (conjunctsAt q (nextOf q k))
   pub other : (kindOf q k ≡ 3 → ⊥) → (kindOf q k ≡ 4 → ⊥) →
-      (pairsOf c ≡ pairsOf (chainAt q (nextOf q k))) × (count c ≡ suc (count (chainAt q (nextOf q k))))
+      (pairsOf c ≡ pairsOf (conjunctsAt q (nextOf q k))) × (count c ≡ suc (count (conjunctsAt q (nextOf q k))))
 
-pub read : {q : List ℕ} {k : ℕ} {c : Chain} → Reads q k c → Reads q k (chainAt q k)
-read r = rw (chain-is r) r
+pub read : {q : List ℕ} {k : ℕ} {c : Chain} → Reads q k c → Reads q k (conjunctsAt q k)
+read r = rw (chain-at r) r
 
 cut : {q : List ℕ} {k : ℕ} {c : Chain} → (k ≡ 0 → ⊥) → Reads q k c → Cut q k c
 cut z (reads-end e) = absurd (z e)
@@ -65,19 +65,19 @@ cut z (reads-class h i n) = record {
   child = λ j. absurd (omega arith);
   role = λ j. absurd (omega arith);
   constraint = λ j. absurd (omega arith);
-  other = λ a b. rw (chain-is n) (refl, refl);
+  other = λ a b. rw (chain-at n) (refl, refl);
 }
 cut z (reads-impossible h i n) = record {
   next = read n;
   child = λ j. absurd (omega arith);
   role = λ j. absurd (omega arith);
   constraint = λ j. absurd (omega arith);
-  other = λ a b. rw (chain-is n) (refl, refl);
+  other = λ a b. rw (chain-at n) (refl, refl);
 }
 cut z (reads-some h i b n) = record {
   next = read n;
   child = λ j. read b;
-  role = λ j. rw (chain-is b, chain-is n);
+  role = λ j. rw (chain-at b, chain-at n);
   constraint = λ j. absurd (omega arith);
   other = λ a b. absurd (a i);
 }
@@ -85,7 +85,7 @@ cut z (reads-interval h i n) = record {
   next = read n;
   child = λ j. absurd (omega arith);
   role = λ j. absurd (omega arith);
-  constraint = λ j. rw (chain-is n);
+  constraint = λ j. rw (chain-at n);
   other = λ a b. absurd (b i);
 }
 
@@ -107,80 +107,80 @@ unfolding pairsPut
 length-pairs e n f lo hi = simp length-set
 
 module _ {q e : List ℕ} {k n : ℕ} (s : Chained q e k n) where
-  pub pairs-none : k ≡ 0 → Paired (chainAt q k) n e e n
-  pairs-none z = rw (chain-end q k z) (record { same = refl; long = omega arith; words = sym (append-nil (take n e)) })
+  pub pairs-none : k ≡ 0 → Paired (conjunctsAt q k) n e e n
+  pairs-none z = rw (chain-at (reads-end z)) (record { same = refl; long = omega arith; words = sym (append-nil (take n e)) })
 
   module _ (z : k ≡ 0 → ⊥) {kind next : ℕ} (ek : kind ≡ kindOf q k) (en : next ≡ nextOf q k) where
-    first : Cut q k (chainAt q k)
+    first : Cut q k (conjunctsAt q k)
     first = cut z (s .reads)
 
     -- a role: its child chain, then its next
     module _ (i : kind ≡ 3) {child : ℕ} (ec : child ≡ childOf q k) where
-      whole : chainAt q k ≡ some (nameOf q k) (chainAt q child) (chainAt q next)
+      whole : conjunctsAt q k ≡ some (nameOf q k) (conjunctsAt q child) (conjunctsAt q next)
       whole = rw (ec, en) (first .role (sym ek ∙ i))
 
-      records : count (chainAt q k) ≡ suc (count (chainAt q child) + count (chainAt q next))
+      records : count (conjunctsAt q k) ≡ suc (count (conjunctsAt q child) + count (conjunctsAt q next))
       records = ap count whole
 
-      pub child-asks : {t : ℕ} → count (chainAt q k) ≡ t → (count (chainAt q child) < t) × Chained q e child n
+      pub child-asks : {t : ℕ} → count (conjunctsAt q k) ≡ t → (count (conjunctsAt q child) < t) × Chained q e child n
       child-asks h =
           let r = s .room in
           (omega (arith, records), record { reads = rw ec (first .child (sym ek ∙ i)); room = omega (arith, records) })
 
-      module _ {e′ : List ℕ} {m : ℕ} (p : Paired (chainAt q child) n e e′ m) where
-        pub later-asks : {t : ℕ} → count (chainAt q k) ≡ t → (count (chainAt q next) < t) × Chained q e′ next m
+      module _ {e′ : List ℕ} {m : ℕ} (p : Paired (conjunctsAt q child) n e e′ m) where
+        pub later-asks : {t : ℕ} → count (conjunctsAt q k) ≡ t → (count (conjunctsAt q next) < t) × Chained q e′ next m
         later-asks h =
             let r = s .room in
-            let few = pairs-few (chainAt q child) in
+            let few = pairs-few (conjunctsAt q child) in
             (omega (arith, records), record { reads = rw en (first .next); room = omega (arith, records, p .long, p .same) })
 
-        pub both-paired : {e″ : List ℕ} {r : ℕ} → Paired (chainAt q next) m e′ e″ r → Paired (chainAt q k) n e e″ r
+        pub both-paired : {e″ : List ℕ} {r : ℕ} → Paired (conjunctsAt q next) m e′ e″ r → Paired (conjunctsAt q k) n e e″ r
         both-paired h = record {
           same = h .same ∙ p .same;
           long = rw (whole, length-append) (omega (arith, h .long, p .long));
           words = h .words
-              ∙ (ap (λ (l : List ℕ). l ++ pairsOf (chainAt q next)) (p .words)
-              ∙ (append-assoc (take n e) (pairsOf (chainAt q child)) (pairsOf (chainAt q next)) ∙ ap (λ (c : Chain). take n e ++ pairsOf c) (sym whole)));
+              ∙ (ap (λ (l : List ℕ). l ++ pairsOf (conjunctsAt q next)) (p .words)
+              ∙ (append-assoc (take n e) (pairsOf (conjunctsAt q child)) (pairsOf (conjunctsAt q next)) ∙ ap (λ (c : Chain). take n e ++ pairsOf c) (sym whole)));
         }
 
     -- a constraint: its two pairs, then its next
     module _ (i : kind ≡ 4) where
-      pair-records : count (chainAt q k) ≡ suc (count (chainAt q next))
+      pair-records : count (conjunctsAt q k) ≡ suc (count (conjunctsAt q next))
       pair-records = rw en (ap count (first .constraint (sym ek ∙ i)))
 
       pub pairs-fit : n + 4 ≤ length e
       pairs-fit = let r = s .room in omega (arith, pair-records)
 
       module _ {f lo hi : ℕ} (ef : f ≡ nameOf q k) (el : lo ≡ loOf q k) (eh : hi ≡ hiOf q k) {e′ : List ℕ} (w : e′ ≡ pairsPut e n f lo hi) where
-        here : chainAt q k ≡ interval f lo hi (chainAt q next)
+        here : conjunctsAt q k ≡ interval f lo hi (conjunctsAt q next)
         here = rw (ef, el, eh, en) (first .constraint (sym ek ∙ i))
 
         pub pairs-same : length e′ ≡ length e
         pairs-same = ap length w ∙ length-pairs e n f lo hi
 
-        pub behind-asks : {t : ℕ} → count (chainAt q k) ≡ t → (count (chainAt q next) < t) × Chained q e′ next (n + 4)
+        pub behind-asks : {t : ℕ} → count (conjunctsAt q k) ≡ t → (count (conjunctsAt q next) < t) × Chained q e′ next (n + 4)
         behind-asks h =
             let r = s .room in
             (omega (arith, pair-records), record { reads = rw en (first .next); room = omega (arith, pair-records, pairs-same) })
 
-        pub behind-paired : {e″ : List ℕ} {r : ℕ} → Paired (chainAt q next) (n + 4) e′ e″ r → Paired (chainAt q k) n e e″ r
+        pub behind-paired : {e″ : List ℕ} {r : ℕ} → Paired (conjunctsAt q next) (n + 4) e′ e″ r → Paired (conjunctsAt q k) n e e″ r
         behind-paired h = record {
           same = h .same ∙ pairs-same;
           long = rw here (omega (arith, h .long));
           words = h .words
-              ∙ (ap (λ (l : List ℕ). l ++ pairsOf (chainAt q next)) (ap (take (n + 4)) w ∙ pairs-put e n f lo hi pairs-fit)
-              ∙ (append-assoc (take n e) (twoPairs f lo hi) (pairsOf (chainAt q next)) ∙ ap (λ (c : Chain). take n e ++ pairsOf c) (sym here)));
+              ∙ (ap (λ (l : List ℕ). l ++ pairsOf (conjunctsAt q next)) (ap (take (n + 4)) w ∙ pairs-put e n f lo hi pairs-fit)
+              ∙ (append-assoc (take n e) (twoPairs f lo hi) (pairsOf (conjunctsAt q next)) ∙ ap (λ (c : Chain). take n e ++ pairsOf c) (sym here)));
         }
 
     -- a record with no end: its next
     module _ (i : kind ≡ 3 → ⊥) (j : kind ≡ 4 → ⊥) where
-      rest : (pairsOf (chainAt q k) ≡ pairsOf (chainAt q next)) × (count (chainAt q k) ≡ suc (count (chainAt q next)))
+      rest : (pairsOf (conjunctsAt q k) ≡ pairsOf (conjunctsAt q next)) × (count (conjunctsAt q k) ≡ suc (count (conjunctsAt q next)))
       rest = rw en (first .other (λ h. i (ek ∙ h)) (λ h. j (ek ∙ h)))
 
-      pub next-asks : {t : ℕ} → count (chainAt q k) ≡ t → (count (chainAt q next) < t) × Chained q e next n
+      pub next-asks : {t : ℕ} → count (conjunctsAt q k) ≡ t → (count (conjunctsAt q next) < t) × Chained q e next n
       next-asks h =
           let r = s .room in
           (omega (arith, rest .1), record { reads = rw en (first .next); room = omega (arith, rest .1) })
 
-      pub next-paired : {e″ : List ℕ} {r : ℕ} → Paired (chainAt q next) n e e″ r → Paired (chainAt q k) n e e″ r
+      pub next-paired : {e″ : List ℕ} {r : ℕ} → Paired (conjunctsAt q next) n e e″ r → Paired (conjunctsAt q k) n e e″ r
       next-paired h = record { same = h .same; long = rw (rest .0) (h .long); words = rw (rest .0) (h .words) }

@@ -9,6 +9,7 @@ use native.Mathlib.Numerals.{add-one}
 use native.Mathlib.Omega.{arith}
 use lib.Dec.{eqb, leb, ltb}
 use lib.ListN.{length}
+use Rattle.layout.specs.Tables.{constraintAt}
 use Rattle.meaning.proofs.Count.{count-pieces}
 use Rattle.meaning.specs.Intervals.{Constraint, isWithin}
 use Rattle.meaning.specs.Limits.{mostCombinations}
@@ -17,7 +18,7 @@ use Rattle.meaning.specs.Policy.{Policy}
 use Rattle.meaning.specs.Splitting.{ends, insert, insertAll, pieces, points, wide, wideNeighbours}
 use Rattle.splitting.proofs.Ways.{ways, ways-product}
 use Rattle.splitting.specs.Ends.{Ends, endsIn}
-use Rattle.splitting.specs.Odometer.{Few, constraintAt}
+use Rattle.splitting.specs.Odometer.{Few}
 
 -- ---- X has lo, hi and at most every end
 

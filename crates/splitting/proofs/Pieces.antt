@@ -8,16 +8,16 @@ use native.Mathlib.Omega.{arith}
 use lib.Dec.{T, ltb}
 use lib.ListN.{length}
 use borrow.Author.Tests.{ltb-false, ltb-true}
+use Rattle.layout.specs.Tables.{intervalOf}
 use Rattle.meaning.proofs.Intervals.{isWithin-iff}
 use Rattle.meaning.proofs.Odometer.{at-lt}
-use Rattle.meaning.proofs.Points.{Rising, Sorted, above, insert-all, insert-here, insert-sorted, insert-there, inserts-all}
-use Rattle.meaning.proofs.Points.{inserts-here, inserts-sorted, inserts-there}
+use Rattle.meaning.proofs.Points.{Rising, Sorted, above, insert-all, insert-here, insert-sorted, insert-there, inserts-all, inserts-here}
+use Rattle.meaning.proofs.Points.{inserts-sorted, inserts-there}
 use Rattle.meaning.proofs.Rules.{all-at, all-mono, all-of, any-cases, any-none, head, in-filter, tail}
 use Rattle.meaning.specs.Intervals.{Constraint, NonEmpty, isWithin}
 use Rattle.meaning.specs.Lists.{All, At, _∈_, atHere, atThere, cons, filter, flatMap, here, nil}
 use Rattle.meaning.specs.Policy.{Policy}
 use Rattle.meaning.specs.Splitting.{ends, gap, insert, insertAll, only, pieces, piecesAt, piecesFrom}
-use Rattle.normal_form.specs.Steps.{intervalOf}
 use Rattle.splitting.proofs.Scanning.{far-up, least-is, near-up, upper-is}
 use Rattle.splitting.specs.Ends.{Ends, endsIn, upper}
 

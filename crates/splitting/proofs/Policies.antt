@@ -5,13 +5,13 @@ use mathlib.Core.Path.{_∙_, _≡_, ap, refl, subst, sym}
 use native.Mathlib.Omega.{arith}
 use lib.ListN.{length, take}
 use Rattle.meaning.proofs.Links.{falls}
+use Rattle.meaning.proofs.Terms.{chain-at}
 use Rattle.meaning.specs.Accepted.{Reads, ReadsTerms, reads-none, reads-term, total}
 use Rattle.meaning.specs.Lists.{flatMap}
 use Rattle.meaning.specs.Policy.{Policy, childOf, firstTerm, nextOf, policyOf}
 use Rattle.meaning.specs.Records.{falling, lastOf}
 use Rattle.meaning.specs.Splitting.{ends}
-use Rattle.normal_form.proofs.Chains.{chain-is}
-use Rattle.normal_form.specs.Parts.{chainAt}
+use Rattle.policy.specs.Terms.{conjunctsAt}
 use Rattle.splitting.proofs.Collecting.{pairs-end, pairs-few, read}
 use Rattle.splitting.specs.Ends.{Chained, Collectable, Collected, Ends, Paired, endsIn, pairsOf}
 
@@ -26,8 +26,8 @@ pairs-ends (c ∷ Q) f = pairs-end f c (pairsIn Q) ∙ ap (λ (m : List ℕ). en
 -- the first of the terms from record k on
 record Term (q : List ℕ) (k : ℕ) (P : Policy) : Type 0 where
   pub rest : Policy
-  pub whole : P ≡ chainAt q (childOf q k) ∷ rest
-  pub reads : Reads q (childOf q k) (chainAt q (childOf q k))
+  pub whole : P ≡ conjunctsAt q (childOf q k) ∷ rest
+  pub reads : Reads q (childOf q k) (conjunctsAt q (childOf q k))
   pub later : ReadsTerms q (nextOf q k) rest
   pub fewer : falling (lastOf 6 q) (nextOf q k) < falling (lastOf 6 q) k
 
@@ -35,7 +35,7 @@ term : {q : List ℕ} {k : ℕ} {P : Policy} → (k ≡ 0 → ⊥) → ReadsTerm
 term z (reads-none e) = absurd (z e)
 term {q} {k} z (reads-term {P = P} h e r t) = record {
   rest = P;
-  whole = rw (chain-is r);
+  whole = rw (chain-at r);
   reads = read r;
   later = t;
   fewer = falls (lastOf 6 q) k (nextOf q k) (h .inside) (h .next);
@@ -81,16 +81,16 @@ module _ {q e₀ e : List ℕ} {n k : ℕ} (s : Collecting q e₀ e n k) where
       pub collecting-child : Chained q e child n
       collecting-child = rw ec (record { reads = here .reads; room = let a = s .room in omega (arith, ap total (here .whole)) })
 
-      pub collecting-on : {e′ : List ℕ} {m next : ℕ} → Paired (chainAt q child) n e e′ m → next ≡ nextOf q k → Collecting q e₀ e′ m next
+      pub collecting-on : {e′ : List ℕ} {m next : ℕ} → Paired (conjunctsAt q child) n e e′ m → next ≡ nextOf q k → Collecting q e₀ e′ m next
       collecting-on p en = record {
         left = here .rest;
         same = p .same ∙ s .same;
         reads = rw en (here .later);
-        room = let a = s .room in omega (arith, ap total whole, p .long, p .same, pairs-few (chainAt q child));
+        room = let a = s .room in omega (arith, ap total whole, p .long, p .same, pairs-few (conjunctsAt q child));
         words = ap (λ (l : List ℕ). l ++ pairsIn (here .rest)) (p .words)
-            ∙ (append-assoc (take n e) (pairsOf (chainAt q child)) (pairsIn (here .rest))
+            ∙ (append-assoc (take n e) (pairsOf (conjunctsAt q child)) (pairsIn (here .rest))
             ∙ (ap (λ (P : Policy). take n e ++ pairsIn P) (sym whole) ∙ s .words));
       }
         where
-          whole : s .left ≡ chainAt q child ∷ here .rest
+          whole : s .left ≡ conjunctsAt q child ∷ here .rest
           whole = rw ec (here .whole)

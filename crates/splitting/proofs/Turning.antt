@@ -1,73 +1,22 @@
--- The odometer: its loops as functions of lists, and where they lead.
-use Prim.Native.Nat.{_*_, _+_, _<_, _≤_, suc, zero, ℕ}
-use mathlib.Core.Bool.{Bool, cond, false, true}
-use mathlib.Core.List.{List, []}
+-- The odometer: constraints that start again, and the last that takes its next piece.
+use Prim.Native.Nat.{_*_, _+_, _<_, _≤_, suc, ℕ}
+use mathlib.Core.Bool.{Bool, false, true}
+use mathlib.Core.List.{List}
 use mathlib.Core.Path.{_∙_, _≡_, ap, ap₂, refl, subst, sym}
 use native.Mathlib.Nat.{suc-mul, zero-mul}
 use native.Mathlib.Numerals.{add-one}
 use native.Mathlib.Omega.{arith}
-use lib.Dec.{ltb}
-use lib.ListN.{getD, length}
-use borrow.Author.Tests.{le-ltb, lt-ltb, ltb-false, ltb-true}
-use Rattle.combination.specs.Combination.{pieceAt}
+use Rattle.frames.proofs.Frames.{only-none, only-then}
+use Rattle.frames.specs.Frames.{Only}
+use Rattle.layout.specs.Tables.{PiecePut, Pieces, constraintAt, intervalOf, pieceAt}
 use Rattle.meaning.specs.Intervals.{NonEmpty}
 use Rattle.meaning.specs.Policy.{Policy}
 use Rattle.meaning.specs.Splitting.{only}
-use Rattle.normal_form.specs.Tables.{intervalPlace}
 use Rattle.splitting.proofs.Pieces.{piece-first, piece-last, piece-next}
-use Rattle.splitting.proofs.Storing.{constraint-kept, full-kept, kept-more, kept-put, kept-refl, kept-trans, length-put}
-use Rattle.splitting.proofs.Storing.{piece-here, piece-kept, piece-other, stands-at, stands-frame}
+use Rattle.splitting.proofs.Storing.{constraint-kept, piece-kept, pieces-more, put-kept, stands-at, stands-put}
 use Rattle.splitting.proofs.Ways.{ways, ways-product, ways-same}
 use Rattle.splitting.specs.Ends.{Ends, endsIn, upper}
-use Rattle.splitting.specs.Odometer.{Full, OnlyPieces, Splittable, Stands, Started, Stepped, Turned, constraintAt, pieceCount}
-use Rattle.splitting.specs.Odometer.{piecePut}
-
--- ---- the loops
-
--- constraint i is not at its last piece
-abbrev onward : List ℕ → ℕ → Bool
-onward w i = ltb (pieceAt w i .hi) (constraintAt w i .hi)
-
--- constraint i at its next piece, and at its first
-abbrev advanced : List ℕ → List ℕ → ℕ → List ℕ
-advanced e w i =
-    piecePut w i (suc (pieceAt w i .hi)) (upper (endsIn e (constraintAt w i .feature)) (constraintAt w i .hi) (pieceAt w i .hi))
-
-abbrev restarted : List ℕ → ℕ → List ℕ
-restarted w i = piecePut w i (constraintAt w i .lo) (constraintAt w i .lo)
-
--- a step over the first i constraints: the last that has a next piece takes it, those after it start again
-unfoldable pub turn : List ℕ → List ℕ → ℕ → List ℕ
-turn e w zero = w
-turn e w (suc i) = let rest = turn e (restarted w i) i in cond (onward w i) (advanced e w i) rest
-
--- whether one of them had a next piece
-unfoldable pub turns : List ℕ → ℕ → Bool
-turns w zero = false
-turns w (suc i) = let rest = turns (restarted w i) i in cond (onward w i) true rest
-
--- the first i at their first pieces
-unfoldable pub begun : List ℕ → ℕ → List ℕ
-begun w zero = w
-begun w (suc i) = restarted (begun w i) i
-
--- ---- what they keep
-
-turn-kept : (e w : List ℕ) (i : ℕ) → OnlyPieces i w (turn e w i)
-unfolding turn
-turn-kept e w zero = kept-refl 0 w
-turn-kept e w (suc i) = go (onward w i) (turn-kept e (restarted w i) i)
-  where
-    go : (b : Bool) → OnlyPieces i (restarted w i) (turn e (restarted w i) i) → OnlyPieces (suc i) w (cond b (advanced e w i) (turn e (restarted w i) i))
-    go true r = kept-put w i _ _
-    go false r = kept-trans (kept-put w i _ _) (kept-more (omega arith) r)
-
-begun-kept : (w : List ℕ) (i : ℕ) → OnlyPieces i w (begun w i)
-unfolding begun
-begun-kept w zero = kept-refl 0 w
-begun-kept w (suc i) = kept-trans (kept-more (omega arith) (begun-kept w i)) (kept-put (begun w i) i _ _)
-
--- ---- the first combination
+use Rattle.splitting.specs.Odometer.{Splittable, Stands, Started, Stepped, pieceCount}
 
 -- constraint i at its first piece, those before it at combination j
 first-digit : (Q : Policy) (w v : List ℕ) (i j : ℕ) → constraintAt v i ≡ constraintAt w i → NonEmpty (constraintAt w i .lo) (constraintAt w i .hi) →
@@ -75,28 +24,32 @@ first-digit : (Q : Policy) (w v : List ℕ) (i j : ℕ) → constraintAt v i ≡
 first-digit Q w v i j same full fresh s =
     stands-at Q w v i j 0 (j * pieceCount Q w i) same (rw fresh (piece-first Q (constraintAt w i) full)) (omega arith) s
 
-begun-stands : (Q : Policy) (w : List ℕ) (i : ℕ) → intervalPlace i ≤ length w → Full w i → Stands Q (begun w i) i 0
-unfolding begun
-begun-stands Q w zero l f = refl
-begun-stands Q w (suc i) l f =
-    let b = begun w i in
-    let k = kept-put b i (constraintAt b i .lo) (constraintAt b i .lo) in
-    let full : NonEmpty (constraintAt b i .lo) (constraintAt b i .hi) = rw (constraint-kept (begun-kept w i) i) (f i (omega arith)) in
-    let below = begun-stands Q w i (omega arith) (λ j h. f j (omega arith)) in
-    subst (λ (x : ℕ). Stands Q (restarted b i) (suc i) x) (zero-mul _)
-    (first-digit Q b (restarted b i) i 0 (constraint-kept k i) full (piece-here b i _ _ (omega (arith, begun-kept w i .same)))
-    (stands-frame Q b (restarted b i) i 0 (constraint-kept k) (λ j h. piece-other b i _ _ j (λ z. omega arith)) below))
+fresh : {i lo : ℕ} {w v : List ℕ} → lo ≡ constraintAt w i .lo → PiecePut i lo lo w v →
+    pieceAt v i ≡ only (constraintAt w i .feature) (constraintAt w i .lo)
+fresh {i} {w = w} e p = p .piece ∙ ap₂ (intervalOf (constraintAt w i .feature)) e e
 
-pub begun-right : (w v : List ℕ) (n : ℕ) → Splittable w n → v ≡ begun w n → Started n w v
-begun-right w v n s h =
-    let a = s .few in
-    let b = s .long in
-    rw h (record { stands = λ Q. begun-stands Q w n (omega arith) (s .full); kept = begun-kept w n })
+-- no constraint becomes empty
+full-here : {u w : List ℕ} {n k : ℕ} → Splittable u n → Only (Pieces k) u w → (i : ℕ) → i < n → NonEmpty (constraintAt w i .lo) (constraintAt w i .hi)
+full-here s kept i h = rw (constraint-kept kept i) (s .full i h)
+
+-- ---- the first combination
+
+pub started-none : (w : List ℕ) → Started 0 w w
+started-none w = record { stands = λ Q. refl; only = only-none }
+
+pub started-more : {u w v : List ℕ} {n i lo : ℕ} → Splittable u n → i < n → Started i u w → lo ≡ constraintAt w i .lo → PiecePut i lo lo w v →
+    Started (i + 1) u v
+started-more {w = w} {v = v} {i = i} split few s el p =
+    rw (add-one i) (record {
+      stands = λ Q. subst (λ (x : ℕ). Stands Q v (suc i) x) (zero-mul _)
+          (first-digit Q w v i 0 (constraint-kept (put-kept p) i) (full-here split (s .only) i few) (fresh el p) (stands-put p Q 0 (s .stands Q)));
+      only = only-then (pieces-more (s .only) (omega arith)) (put-kept p);
+    })
 
 -- ---- a step
 
 -- over the first i constraints: they go on, or all start again after the last combination
-abbrev Outcome : Policy → List ℕ → List ℕ → ℕ → ℕ → Bool → Type 0
+abbrev pub Outcome : Policy → List ℕ → List ℕ → ℕ → ℕ → Bool → Type 0
 Outcome Q w v i k true = Stands Q v i (suc k)
 Outcome Q w v i k false = (suc k ≡ ways Q w i) × Stands Q v i 0
 
@@ -115,100 +68,84 @@ outcome-same : (Q : Policy) (w u v : List ℕ) (i k : ℕ) → ((j : ℕ) → co
 outcome-same Q w u v i k same true h = h
 outcome-same Q w u v i k same false h = (h .0 ∙ ways-same Q w u i same, h .1)
 
-module _ (Q : Policy) (e : List ℕ) (n : Ends Q e) where
-  advance-right : (w : List ℕ) (i k : ℕ) → intervalPlace (suc i) ≤ length w → NonEmpty (constraintAt w i .lo) (constraintAt w i .hi) →
-      pieceAt w i .hi < constraintAt w i .hi → Stands Q w (suc i) k → Stands Q (advanced e w i) (suc i) (suc k)
-  advance-right w i k l f h s =
-      let kept = kept-put w i (suc (pieceAt w i .hi)) (upper (endsIn e (constraintAt w i .feature)) (constraintAt w i .hi) (pieceAt w i .hi)) in
-      let next = piece-next Q e (constraintAt w i) n f (s .3) h in
-      stands-at Q w (advanced e w i) i (s .0) (suc (s .1)) (suc k) (constraint-kept kept i) (rw (piece-here w i _ _ l) next) (omega (arith, s .2))
-      (stands-frame Q w (advanced e w i) i (s .0) (constraint-kept kept) (λ j b. piece-other w i _ _ j (λ z. omega arith)) (s .4))
+-- the first i constraints are left of n, which stood at combination k: what comes of those comes of all
+pub record Left (Q : Policy) (u : List ℕ) (n k : ℕ) (w : List ℕ) (i : ℕ) : Type 0 where
+  pub number : ℕ
+  pub stands : Stands Q w i number
+  pub outcome : (v : List ℕ) → Only (Pieces i) w v → (b : Bool) → Outcome Q w v i number b → Outcome Q u v n k b
 
-  turn-right : (w : List ℕ) (i k : ℕ) → intervalPlace i ≤ length w → Full w i → Stands Q w i k → Outcome Q w (turn e w i) i k (turns w i)
-  unfolding turn turns
-  turn-right w zero k l f s = (omega (arith, s), refl)
-  turn-right w (suc i) k l f s =
-      go (onward w i) refl (outcome-same Q w u v i (s .0) (constraint-kept kept) (turns u i)
-      (turn-right u i (s .0) (rw (length-put w i (constraintAt w i .lo) (constraintAt w i .lo)) (omega arith))
-      (full-kept kept i (λ j b. f j (omega arith)))
-      (stands-frame Q w u i (s .0) (constraint-kept kept) (λ j b. piece-other w i _ _ j (λ z. omega arith)) (s .4))))
+-- the tables were u, and the constraints after the first i have started again
+pub record Turning (e u : List ℕ) (n : ℕ) (w : List ℕ) (i : ℕ) : Type 0 where
+  pub few : i ≤ n
+  pub only : Only (Pieces n) u w
+  pub left : (Q : Policy) (k : ℕ) → Ends Q e → Stands Q u n k → Left Q u n k w i
+
+pub turning-starts : (e w : List ℕ) (n : ℕ) → Turning e w n w n
+turning-starts e w n = record {
+  few = omega arith;
+  only = only-none;
+  left = λ Q k m s. record { number = k; stands = s; outcome = λ v o b h. h };
+}
+
+module _ {e u w : List ℕ} {n i m : ℕ} (split : Splittable u n) (t : Turning e u n w i) (last : i ≡ suc m) where
+  now-at : Turning e u n w (suc m)
+  now-at = rw last at t
+
+  inside : m < n
+  inside = let f = t .few in omega arith
+
+  nonempty : NonEmpty (constraintAt w m .lo) (constraintAt w m .hi)
+  nonempty = full-here split (t .only) m inside
+
+  -- constraint m is at its last piece: it starts again
+  pub turning-back : {v : List ℕ} {hi top lo : ℕ} → hi ≡ constraintAt w m .hi → top ≡ pieceAt w m .hi → hi ≤ top → lo ≡ constraintAt w m .lo → PiecePut m lo lo w v →
+      Turning e u n v m
+  turning-back {v} eh et h el p = record {
+    few = let f = inside in omega arith;
+    only = only-then (t .only) (pieces-more (put-kept p) inside);
+    left = λ Q k ends s. rest Q k ends (now-at .left Q k ends s);
+  }
     where
-      u : List ℕ
-      u = restarted w i
+      rest : (Q : Policy) (k : ℕ) → Ends Q e → Left Q u n k w (suc m) → Left Q u n k v m
+      rest Q k ends l =
+          let s = l .stands in
+          let end = piece-last Q e (constraintAt w m) ends nonempty (s .3) (omega arith) in
+          record {
+            number = s .0;
+            stands = stands-put p Q (s .0) (s .4);
+            outcome = λ x o b h.
+                let both : Only (Pieces (suc m)) w x = only-then (put-kept p) (pieces-more o (omega arith)) in
+                l .outcome x both b
+                (restart-right Q w x m (constraint-kept both m) nonempty (piece-kept o m (omega arith) ∙ fresh el p)
+                (s .0) (l .number) (omega (arith, suc-mul (s .0) (pieceCount Q w m), s .2, end)) b
+                (outcome-same Q w v x m (s .0) (constraint-kept (put-kept p)) b h));
+          }
 
-      v : List ℕ
-      v = turn e u i
+  -- it has a next piece, and takes it
+  pub turning-done : {v : List ℕ} {hi top lo up f q : ℕ} → hi ≡ constraintAt w m .hi → top ≡ pieceAt w m .hi → top < hi → f ≡ constraintAt w m .feature →
+      lo ≡ top + 1 → up ≡ upper (endsIn e f) hi top → PiecePut m lo up w v → Stepped e n q u v (q + 1)
+  turning-done {v} {q = q} eh et h ef el eu p = rw (add-one q) (record {
+    turned = λ Q k ends e s. (refl, subst (λ (x : ℕ). Stands Q v n x) (sym e) (on Q k ends (now-at .left Q k ends s)));
+    only = only-then (t .only) (pieces-more (put-kept p) inside);
+  })
+    where
+      on : (Q : Policy) (k : ℕ) → Ends Q e → Left Q u n k w (suc m) → Stands Q v n (suc k)
+      on Q k ends l =
+          let s = l .stands in
+          let next = piece-next Q e (constraintAt w m) ends nonempty (s .3) (omega arith) in
+          l .outcome v (put-kept p) true
+          (stands-at Q w v m (s .0) (suc (s .1)) (suc (l .number)) (constraint-kept (put-kept p) m)
+          (rw (p .piece, el, eu, ef, eh, et, add-one) next) (omega (arith, s .2)) (stands-put p Q (s .0) (s .4)))
 
-      kept : OnlyPieces (suc i) w u
-      kept = kept-put w i (constraintAt w i .lo) (constraintAt w i .lo)
-
-      go : (b : Bool) → onward w i ≡ b → Outcome Q w v i (s .0) (turns u i) →
-          Outcome Q w (cond b (advanced e w i) v) (suc i) k (cond b true (turns u i))
-      go true o r = advance-right w i k l (f i (omega arith)) (ltb-true _ _ o) s
-      go false o r =
-          let last = piece-last Q e (constraintAt w i) n (f i (omega arith)) (s .3) (ltb-false _ _ o) in
-          let rest = turn-kept e u i in
-          restart-right Q w v i (constraint-kept (kept-trans kept (kept-more (omega arith) rest)) i) (f i (omega arith))
-          (piece-kept rest i (omega arith) ∙ piece-here w i _ _ l) (s .0) k
-          (omega (arith, suc-mul (s .0) (pieceCount Q w i), s .2, last)) (turns u i) r
-
-pub step-right : (e w v : List ℕ) (n q : ℕ) (b : Bool) → Splittable w n → b ≡ turns w n → v ≡ turn e w n → Stepped e n q w v (cond b (q + 1) 0)
-step-right e w v n q b s g h =
-    let few = s .few in
-    let long = s .long in
-    rw h (record {
-      turned = λ Q k m p t. go Q k p b (subst (Outcome Q w (turn e w n) n k) (sym g) (turn-right Q e m w n k (omega arith) (s .full) t));
-      kept = turn-kept e w n;
-    })
+-- all have started again: that was the last combination
+pub turning-ends : {e u w : List ℕ} {n i : ℕ} → Turning e u n w i → i ≤ 0 → (q : ℕ) → Stepped e n q u w 0
+turning-ends {e} {u} {w} {n} {i} t z q = record {
+  turned = λ Q k ends p s. p ∙ over Q k (rw none at (t .left Q k ends s)) ∙ ways-product Q u n;
+  only = t .only;
+}
   where
-    go : (Q : Policy) (k : ℕ) → q ≡ suc k → (b : Bool) → Outcome Q w (turn e w n) n k b → Turned Q n w (turn e w n) q (cond b (q + 1) 0)
-    go Q k p true o = rw (add-one q) (refl, subst (λ (x : ℕ). Stands Q (turn e w n) n x) (sym p) o)
-    go Q k p false o = p ∙ (o .0 ∙ ways-product Q w n)
+    none : i ≡ 0
+    none = omega arith
 
--- ---- the loops' turns
-
--- words of constraint j: its feature, lo, hi, and the upper end of its piece
-abbrev wordOf : ℕ → List ℕ → ℕ → ℕ
-wordOf i w j = getD w (intervalPlace j + i) 0
-
-module _ (e w v : List ℕ) (j : ℕ) where
-  back-at : wordOf 3 w j ≤ wordOf 5 w j → (turn e (restarted w j) j ≡ turn e w (suc j)) × (turns (restarted w j) j ≡ turns w (suc j))
-  unfolding turn turns constraintAt pieceAt
-  back-at h = rw (le-ltb (wordOf 5 w j) (wordOf 3 w j) h) (refl, refl)
-
-  done-at : wordOf 5 w j < wordOf 3 w j → (advanced e w j ≡ turn e w (suc j)) × (true ≡ turns w (suc j))
-  unfolding turn turns constraintAt pieceAt
-  done-at h = rw (lt-ltb (wordOf 5 w j) (wordOf 3 w j) h) (refl, refl)
-
-  restart-is : v ≡ piecePut w j (wordOf 2 w j) (wordOf 2 w j) → v ≡ restarted w j
-  unfolding constraintAt
-  restart-is h = h
-
-  advance-is : (p f : ℕ) → p ≡ wordOf 5 w j + 1 → f ≡ upper (endsIn e (wordOf 1 w j)) (wordOf 3 w j) (wordOf 5 w j) →
-      v ≡ piecePut w j p f → v ≡ advanced e w j
-  unfolding constraintAt pieceAt
-  advance-is p f a b h = h ∙ ap₂ (piecePut w j) (a ∙ add-one _) b
-
-  pub turn-back : (i : ℕ) → i ≡ suc j → wordOf 3 w j ≤ wordOf 5 w j → v ≡ piecePut w j (wordOf 2 w j) (wordOf 2 w j) →
-      (turn e v j ≡ turn e w i) × (turns v j ≡ turns w i)
-  turn-back i q h g = rw (q, restart-is g) (back-at h)
-
-  pub turn-done : (i p f : ℕ) → i ≡ suc j → wordOf 5 w j < wordOf 3 w j → p ≡ wordOf 5 w j + 1 →
-      f ≡ upper (endsIn e (wordOf 1 w j)) (wordOf 3 w j) (wordOf 5 w j) → v ≡ piecePut w j p f → (v ≡ turn e w i) × (true ≡ turns w i)
-  turn-done i p f q h a b g = rw (q, advance-is p f a b g) (done-at h)
-
-pub turn-none : (e w : List ℕ) (i : ℕ) → i ≤ 0 → (w ≡ turn e w i) × (false ≡ turns w i)
-unfolding turn turns
-turn-none e w zero h = (refl, refl)
-turn-none e w (suc i) h = absurd (omega arith)
-
-begun-step : (w b v : List ℕ) (i : ℕ) → b ≡ begun w i → v ≡ piecePut b i (wordOf 2 b i) (wordOf 2 b i) → v ≡ begun w (suc i)
-unfolding begun
-begun-step w b v i p h = restart-is [] b v i h ∙ ap (λ x. restarted x i) p
-
-pub begun-more : (w b v : List ℕ) (i : ℕ) → b ≡ begun w i → v ≡ piecePut b i (wordOf 2 b i) (wordOf 2 b i) → v ≡ begun w (i + 1)
-begun-more w b v i p h = begun-step w b v i p h ∙ ap (begun w) (sym (add-one i))
-
-pub begun-none : (w : List ℕ) → w ≡ begun w 0
-unfolding begun
-begun-none w = refl
+    over : (Q : Policy) (k : ℕ) → Left Q u n k w 0 → suc k ≡ ways Q u n
+    over Q k l = l .outcome w only-none false (omega (arith, l .stands), refl) .0

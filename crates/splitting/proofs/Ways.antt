@@ -5,16 +5,15 @@ use mathlib.Core.Path.{_∙_, _≡_, ap, ap₂, refl, subst, sym}
 use native.Mathlib.Nat.{mul-le-mul-left, mul-le-mul-right, mul-one, suc-add, zero-add}
 use native.Mathlib.Numerals.{add-one}
 use native.Mathlib.Omega.{arith}
-use lib.ListN.{getD, length}
+use lib.ListN.{length}
+use Rattle.layout.specs.Tables.{constraintAt, intervalOf}
 use Rattle.meaning.proofs.Count.{pieces-some, product-append}
-use Rattle.meaning.specs.Intervals.{Constraint}
+use Rattle.meaning.specs.Intervals.{Constraint, NonEmpty}
 use Rattle.meaning.specs.Limits.{mostCombinations}
 use Rattle.meaning.specs.Lists.{counting}
 use Rattle.meaning.specs.Policy.{Policy}
 use Rattle.meaning.specs.Splitting.{pieces, product}
-use Rattle.normal_form.specs.Steps.{intervalOf}
-use Rattle.normal_form.specs.Tables.{intervalPlace}
-use Rattle.splitting.specs.Odometer.{Full, constraintAt, constraintsAt, pieceCount}
+use Rattle.splitting.specs.Odometer.{Splittable, firstConstraints, pieceCount}
 
 -- how many combinations the first i constraints have
 abbrev pub ways : Policy → List ℕ → ℕ → ℕ
@@ -26,8 +25,8 @@ ways-same Q w v zero h = refl
 ways-same Q w v (suc i) h = ap₂ (λ (x : ℕ) (s : Constraint). x * length (pieces Q s)) (ways-same Q w v i h) (h i)
 
 -- one constraint more, after the others
-pub counted-more : (w : List ℕ) (n : ℕ) → constraintsAt w (suc n) ≡ constraintsAt w n ++ (constraintAt w n ∷ [])
-counted-more w n = go 0 n ∙ ap (λ (x : ℕ). constraintsAt w n ++ (constraintAt w x ∷ [])) (zero-add n)
+pub counted-more : (w : List ℕ) (n : ℕ) → firstConstraints w (suc n) ≡ firstConstraints w n ++ (constraintAt w n ∷ [])
+counted-more w n = go 0 n ∙ ap (λ (x : ℕ). firstConstraints w n ++ (constraintAt w x ∷ [])) (zero-add n)
   where
     go : (o n : ℕ) → map (constraintAt w) (counting o (suc n)) ≡ map (constraintAt w) (counting o n) ++ (constraintAt w (o + n) ∷ [])
     go o zero = ap (λ (x : ℕ). constraintAt w x ∷ []) (omega arith)
@@ -35,34 +34,31 @@ counted-more w n = go 0 n ∙ ap (λ (x : ℕ). constraintsAt w n ++ (constraint
         ap (λ l. constraintAt w o ∷ l)
         (go (suc o) n ∙ ap (λ (x : ℕ). map (constraintAt w) (counting (suc o) n) ++ (constraintAt w x ∷ [])) (omega arith))
 
-pub ways-product : (Q : Policy) (w : List ℕ) (i : ℕ) → ways Q w i ≡ product Q (constraintsAt w i)
+pub ways-product : (Q : Policy) (w : List ℕ) (i : ℕ) → ways Q w i ≡ product Q (firstConstraints w i)
 ways-product Q w zero = refl
 ways-product Q w (suc i) =
     ap₂ (λ (x y : ℕ). x * y) (ways-product Q w i) (sym (mul-one _))
-    ∙ (sym (product-append Q (constraintsAt w i) (constraintAt w i ∷ [])) ∙ ap (product Q) (sym (counted-more w i)))
+    ∙ (sym (product-append Q (firstConstraints w i) (constraintAt w i ∷ [])) ∙ ap (product Q) (sym (counted-more w i)))
 
 -- ---- the loop's turns
 
-pub full-at : (w : List ℕ) (n i : ℕ) → Full w n → i < n → getD w (intervalPlace i + 2) 0 ≤ getD w (intervalPlace i + 3) 0
-unfolding constraintAt
-full-at w n i f h = f i h
-
 -- constraint i as it is read
-abbrev wordsAt : List ℕ → ℕ → Constraint
-wordsAt w i = intervalOf (getD w (intervalPlace i + 1) 0) (getD w (intervalPlace i + 2) 0) (getD w (intervalPlace i + 3) 0)
+read-at : (w : List ℕ) (i : ℕ) {f lo hi : ℕ} → f ≡ constraintAt w i .feature → lo ≡ constraintAt w i .lo → hi ≡ constraintAt w i .hi →
+    intervalOf f lo hi ≡ constraintAt w i
+read-at w i p q r = rw (p, q, r)
+
+pub full-at : {w : List ℕ} {n i lo hi : ℕ} → Splittable w n → i < n → lo ≡ constraintAt w i .lo → hi ≡ constraintAt w i .hi → NonEmpty lo hi
+full-at {i = i} s h p q = rw (p, q) (s .full i h)
 
 -- a product that was not too large, times the pieces of one constraint, fits
 pub product-fits : (a b : ℕ) → a ≤ mostCombinations → b ≤ 4294967296 → a * b ≤ 281474976710656
 product-fits a b p q = let x = mul-le-mul-right b p in omega arith
 
 module _ (Q : Policy) (w : List ℕ) where
-  module _ (i a c : ℕ) (p : a ≡ ways Q w i) where
-    ways-suc : c ≡ length (pieces Q (wordsAt w i)) → a * c ≡ ways Q w (suc i)
-    unfolding constraintAt
-    ways-suc q = ap₂ (λ (x y : ℕ). x * y) p q
-
-    pub ways-more : c ≡ length (pieces Q (wordsAt w i)) → a * c ≡ ways Q w (i + 1)
-    ways-more q = ways-suc q ∙ ap (ways Q w) (sym (add-one i))
+  pub ways-more : (i a c : ℕ) {f lo hi : ℕ} → a ≡ ways Q w i → f ≡ constraintAt w i .feature → lo ≡ constraintAt w i .lo → hi ≡ constraintAt w i .hi →
+      c ≡ length (pieces Q (intervalOf f lo hi)) → a * c ≡ ways Q w (i + 1)
+  ways-more i a c p ef el eh q =
+      ap₂ (λ (x y : ℕ). x * y) p (q ∙ ap (λ (s : Constraint). length (pieces Q s)) (read-at w i ef el eh)) ∙ ap (ways Q w) (sym (add-one i))
 
   ways-le : (i m : ℕ) → ways Q w i ≤ ways Q w (m + i)
   ways-le i zero = rw (zero-add i) (omega arith)
@@ -72,15 +68,15 @@ module _ (Q : Policy) (w : List ℕ) where
       grow {x} {y} {c} p q = omega (arith, mul-le-mul-left y q, mul-one y)
 
   pub ways-past : (n i a : ℕ) → i < n → a ≡ ways Q w (i + 1) → mostCombinations < a →
-      suc mostCombinations ≡ min (product Q (constraintsAt w n)) (suc mostCombinations)
+      suc mostCombinations ≡ min (product Q (firstConstraints w n)) (suc mostCombinations)
   ways-past n i a h p g =
       let e : n - (i + 1) + (i + 1) ≡ n = omega arith in
       let b : ways Q w (i + 1) ≤ ways Q w n = subst (λ (x : ℕ). ways Q w (i + 1) ≤ ways Q w x) e (ways-le (i + 1) (n - (i + 1))) in
       omega (arith, ways-product Q w n, p)
 
   pub ways-end : (n i a : ℕ) → i ≤ n → n ≤ i → a ≡ ways Q w i → a ≤ mostCombinations →
-      a ≡ min (product Q (constraintsAt w n)) (suc mostCombinations)
+      a ≡ min (product Q (firstConstraints w n)) (suc mostCombinations)
   ways-end n i a h k p g =
       let e : i ≡ n = omega arith in
-      let b : a ≡ product Q (constraintsAt w n) = p ∙ (ap (ways Q w) e ∙ ways-product Q w n) in
+      let b : a ≡ product Q (firstConstraints w n) = p ∙ (ap (ways Q w) e ∙ ways-product Q w n) in
       omega arith

@@ -5,45 +5,34 @@ use mathlib.Core.Logic.{_⊎_, inl, inr}
 use mathlib.Core.Path.{_∙_, _≡_, ap, ap₂, refl, subst, sym}
 use native.Mathlib.Numerals.{add-one}
 use native.Mathlib.Omega.{arith}
-use lib.ListN.{getD, length}
-use Rattle.combination.specs.Combination.{pieceAt}
+use lib.ListN.{length}
+use Rattle.frames.proofs.Frames.{only-none, only-then}
+use Rattle.layout.specs.Tables.{PiecePut, constraintAt, intervalOf, pieceAt}
 use Rattle.meaning.proofs.Filling.{fill, fillConstraints, fillNode, fillSuccessors}
 use Rattle.meaning.proofs.Rules.{order}
 use Rattle.meaning.specs.Intervals.{Constraint}
 use Rattle.meaning.specs.Lists.{counting}
 use Rattle.meaning.specs.NormalForm.{Form, Node, Successors, none, successor}
 use Rattle.meaning.specs.Splitting.{constraintsBelow, constraintsOf}
-use Rattle.normal_form.specs.Tables.{intervalPlace}
-use Rattle.splitting.proofs.Storing.{constraint-kept, kept-more, kept-put, kept-refl, kept-trans, piece-here, piece-other}
-use Rattle.splitting.specs.Odometer.{Widened, constraintAt, constraintsAt, piecePut}
+use Rattle.splitting.proofs.Storing.{constraint-kept, piece-other, pieces-more, put-kept}
+use Rattle.splitting.specs.Odometer.{Widened, firstConstraints}
 
 -- ---- the loop
 
 pub widened-none : (w : List ℕ) → Widened 0 w w
-widened-none w = record { whole = λ m h. absurd (omega arith); kept = kept-refl 0 w }
+widened-none w = record { whole = λ m h. absurd (omega arith); only = only-none }
 
--- constraint i whole
-module _ (w : List ℕ) (i : ℕ) where
-  abbrev wide : List ℕ
-  wide = piecePut w i (constraintAt w i .lo) (constraintAt w i .hi)
-
-  wide-here : intervalPlace (suc i) ≤ length w → pieceAt wide i ≡ constraintAt wide i
-  wide-here l = piece-here w i _ _ l ∙ sym (constraint-kept (kept-put w i _ _) i)
-
-  wide-other : (j : ℕ) → (j ≡ i → ⊥) → pieceAt w j ≡ constraintAt w j → pieceAt wide j ≡ constraintAt wide j
-  wide-other j n e = piece-other w i _ _ j n ∙ (e ∙ sym (constraint-kept (kept-put w i _ _) j))
-
-  wide-more : (u : List ℕ) → intervalPlace (suc i) ≤ length w → Widened i u w → Widened (suc i) u wide
-  wide-more u l h = record { whole = λ m b. go m (order m i) b; kept = kept-trans (kept-more (omega arith) (h .kept)) (kept-put w i _ _) }
-    where
-      go : (m : ℕ) → (m < i) ⊎ (i ≤ m) → m < suc i → pieceAt wide m ≡ constraintAt wide m
-      go m (inl a) b = wide-other m (λ z. omega arith) (h .whole m a)
-      go m (inr a) b = let e : i ≡ m = omega arith in subst (λ (k : ℕ). pieceAt wide k ≡ constraintAt wide k) e (wide-here l)
-
-  pub widened-more : (u v : List ℕ) → intervalPlace (suc i) ≤ length w → Widened i u w →
-      v ≡ piecePut w i (getD w (intervalPlace i + 2) 0) (getD w (intervalPlace i + 3) 0) → Widened (i + 1) u v
-  unfolding constraintAt
-  widened-more u v l h e = rw (add-one i, e) (wide-more u l h)
+pub widened-more : {u w v : List ℕ} {i lo hi : ℕ} → Widened i u w → lo ≡ constraintAt w i .lo → hi ≡ constraintAt w i .hi → PiecePut i lo hi w v →
+    Widened (i + 1) u v
+widened-more {w = w} {v = v} {i = i} h el eh p =
+    rw (add-one i) (record { whole = λ m b. go m (order m i) b; only = only-then (pieces-more (h .only) (omega arith)) (put-kept p) })
+  where
+    go : (m : ℕ) → (m < i) ⊎ (i ≤ m) → m < suc i → pieceAt v m ≡ constraintAt v m
+    go m (inl a) b = piece-other p m (λ z. omega arith) ∙ h .whole m a ∙ sym (constraint-kept (put-kept p) m)
+    go m (inr a) b =
+        let e : i ≡ m = omega arith in
+        subst (λ (k : ℕ). pieceAt v k ≡ constraintAt v k) e
+        (p .piece ∙ ap₂ (intervalOf (constraintAt w i .feature)) el eh ∙ sym (constraint-kept (put-kept p) i))
 
 -- ---- the combination
 
@@ -91,6 +80,6 @@ same-at : (w : List ℕ) (o n : ℕ) → ((m : ℕ) → m < o + n → pieceAt w 
 same-at w o zero h = tt
 same-at w o (suc n) h = (h o (omega arith), same-at w (suc o) n (λ m b. h m (omega arith)))
 
-pub widened-form : {n : ℕ} {w w′ : List ℕ} → Widened n w w′ → (F : Form) → constraintsOf F ≡ constraintsAt w′ n → fill (pieceAt w′) F ≡ F
+pub widened-form : {n : ℕ} {w w′ : List ℕ} → Widened n w w′ → (F : Form) → constraintsOf F ≡ firstConstraints w′ n → fill (pieceAt w′) F ≡ F
 widened-form {n} {w} {w′} h F e =
     same-form (pieceAt w′) F (subst (Same (pieceAt w′) 0) (sym e) (same-at w′ 0 n (λ m b. h .whole m (omega arith))))

@@ -10,7 +10,7 @@ use Rattle.meaning.specs.Limits.{mostRecords}
 use Rattle.meaning.specs.Lists.{flatMap}
 use Rattle.meaning.specs.Policy.{Chain, Policy, class, end, firstTerm, impossible, interval, policyOf, some}
 use Rattle.meaning.specs.Splitting.{ends}
-use Rattle.normal_form.specs.Parts.{chainAt}
+use Rattle.policy.specs.Terms.{conjunctsAt}
 
 -- ---- the ends
 
@@ -42,8 +42,8 @@ pairsPut e n f lo hi = set (set (set (set e n f) (n + 1) lo) (n + 2) f) (n + 3) 
 
 -- what a chain from record k on asks, and what it gives: its pairs after the first n words
 pub record Chained (q e : List ℕ) (k n : ℕ) : Type 0 where
-  pub reads : Reads q k (chainAt q k)
-  pub room : n + 4 * count (chainAt q k) ≤ length e
+  pub reads : Reads q k (conjunctsAt q k)
+  pub room : n + 4 * count (conjunctsAt q k) ≤ length e
 
 pub record Paired (c : Chain) (n : ℕ) (e e′ : List ℕ) (r : ℕ) : Type 0 where
   pub same : length e′ ≡ length e

@@ -1,9 +1,11 @@
 // Splitting: the ends of the second policy, the pieces of a constraint between them, and the odometer over the combinations.
 // A piece needs no more than its two ends: the one after it starts at the next number, and one look over the ends tells where it
 // stops.
+use layout::feature_of;
+use layout::piece_hi;
+use layout::put_piece;
+use meaning::FeatureNo;
 use meaning::limits::MOST_COMBINATIONS;
-use normal_form::INTERVAL;
-use normal_form::INTERVALS;
 use policy::child_of;
 use policy::first_term;
 use policy::hi_of;
@@ -13,33 +15,31 @@ use policy::name_of;
 use policy::next_of;
 ghost use mathlib.Core.Bool.{false};
 ghost use mathlib.Core.Path.{_≡_};
-ghost use Prim.Native.Nat.{_+_, _<_, _≤_, min, suc};
+ghost use Prim.Native.Nat.{_+_, _<_, _≤_};
 ghost use lib.ListN.{length};
+ghost use Rattle.layout.specs.Tables.{intervalOf};
 ghost use Rattle.meaning.specs.Intervals.{NonEmpty};
-ghost use Rattle.meaning.specs.Limits.{mostCombinations, mostRecords};
 ghost use Rattle.meaning.specs.Policy.{Policy, policyOf};
-ghost use Rattle.meaning.specs.Splitting.{pieces, product};
-ghost use Rattle.normal_form.specs.Parts.{chainAt};
-ghost use Rattle.normal_form.specs.Steps.{intervalOf};
-ghost use Rattle.normal_form.specs.Tables.{tablesEnd};
+ghost use Rattle.meaning.specs.Splitting.{pieces};
+ghost use Rattle.policy.specs.Terms.{conjunctsAt};
 ghost use Rattle.splitting.specs.Ends.{Chained, Collectable, Collected, Ends, Paired, endsIn, least, nearer, pairsPut, upper};
-ghost use Rattle.splitting.specs.Odometer.{Few, Splittable, Started, Stepped, Widened, constraintsAt, piecePut};
+ghost use Rattle.splitting.specs.Odometer.{Few, Multiplied, Splittable, Started, Stepped, Widened};
 
 // Two pairs of a feature and an end.
-fn put_pairs(ends: &mut [u32], n: usize, f: u32, lo: u32, hi: u32)
+fn put_pairs(ends: &mut [u32], n: usize, f: FeatureNo, lo: u32, hi: u32)
     requires { ⌜ n + 4 ≤ length (now ends) ⌝ }
-    ensures { λ _. ⌜ now (ends .exit) ≡ pairsPut (now (ends .entry)) n f lo hi ⌝ }
+    ensures { λ _. ⌜ now (ends .exit) ≡ pairsPut (now (ends .entry)) n (f .0) lo hi ⌝ }
 {
-    ends[n] = f;
+    ends[n] = f.0;
     ends[n + 1] = lo;
-    ends[n + 2] = f;
+    ends[n + 2] = f.0;
     ends[n + 3] = hi;
 }
 
 // The pairs of the chain from record k on, after n words: a record, its child chain, its next.
 fn collect_from(q: &[u32], ends: &mut [u32], k: u32, n: usize) -> usize
     requires { ⌜ Chained (now q) (now ends) k n ⌝ }
-    ensures { λ r. ⌜ Paired (chainAt (now (q .entry)) k) n (now (ends .entry)) (now (ends .exit)) r ⌝ }
+    ensures { λ r. ⌜ Paired (conjunctsAt (now (q .entry)) k) n (now (ends .entry)) (now (ends .exit)) r ⌝ }
 {
     if k == 0 {
         return n;
@@ -51,7 +51,7 @@ fn collect_from(q: &[u32], ends: &mut [u32], k: u32, n: usize) -> usize
         return collect_from(q, ends, next, m);
     }
     if kind == 4 {
-        put_pairs(ends, n, name_of(q, k), lo_of(q, k), hi_of(q, k));
+        put_pairs(ends, n, FeatureNo(name_of(q, k)), lo_of(q, k), hi_of(q, k));
         return collect_from(q, ends, next, n + 4);
     }
     collect_from(q, ends, next, n)
@@ -75,10 +75,10 @@ pub fn collect(q: &[u32], ends: &mut [u32]) -> usize
 }
 
 // y, where it is an end on f, above x and below best; else best.
-fn closer(g: u32, f: u32, y: u32, x: u32, best: u32) -> u32
-    ensures { λ r. ⌜ r ≡ nearer g f y x best ⌝ }
+fn closer(g: FeatureNo, f: FeatureNo, y: u32, x: u32, best: u32) -> u32
+    ensures { λ r. ⌜ r ≡ nearer (g .0) (f .0) y x best ⌝ }
 {
-    if g != f {
+    if g.0 != f.0 {
         return best;
     }
     if y <= x {
@@ -91,22 +91,22 @@ fn closer(g: u32, f: u32, y: u32, x: u32, best: u32) -> u32
 }
 
 // The least end on f above x and below hi, else hi.
-fn next_end(ends: &[u32], f: u32, x: u32, hi: u32) -> u32
-    ensures { λ r. ⌜ r ≡ least (endsIn (now (ends .entry)) f) x hi ⌝ }
+fn next_end(ends: &[u32], f: FeatureNo, x: u32, hi: u32) -> u32
+    ensures { λ r. ⌜ r ≡ least (endsIn (now (ends .entry)) (f .0)) x hi ⌝ }
 {
     let mut best = hi;
     let mut i = 0;
     while i + 1 < ends.len() {
-        best = closer(ends[i], f, ends[i + 1], x, best);
+        best = closer(FeatureNo(ends[i]), f, ends[i + 1], x, best);
         i += 2;
     }
     best
 }
 
 // The upper end of the piece after the one that ends at p: the next end itself, or the gap in front of it.
-fn next_upper(ends: &[u32], f: u32, hi: u32, p: u32) -> u32
+fn next_upper(ends: &[u32], f: FeatureNo, hi: u32, p: u32) -> u32
     requires { ⌜ p < hi ⌝ }
-    ensures { λ r. ⌜ r ≡ upper (endsIn (now (ends .entry)) f) hi p ⌝ }
+    ensures { λ r. ⌜ r ≡ upper (endsIn (now (ends .entry)) (f .0)) hi p ⌝ }
 {
     let y = next_end(ends, f, p, hi);
     if y == p + 1 {
@@ -116,10 +116,10 @@ fn next_upper(ends: &[u32], f: u32, hi: u32, p: u32) -> u32
 }
 
 // How many pieces the constraint lo..hi on f has.
-fn count(ends: &[u32], f: u32, lo: u32, hi: u32) -> usize
+fn count(ends: &[u32], f: FeatureNo, lo: u32, hi: u32) -> usize
     requires { ⌜ NonEmpty lo hi ⌝ }
     ensures { λ r. ⌜ (1 ≤ r) × (r ≤ 4294967296) ⌝ }
-    ensures { λ r. ⌜ ((Q : Policy) → Ends Q (now (ends .entry)) → r ≡ length (pieces Q (intervalOf f lo hi))) ⌝ }
+    ensures { λ r. ⌜ ((Q : Policy) → Ends Q (now (ends .entry)) → r ≡ length (pieces Q (intervalOf (f .0) lo hi))) ⌝ }
 {
     let mut c: usize = 1;
     let mut x = lo;
@@ -150,27 +150,19 @@ pub fn may_exceed(ends: &[u32], n: usize) -> bool
 // How many combinations the first n constraints have, 65,537 where they are more than 65,536.
 pub fn combinations(ends: &[u32], work: &[u32], n: usize) -> usize
     requires { ⌜ Splittable (now work) n ⌝ }
-    ensures { λ r. ⌜ ((Q : Policy) → Ends Q (now (ends .entry)) → r ≡ min (product Q (constraintsAt (now (work .entry)) n)) (suc mostCombinations)) ⌝ }
+    ensures { λ r. ⌜ Multiplied (now (ends .entry)) (now (work .entry)) n r ⌝ }
 {
     let mut all: usize = 1;
     for i in 0..n {
-        let at = INTERVALS + INTERVAL * i;
-        all = all * count(ends, work[at + 1], work[at + 2], work[at + 3]);
+        let f = feature_of(work, i);
+        let lo = layout::lo_of(work, i);
+        let hi = layout::hi_of(work, i);
+        all = all * count(ends, f, lo, hi);
         if MOST_COMBINATIONS < all {
             return MOST_COMBINATIONS + 1;
         }
     }
     all
-}
-
-// Constraint i's piece.
-fn put_piece(work: &mut [u32], i: usize, lo: u32, hi: u32)
-    requires { ⌜ (i < mostRecords) × (tablesEnd ≤ length (now work)) ⌝ }
-    ensures { λ _. ⌜ now (work .exit) ≡ piecePut (now (work .entry)) i lo hi ⌝ }
-{
-    let at = INTERVALS + INTERVAL * i;
-    work[at + 4] = lo;
-    work[at + 5] = hi;
 }
 
 // Each of the first n constraints whole, before it is split.
@@ -179,8 +171,8 @@ pub fn widen(work: &mut [u32], n: usize)
     ensures { λ _. ⌜ Widened n (now (work .entry)) (now (work .exit)) ⌝ }
 {
     for i in 0..n {
-        let lo = work[INTERVALS + INTERVAL * i + 2];
-        let hi = work[INTERVALS + INTERVAL * i + 3];
+        let lo = layout::lo_of(work, i);
+        let hi = layout::hi_of(work, i);
         put_piece(work, i, lo, hi);
     }
 }
@@ -191,7 +183,7 @@ pub fn start(work: &mut [u32], n: usize)
     ensures { λ _. ⌜ Started n (now (work .entry)) (now (work .exit)) ⌝ }
 {
     for i in 0..n {
-        let lo = work[INTERVALS + INTERVAL * i + 2];
+        let lo = layout::lo_of(work, i);
         put_piece(work, i, lo, lo);
     }
 }
@@ -205,15 +197,14 @@ pub fn step(ends: &[u32], work: &mut [u32], n: usize, q: u32) -> u32
     let mut i = n;
     while 0 < i {
         i -= 1;
-        let at = INTERVALS + INTERVAL * i;
-        let hi = work[at + 3];
-        let p = work[at + 5];
+        let hi = layout::hi_of(work, i);
+        let p = piece_hi(work, i);
         if p < hi {
-            let up = next_upper(ends, work[at + 1], hi, p);
+            let up = next_upper(ends, feature_of(work, i), hi, p);
             put_piece(work, i, p + 1, up);
             return q + 1;
         }
-        let lo = work[at + 2];
+        let lo = layout::lo_of(work, i);
         put_piece(work, i, lo, lo);
     }
     0

@@ -6,12 +6,11 @@ use mathlib.Core.Path.{_∙_, _≡_, refl, sym}
 use native.Mathlib.Omega.{arith}
 use borrow.Author.Tests.{eq-eqb, ne-eqb}
 use lib.Dec.{eqb}
-use lib.ListN.{getD}
-use Rattle.combination.specs.Combination.{holderAt, pieceAt, piecesFrom, piecesOf}
+use Rattle.layout.specs.Combination.{piecesFrom, piecesOf}
+use Rattle.layout.specs.Tables.{constraintAt, holderAt, pieceAt}
 use Rattle.meaning.specs.Intervals.{isInside}
 use Rattle.meaning.specs.Lists.{any}
 use Rattle.meaning.specs.Subsumption.{includes}
-use Rattle.normal_form.specs.Tables.{intervalPlace}
 
 -- ---- one constraint
 
@@ -19,28 +18,19 @@ module _ (w : List ℕ) (x f lo hi : ℕ) where
   abbrev pub isPieceInside : ℕ → Bool
   isPieceInside m = eqb (holderAt w m) x && includes f lo hi (pieceAt w m)
 
-  module _ (m : ℕ) where
-    abbrev featureAt : ℕ
-    featureAt = getD w (intervalPlace m + 1) 0
+  module _ (m : ℕ) {y : ℕ} (ey : y ≡ holderAt w m) where
+    pub of-another : (y ≡ x → ⊥) → false ≡ isPieceInside m
+    of-another h = rw (ne-eqb (holderAt w m) x (λ e. h (ey ∙ e)))
 
-    abbrev loAt : ℕ
-    loAt = getD w (intervalPlace m + 4) 0
+    module _ (own : y ≡ x) {g : ℕ} (eg : g ≡ constraintAt w m .feature) where
+      pub other-feature : (g ≡ f → ⊥) → false ≡ isPieceInside m
+      unfolding constraintAt pieceAt
+      other-feature h = rw (eq-eqb (holderAt w m) x (sym ey ∙ own), ne-eqb f (constraintAt w m .feature) (λ e. h (eg ∙ sym e)))
 
-    abbrev hiAt : ℕ
-    hiAt = getD w (intervalPlace m + 5) 0
-
-    pub of-another : (holderAt w m ≡ x → ⊥) → false ≡ isPieceInside m
-    of-another h = rw (ne-eqb (holderAt w m) x h)
-
-    module _ (own : holderAt w m ≡ x) where
-      pub other-feature : (featureAt ≡ f → ⊥) → false ≡ isPieceInside m
-      unfolding pieceAt
-      other-feature h = rw (eq-eqb (holderAt w m) x own, ne-eqb f featureAt (λ e. h (sym e)))
-
-      module _ (same : featureAt ≡ f) where
-        pub by-ends : {t : Bool} → t ≡ isInside lo hi loAt hiAt → t ≡ isPieceInside m
-        unfolding pieceAt
-        by-ends h = h ∙ rw (eq-eqb (holderAt w m) x own, eq-eqb f featureAt (sym same))
+      pub by-ends : g ≡ f → {low high : ℕ} {t : Bool} → low ≡ pieceAt w m .lo → high ≡ pieceAt w m .hi → t ≡ isInside lo hi low high →
+          t ≡ isPieceInside m
+      unfolding constraintAt pieceAt
+      by-ends e el eh h = h ∙ rw (eq-eqb (holderAt w m) x (sym ey ∙ own), eq-eqb f (constraintAt w m .feature) (sym e ∙ eg), el, eh)
 
   -- ---- one after another
 

@@ -3,31 +3,21 @@ use Prim.Native.Nat.{_≤_, suc, ℕ}
 use mathlib.Core.Bool.{Bool}
 use mathlib.Core.List.{List}
 use mathlib.Core.Path.{_≡_}
-use lib.ListN.{length}
-use Rattle.combination.specs.Combination.{Individual, Kin}
-use Rattle.meaning.specs.Accepted.{Reads}
-use Rattle.meaning.specs.Limits.{mostRecords}
+use Rattle.layout.specs.Combination.{Individual, Kin}
+use Rattle.layout.specs.Tables.{Standing}
+use Rattle.layout.specs.declared.Tables.{Tables}
+use Rattle.meaning.specs.Accepted.{Reads, depth}
 use Rattle.meaning.specs.NormalForm.{Node, Successors}
-use Rattle.meaning.specs.Policy.{Chain, chainFrom, childOf, conjunctAt, end}
+use Rattle.meaning.specs.Policy.{Chain}
 use Rattle.meaning.specs.Subsumption.{anySuccessor, subsumed}
 use Rattle.meaning.specs.Vocabulary.{Vocabulary}
-use Rattle.normal_form.specs.Tables.{tablesEnd}
-use Rattle.normal_form.specs.declared.Tables.{Tables}
+use Rattle.policy.specs.Terms.{conjunctOf, conjunctsAt}
 
--- the conjuncts from record k on
-abbrev pub conjunctsAt : List ℕ → ℕ → Chain
-conjunctsAt q k = chainFrom (length q) q k
-
--- the tables fit, and the records from k on are a chain
-pub record Testable (q w : List ℕ) (t : Tables) (k : ℕ) : Type 0 where
-  pub long : tablesEnd ≤ length w
-  pub individuals : t .individuals ≤ mostRecords
-  pub constraints : t .constraints ≤ mostRecords
+-- the tables fit, and the records from k on are a chain of no more levels than are left
+pub record Testable (q w : List ℕ) (t : Tables) (left k : ℕ) : Type 0 where
+  pub standing : Standing w t
   pub reads : Reads q k (conjunctsAt q k)
-
--- the conjunct at record k, with nothing after it
-abbrev pub conjunctOf : List ℕ → ℕ → Chain
-conjunctOf q k = conjunctAt q k (conjunctsAt q (childOf q k)) end
+  pub shallow : depth (conjunctsAt q k) ≤ left
 
 -- b is the answer for individual x and the conjuncts c: whatever the individual is and whatever is below it, by whatever vocabulary
 abbrev pub Answers : List ℕ → Tables → ℕ → Chain → Bool → Type 0
@@ -36,14 +26,13 @@ Answers w t x c b =
     b ≡ subsumed K c m under
 
 -- b is the answer for individual x and the conjuncts from record k on
-abbrev pub DecidesAll : List ℕ → List ℕ → Tables → ℕ → ℕ → Bool → Type 0
-DecidesAll q w t k x b = Answers w t x (conjunctsAt q k) b
+pub record DecidesAll (q w : List ℕ) (t : Tables) (k x : ℕ) (b : Bool) : Type 0 where
+  pub answers : Answers w t x (conjunctsAt q k) b
 
 -- b is the answer for individual x and record k's conjunct alone
-abbrev pub DecidesOne : List ℕ → List ℕ → Tables → ℕ → ℕ → Bool → Type 0
-DecidesOne q w t k x b = Answers w t x (conjunctOf q k) b
+pub record DecidesOne (q w : List ℕ) (t : Tables) (k x : ℕ) (b : Bool) : Type 0 where
+  pub answers : Answers w t x (conjunctOf q k) b
 
 -- whether some successor of x by role r passes the conjuncts from record k on
-abbrev pub DecidesSome : List ℕ → List ℕ → Tables → ℕ → ℕ → ℕ → Bool → Type 0
-DecidesSome q w t k x r b =
-    (K : Vocabulary) (under : Successors) → Kin K w t x x under → b ≡ anySuccessor r (subsumed K (conjunctsAt q k)) under
+pub record DecidesSome (q w : List ℕ) (t : Tables) (k x r : ℕ) (b : Bool) : Type 0 where
+  pub answers : (K : Vocabulary) (under : Successors) → Kin K w t x x under → b ≡ anySuccessor r (subsumed K (conjunctsAt q k)) under

@@ -1,5 +1,5 @@
 -- The records of a model's words, one after the other, and the lines printed for them. Assumes nothing.
-use Prim.Native.Nat.{_*_, _+_, _-_, _/_, _≤_, suc, ℕ}
+use Prim.Native.Nat.{_*_, _+_, _-_, _/_, suc, ℕ}
 use borrow.Author.Tests.{eq-eqb, ne-eqb}
 use lib.ListN.{drop, length, take-append-drop}
 use mathlib.Core.List.{List, [], _++_, _∷_, append-assoc, append-nil, map}
@@ -15,8 +15,9 @@ use Rattle.meaning.specs.Model.{Fact, chainedWords, factAt, factKind, factName,
 use Rattle.meaning.specs.Model.{modelWords}
 use Rattle.meaning.specs.Program.{answerLine, bytes, factLine, line, printed}
 use Rattle.meaning.specs.declared.Verdict.the-variants.{Outside}
-use Rattle.text.proofs.Printing.{put-as, put-then}
-use Rattle.text.specs.Text.{Model, Put, recordsTo, shown}
+use Rattle.printing.proofs.Printing.{put-as, put-then}
+use Rattle.printing.specs.Printing.{Put}
+use Rattle.text.specs.Text.{Model, recordsTo, shown}
 
 -- the line of record k, of the words read
 module _ (m : List ℕ) (k : ℕ) {x a i j : ℕ} (kind : x ≡ factKind m k) (name : a ≡ factName m k) (owner : i ≡ factOwner m k) (other : j ≡ factOther m k) where
@@ -35,11 +36,11 @@ lines-more (y ∷ F) x = rw (lines-more F x, append-assoc (factLine y) (flatMap 
 
 -- the line of the next record
 pub facts-more : {t u v : List ℕ} {at next r : ℕ} (m : List ℕ) (k : ℕ) → Put t at (flatMap factLine (recordsTo m k)) u next →
-    Put u next (factLine (factAt m (k + 1))) v r → next ≤ length t → Put t at (flatMap factLine (recordsTo m (k + 1))) v r
-facts-more m k p q h =
+    Put u next (factLine (factAt m (k + 1))) v r → Put t at (flatMap factLine (recordsTo m (k + 1))) v r
+facts-more m k p q =
     let more : recordsTo m (k + 1) ≡ recordsTo m k ++ (factAt m (k + 1) ∷ []) =
     ap (recordsTo m) (add-one k) ∙ counted (factAt m) 1 k ∙ ap (λ (i : ℕ). recordsTo m k ++ (factAt m i ∷ [])) (add-comm 1 k) in
-    put-as (sym (ap (flatMap factLine) more ∙ lines-more (recordsTo m k) (factAt m (k + 1)))) (put-then p q h)
+    put-as (sym (ap (flatMap factLine) more ∙ lines-more (recordsTo m k) (factAt m (k + 1)))) (put-then p q)
 
 pub facts-all : {t u : List ℕ} {at r : ℕ} (m : List ℕ) (k n : ℕ) → Put t at (flatMap factLine (recordsTo m k)) u r → k ≡ n →
     Put t at (flatMap factLine (recordsTo m n)) u r

@@ -1,5 +1,3 @@
 -- The laws that the functions' proofs cite, and those for a function that puts reading, deciding and printing together.
-pub mod Printing
-pub mod Decimal
 pub mod Facts
 pub mod Outcomes

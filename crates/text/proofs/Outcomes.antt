@@ -22,9 +22,10 @@ use Rattle.meaning.specs.Promises.{CorrectVerdict, agreed, escaped, unsaidVerdi
 use Rattle.meaning.specs.Vocabulary.{Vocabulary}
 use Rattle.meaning.specs.declared.Verdict.{Verdict}
 use Rattle.meaning.specs.declared.Verdict.the-variants.{Compliant, Outside, Refused}
+use Rattle.printing.proofs.Printing.{put-taken, put-within}
+use Rattle.printing.specs.Printing.{Put}
 use Rattle.text.proofs.Facts.{line-printed}
-use Rattle.text.proofs.Printing.{put-taken}
-use Rattle.text.specs.Text.{Put, Shows, shown}
+use Rattle.text.specs.Text.{Shows, shown}
 
 -- ---- what is decided
 
@@ -131,6 +132,7 @@ program-printed b = go (leb (length b) mostBytes) (exact (length b) (wordsOf b))
     go true false told = line-printed (refused 40)
     go false whole told = line-printed (refused 40)
 
--- a verdict that shows what is decided, printed
-pub answer-printed : (b : List ℕ) {t u out : List ℕ} {r : ℕ} {v : Verdict} → Shows v out (decided b) → Put t 0 (printed (shown v out)) u r → take r u ≡ program b
-answer-printed b s p = put-taken p ∙ ap printed (s .outcome) ∙ sym (program-printed b)
+-- a verdict that shows what is decided, printed: the text holds it, and begins with it
+pub answer-printed : (b : List ℕ) {t u out : List ℕ} {r : ℕ} {v : Verdict} → Shows v out (decided b) → Put t 0 (printed (shown v out)) u r →
+    (r ≤ length u) × (take r u ≡ program b)
+answer-printed b s p = (put-within p, put-taken p ∙ ap printed (s .outcome) ∙ sym (program-printed b))

@@ -1,5 +1,5 @@
--- What is printed into a slice of bytes, and the outcome that a verdict and the output stand for.
-use Prim.Native.Nat.{_*_, _+_, _≤_, ℕ}
+-- The outcome that a verdict and the output stand for, and how long its text may be.
+use Prim.Native.Nat.{_*_, _≤_, ℕ}
 use mathlib.Core.List.{List, [], map}
 use mathlib.Core.Path.{_≡_}
 use lib.ListN.{length, take}
@@ -10,7 +10,6 @@ use Rattle.meaning.specs.Model.{Fact, factAt, modelWords}
 use Rattle.meaning.specs.Operations.{Outcome}
 use Rattle.meaning.specs.declared.Verdict.{Verdict}
 use Rattle.meaning.specs.declared.Verdict.the-variants.{Compliant, Outside, Refused}
-use Rattle.words.specs.Rows.{putAt}
 
 -- the most bytes of a line: a name of at most 7, three numbers of at most ten digits with a space each, a line feed
 abbrev pub mostLine : ℕ
@@ -19,12 +18,6 @@ mostLine = 41
 -- a text that is long enough: a line for the answer and one for each record that an output holds
 abbrev pub textSize : ℕ
 textSize = mostLine * 3277
-
--- `after` is `before` with `printed` in the place of what stood there from `at` on, and no longer; the next place is r
-pub record Put (before : List ℕ) (at : ℕ) (printed after : List ℕ) (r : ℕ) : Type 0 where
-  pub text : after ≡ putAt before at printed
-  pub place : r ≡ at + length printed
-  pub size : length after ≡ length before
 
 -- records 1 to n of a model's words
 abbrev pub recordsTo : List ℕ → ℕ → List Fact

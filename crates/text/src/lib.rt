@@ -1,55 +1,20 @@
 // The program's output: the lines that it prints.
 use meaning::Verdict;
+use printing::put_byte;
+use printing::put_decimal;
+use printing::put_name;
 use records::word;
 ghost use mathlib.Core.List.{[], _∷_};
-ghost use mathlib.Core.Path.{_≡_};
-ghost use Prim.Native.Nat.{_*_, _+_, _/_, _<_, _≤_};
+ghost use Prim.Native.Nat.{_*_, _+_, _<_, _≤_};
 ghost use lib.ListN.{length};
 ghost use Rattle.meaning.specs.Lists.{flatMap};
 ghost use Rattle.meaning.specs.Model.{factAt};
 ghost use Rattle.meaning.specs.Program.{bytes, decimal, factLine, line, printed};
-ghost use Rattle.text.specs.Text.{Put, Reported, mostLine, recordsTo, shown, textSize};
+ghost use Rattle.printing.specs.Printing.{Put};
+ghost use Rattle.text.specs.Text.{Reported, mostLine, recordsTo, shown, textSize};
 
 // The bytes of a text that every answer fits in.
 pub const TEXT: usize = 41 * 3277;
-
-// One byte, and the place after it.
-fn put_byte(text: &mut [u8], at: usize, x: u8) -> usize
-    requires { ⌜ at < length (now text) ⌝ }
-    ensures { λ r. ⌜ Put (now (text .entry)) at (x ∷ []) (now (text .exit)) r ⌝ }
-{
-    text[at] = x;
-    at + 1
-}
-
-fn put_name(text: &mut [u8], at: usize, name: &[u8]) -> usize
-    requires { ⌜ at + length (now name) ≤ length (now text) ⌝ }
-    ensures { λ r. ⌜ Put (now (text .entry)) at (now (name .entry)) (now (text .exit)) r ⌝ }
-{
-    for i in 0..name.len() {
-        text[at + i] = name[i];
-    }
-    at + name.len()
-}
-
-fn digit(d: u32) -> u8
-    requires { ⌜ d < 10 ⌝ }
-    ensures { λ r. ⌜ r ≡ 48 + d ⌝ }
-{
-    (48 + d) as u8
-}
-
-// A number in base ten: the tens and above, then the last digit. At most ten calls deep.
-fn put_decimal(text: &mut [u8], at: usize, n: u32) -> usize
-    requires { ⌜ at + length (decimal n) ≤ length (now text) ⌝ }
-    ensures { λ r. ⌜ Put (now (text .entry)) at (decimal n) (now (text .exit)) r ⌝ }
-{
-    if n < 10 {
-        return put_byte(text, at, digit(n));
-    }
-    let next = put_decimal(text, at, n / 10);
-    put_byte(text, next, digit(n % 10))
-}
 
 // A space and a number.
 fn put_number(text: &mut [u8], at: usize, n: u32) -> usize
@@ -134,7 +99,8 @@ fn put_refused(text: &mut [u8], n: u32) -> usize
 
 fn put_outside(text: &mut [u8], out: &[u32], s: u32, q: u32, n: usize) -> usize
     requires { ⌜ (textSize ≤ length (now text)) × Reported (Verdict.Outside s q n) (now out) ⌝ }
-    ensures { λ r. ⌜ Put (now (text .entry)) 0 (printed (shown (Verdict.Outside s q n) (now (out .entry)))) (now (text .exit)) r ⌝ }
+    ensures { λ r. ⌜ Put (now (text .entry)) 0 (printed (shown (Verdict.Outside s q n) (now (out .entry))))
+        (now (text .exit)) r ⌝ }
 {
     let next = put_pair(text, 0, b"outside", s, q);
     put_facts(text, next, out, n / 5 - 1)

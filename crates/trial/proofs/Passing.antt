@@ -1,21 +1,22 @@
 -- Laws of the test of one combination against the terms of the other policy, one after another.
-use Prim.Native.Nat.{_+_, ℕ}
+use Prim.Native.Nat.{_+_, _≤_, ℕ}
 use mathlib.Core.Bool.{Bool, _||_, false, true}
 use mathlib.Core.List.{List, [], _∷_}
 use mathlib.Core.Path.{_∙_, _≡_, ap, refl, sym}
-use Rattle.combination.specs.Combination.{Combined}
+use Rattle.layout.specs.Combination.{Combined}
+use Rattle.layout.specs.declared.Tables.{Tables}
 use Rattle.meaning.proofs.Rules.{all-of, any-in, at-any, head, isTrue, same-test, tail}
-use Rattle.meaning.specs.Accepted.{Reads}
+use Rattle.meaning.specs.Accepted.{Reads, depth}
 use Rattle.meaning.specs.Containment.{passes}
+use Rattle.meaning.specs.Limits.{mostDepth}
 use Rattle.meaning.specs.Lists.{All, _∈_, any}
 use Rattle.meaning.specs.NormalForm.{Form}
-use Rattle.meaning.specs.Policy.{Policy, childOf, policyOf}
+use Rattle.meaning.specs.Policy.{Policy, childOf, policyOf, termAt}
 use Rattle.meaning.specs.Subsumption.{subsumed}
 use Rattle.meaning.specs.Vocabulary.{Vocabulary}
-use Rattle.normal_form.specs.Tables.{termAt}
-use Rattle.normal_form.specs.declared.Tables.{Tables}
+use Rattle.policy.specs.Terms.{conjunctsAt}
 use Rattle.subsumption.proofs.Callers.{root-tells}
-use Rattle.subsumption.specs.Tests.{DecidesAll, Testable, conjunctsAt}
+use Rattle.subsumption.specs.Tests.{DecidesAll, Testable}
 use Rattle.trial.specs.Trials.{Askable, Taker, Term}
 
 -- the rest are terms of q, and of whatever combination the tables hold, what the rest tells is what all tell
@@ -33,8 +34,8 @@ module _ (q w : List ℕ) (t : Tables) where
 
   -- the term at record k
   module _ (k : ℕ) {j : ℕ} (e : j ≡ childOf q k) where
-    pub testable-term : Askable q w t → Reads q (childOf q k) (termAt q k) → Testable q w t j
-    testable-term a r = record { long = a .long; individuals = a .individuals; constraints = a .constraints; reads = rw e r }
+    pub testable-term : Askable q w t → Reads q (childOf q k) (termAt q k) → depth (termAt q k) ≤ mostDepth → Testable q w t mostDepth j
+    testable-term a r h = record { standing = a .standing; reads = rw e r; shallow = rw e h }
 
     module _ {b : Bool} (f : DecidesAll q w t j 1 b) where
       tells-term : (K : Vocabulary) (u : Form) → Combined K u w t → b ≡ subsumed K (termAt q k) (u .node) (u .successors)
@@ -44,8 +45,8 @@ module _ (q w : List ℕ) (t : Tables) where
       term-takes h n m = record { known = λ z. m; takes = λ z K u d. sym (tells-term K u d) ∙ h; none = λ z. absurd (n z) }
 
       module _ (s : ℕ) (l : Policy) (r : Rest q w t s (termAt q k ∷ l)) where
-        pub rest-found : b ≡ true → (k ≡ 0 → ⊥) → Reads q (childOf q k) (termAt q k) → Taker q w t k
-        rest-found h n i = term-takes h n (record { reads = i; within = head (r .within) })
+        pub rest-found : b ≡ true → (k ≡ 0 → ⊥) → Reads q (childOf q k) (termAt q k) → depth (termAt q k) ≤ mostDepth → Taker q w t k
+        rest-found h n i d = term-takes h n (record { reads = i; shallow = d; within = head (r .within) })
 
         pub rest-on : b ≡ false → Rest q w t (s + 1) l
         rest-on h = record {

@@ -5,8 +5,12 @@ use mathlib.Core.List.{List, [], _∷_}
 use mathlib.Core.Path.{_∙_, _≡_, ap, refl, subst, sym}
 use lib.ListN.{drop, length}
 use native.Mathlib.Omega.{arith}
-use Rattle.combination.proofs.Filling.{combined}
-use Rattle.combination.specs.Combination.{Combined, pieceAt}
+use Rattle.frames.proofs.Frames.{only-none, only-then}
+use Rattle.frames.specs.Frames.{Only}
+use Rattle.layout.proofs.Filling.{combined}
+use Rattle.layout.specs.Combination.{Combined}
+use Rattle.layout.specs.Tables.{Pieces, Tabled, pieceAt}
+use Rattle.layout.specs.declared.Tables.{Tables}
 use Rattle.meaning.proofs.Count.{count-combinations}
 use Rattle.meaning.proofs.Filling.{fill}
 use Rattle.meaning.proofs.Picks.{AllNonEmpty}
@@ -18,11 +22,11 @@ use Rattle.meaning.specs.NormalForm.{Form}
 use Rattle.meaning.specs.Policy.{Policy, policyOf}
 use Rattle.meaning.specs.Splitting.{combinationCount, combinations, constraintsOf, product}
 use Rattle.meaning.specs.Vocabulary.{Vocabulary}
-use Rattle.normal_form.specs.Tables.{Tabled}
-use Rattle.normal_form.specs.declared.Tables.{Tables}
-use Rattle.splitting.proofs.Callers.{constraints-at, constraints-kept, kept-refl, kept-trans, splittable-kept, stands-combination}
-use Rattle.splitting.proofs.Callers.{stands-lt, tabled-turned, widened-form}
-use Rattle.splitting.specs.Odometer.{OnlyPieces, Splittable, Stands, Started, Stepped, Turned, Widened, constraintsAt}
+use Rattle.splitting.proofs.Callers.{constraints-at, splittable-kept, tabled-turned}
+use Rattle.splitting.proofs.Places.{stands-combination, stands-lt}
+use Rattle.splitting.proofs.Storing.{constraints-kept}
+use Rattle.splitting.proofs.Whole.{widened-form}
+use Rattle.splitting.specs.Odometer.{Splittable, Stands, Started, Stepped, Turned, Widened, firstConstraints}
 use Rattle.trial.proofs.Whole.{constraints-nonEmpty}
 use Rattle.trial.specs.Trials.{Askable, Triable, Tried}
 
@@ -59,22 +63,21 @@ counted Q F = count-combinations Q F
 
 -- ---- the loop
 
-askable-kept : {q w w′ : List ℕ} {t : Tables} {n : ℕ} → OnlyPieces n w w′ → Askable q w t → Askable q w′ t
+askable-kept : {q w w′ : List ℕ} {t : Tables} {n : ℕ} → Only (Pieces n) w w′ → Askable q w t → Askable q w′ t
 askable-kept k a =
-    let s = k .same in
+    let s = k .size in
+    let l = a .standing .long in
     record {
-      long = let l = a .long in omega arith;
+      standing = record { long = omega arith; individuals = a .standing .individuals; constraints = a .standing .constraints };
       some = a .some;
-      individuals = a .individuals;
-      constraints = a .constraints;
       vocabulary = a .vocabulary;
       accepted = a .accepted;
     }
 
 -- the tables stand at combination c, counted from 1; at 0 nothing is left
-abbrev pub Standing : Policy → List ℕ → ℕ → ℕ → Type 0
-Standing Q w n zero = Unit {0}
-Standing Q w n (suc k) = Stands Q w n k
+abbrev pub StandsAt : Policy → List ℕ → ℕ → ℕ → Type 0
+StandsAt Q w n zero = Unit {0}
+StandsAt Q w n (suc k) = Stands Q w n k
 
 -- how many are left
 abbrev pub left : ℕ → ℕ
@@ -83,8 +86,8 @@ left (suc k) = suc (mostCombinations - k)
 
 -- nothing but pieces has changed, and what was tried has passed, for whatever form the tables held at first
 pub record Trying (q w₀ w : List ℕ) (t : Tables) (c : ℕ) : Type 0 where
-  pub kept : OnlyPieces (t .constraints) w₀ w
-  pub standing : Standing (policyOf q) w (t .constraints) c
+  pub only : Only (Pieces (t .constraints)) w₀ w
+  pub standing : StandsAt (policyOf q) w (t .constraints) c
   pub going : (K : Vocabulary) (F : Form) → Tabled K F w₀ t → Going K (policyOf q) F c
 
 module _ {q e w₀ : List ℕ} {t : Tables} (r : Triable q e w₀ t) where
@@ -95,28 +98,28 @@ module _ {q e w₀ : List ℕ} {t : Tables} (r : Triable q e w₀ t) where
   n = t .constraints
 
   pub trying-starts : {w : List ℕ} → Started n w w₀ → Trying q w₀ w₀ t 1
-  trying-starts s = record { kept = kept-refl n w₀; standing = s .stands Q; going = λ K F h. refl }
+  trying-starts s = record { only = only-none; standing = s .stands Q; going = λ K F h. refl }
 
   module _ {w : List ℕ} {c : ℕ} (y : Trying q w₀ w t c) where
     pub trying-askable : Askable q w t
-    trying-askable = askable-kept (y .kept) (r .askable)
+    trying-askable = askable-kept (y .only) (r .askable)
 
     pub trying-splittable : Splittable w n
-    trying-splittable = splittable-kept (y .kept) (r .splittable)
+    trying-splittable = splittable-kept (y .only) (r .splittable)
 
     -- the form that the tables held at first, with the pieces that they hold now
     module _ (K : Vocabulary) (F : Form) (h : Tabled K F w₀ t) where
       now-tabled : Tabled K F w t
-      now-tabled = tabled-turned h (y .kept) (r .askable .individuals, r .askable .constraints)
+      now-tabled = tabled-turned h (y .only) (r .askable .standing .individuals, r .askable .standing .constraints)
 
       now-combined : Combined K (fill (pieceAt w) F) w t
       now-combined = combined K F w t now-tabled
 
-      constraints-now : constraintsOf F ≡ constraintsAt w n
+      constraints-now : constraintsOf F ≡ firstConstraints w n
       constraints-now = sym (constraints-at now-tabled)
 
     pub trying-ends : c ≡ 0 → Tried Q w₀ w t 0
-    trying-ends z = record { told = λ K F h. rw z at (y .going K F h); kept = y .kept }
+    trying-ends z = record { told = λ K F h. rw z at (y .going K F h); only = y .only }
 
   -- at a combination
   module _ {w : List ℕ} (k : ℕ) (y : Trying q w₀ w t (suc k)) where
@@ -124,14 +127,14 @@ module _ {q e w₀ : List ℕ} {t : Tables} (r : Triable q e w₀ t) where
     here K F h = stands-combination Q F w n k (constraints-now y K F h) (y .standing)
 
     below : k < mostCombinations
-    below = let l = stands-lt Q w n k (y .standing) in let f = r .few in omega (arith, ap (product Q) (constraints-kept (y .kept) n))
+    below = let l = stands-lt Q w n k (y .standing) in let f = r .few in omega (arith, ap (product Q) (constraints-kept (y .only) n))
 
     fails-here : ((K : Vocabulary) (u : Form) → Combined K u w t → passes K Q u ≡ false) → Tried Q w₀ w t (suc k)
     fails-here p = record {
       told = λ K F h.
           let d = now-combined y K F h in
           (fill (pieceAt w) F, fails K Q F _ k (here K F h) (y .going K F h) (p K _ d), d);
-      kept = y .kept;
+      only = y .only;
     }
 
     module _ {w′ : List ℕ} {d : ℕ} (s : Stepped e n (suc k) w w′ d) where
@@ -143,12 +146,12 @@ module _ {q e w₀ : List ℕ} {t : Tables} (r : Triable q e w₀ t) where
         where
           go : (d : ℕ) → Turned Q n w w′ (suc k) d → Trying q w₀ w′ t d
           go zero m = record {
-            kept = kept-trans (y .kept) (s .kept);
+            only = only-then (y .only) (s .only);
             standing = tt;
             going = λ K F h. ends K Q F _ k (here K F h) (y .going K F h) (p K _ (now-combined y K F h)) (last m K F h);
           }
           go (suc j) m = record {
-            kept = kept-trans (y .kept) (s .kept);
+            only = only-then (y .only) (s .only);
             standing = rw (m .0) (m .1);
             going = λ K F h. rw (m .0) (goes K Q F _ k (here K F h) (y .going K F h) (p K _ (now-combined y K F h)));
           }
@@ -193,7 +196,7 @@ module _ {q e w₀ : List ℕ} {t : Tables} (r : Triable q e w₀ t) where
 
 -- ---- before the first combination stands there
 
-module _ {q e w w₀ : List ℕ} {t : Tables} (r : Triable q e w t) (k : OnlyPieces (t .constraints) w w₀) where
+module _ {q e w w₀ : List ℕ} {t : Tables} (r : Triable q e w t) (k : Only (Pieces (t .constraints)) w w₀) where
   pub kept-triable : Triable q e w₀ t
   kept-triable = record {
     askable = askable-kept k (r .askable);
@@ -204,8 +207,8 @@ module _ {q e w w₀ : List ℕ} {t : Tables} (r : Triable q e w t) (k : OnlyPie
 
   pub kept-tried : {w′ : List ℕ} {c : ℕ} → Tried (policyOf q) w₀ w′ t c → Tried (policyOf q) w w′ t c
   kept-tried y = record {
-    told = λ K F h. y .told K F (tabled-turned h k (r .askable .individuals, r .askable .constraints));
-    kept = kept-trans k (y .kept);
+    told = λ K F h. y .told K F (tabled-turned h k (r .askable .standing .individuals, r .askable .standing .constraints));
+    only = only-then k (y .only);
   }
 
 -- the constraints whole have passed
@@ -213,9 +216,9 @@ pub whole-tried : {q e w w′ : List ℕ} {t : Tables} → Triable q e w t → (
     ((K : Vocabulary) (u : Form) → Combined K u w′ t → passes K (policyOf q) u ≡ true) → Tried (policyOf q) w w′ t 0
 whole-tried {q} {w = w} {w′ = w′} {t = t} r a p = record {
   told = λ K F h.
-      let g : Tabled K F w′ t = tabled-turned h (a .kept) (r .askable .individuals, r .askable .constraints) in
+      let g : Tabled K F w′ t = tabled-turned h (a .only) (r .askable .standing .individuals, r .askable .standing .constraints) in
       let e : fill (pieceAt w′) F ≡ F = widened-form a F (sym (constraints-at g)) in
       whole-passes K (policyOf q) F (subst AllNonEmpty (constraints-at h) (constraints-nonEmpty w (t .constraints) (r .splittable .full)))
       (rw e at (p K (fill (pieceAt w′) F) (combined K F w′ t g)));
-  kept = a .kept;
+  only = a .only;
 }

@@ -2,12 +2,13 @@
 use Prim.Native.Nat.{_+_, _<_, suc, zero, ℕ}
 use mathlib.Core.List.{List, map}
 use native.Mathlib.Omega.{arith}
+use Rattle.layout.specs.Tables.{constraintAt}
 use Rattle.meaning.proofs.Picks.{AllNonEmpty}
 use Rattle.meaning.specs.Intervals.{NonEmpty}
 use Rattle.meaning.specs.Lists.{cons, counting, nil}
-use Rattle.splitting.specs.Odometer.{Full, constraintAt, constraintsAt}
+use Rattle.splitting.specs.Odometer.{Full, firstConstraints}
 
-pub constraints-nonEmpty : (w : List ℕ) (n : ℕ) → Full w n → AllNonEmpty (constraintsAt w n)
+pub constraints-nonEmpty : (w : List ℕ) (n : ℕ) → Full w n → AllNonEmpty (firstConstraints w n)
 constraints-nonEmpty w n f = go 0 n (λ m h. f m (omega arith))
   where
     go : (o n : ℕ) → ((m : ℕ) → m < o + n → NonEmpty (constraintAt w m .lo) (constraintAt w m .hi)) → AllNonEmpty (map (constraintAt w) (counting o n))

@@ -3,34 +3,33 @@ use Prim.Native.Nat.{_≤_, suc, zero, ℕ}
 use mathlib.Core.Bool.{false, true}
 use mathlib.Core.List.{List}
 use mathlib.Core.Path.{_≡_}
-use lib.ListN.{length}
-use Rattle.combination.specs.Combination.{Combined}
-use Rattle.meaning.specs.Accepted.{Reads}
+use Rattle.frames.specs.Frames.{Only}
+use Rattle.layout.specs.Combination.{Combined}
+use Rattle.layout.specs.Tables.{Pieces, Standing, Tabled}
+use Rattle.layout.specs.declared.Tables.{Tables}
+use Rattle.meaning.specs.Accepted.{Reads, depth}
 use Rattle.meaning.specs.Containment.{passes}
-use Rattle.meaning.specs.Limits.{mostCombinations, mostRecords}
+use Rattle.meaning.specs.Limits.{mostCombinations, mostDepth}
 use Rattle.meaning.specs.Lists.{_∈_, firstFailing, found, nowhere}
 use Rattle.meaning.specs.NormalForm.{Form}
-use Rattle.meaning.specs.Policy.{Policy, childOf, policyOf, policyRefusal}
+use Rattle.meaning.specs.Policy.{Policy, childOf, policyOf, policyRefusal, termAt}
 use Rattle.meaning.specs.Splitting.{combinations, product}
 use Rattle.meaning.specs.Subsumption.{subsumed}
 use Rattle.meaning.specs.Vocabulary.{Vocabulary}
-use Rattle.normal_form.specs.Tables.{Tabled, tablesEnd, termAt}
-use Rattle.normal_form.specs.declared.Tables.{Tables}
 use Rattle.splitting.specs.Ends.{Ends}
-use Rattle.splitting.specs.Odometer.{OnlyPieces, Splittable, constraintsAt}
+use Rattle.splitting.specs.Odometer.{Splittable, firstConstraints}
 
 -- the tables have an individual, and q is a policy that was accepted by some vocabulary
 pub record Askable (q w : List ℕ) (t : Tables) : Type 0 where
-  pub long : tablesEnd ≤ length w
+  pub standing : Standing w t
   pub some : 1 ≤ t .individuals
-  pub individuals : t .individuals ≤ mostRecords
-  pub constraints : t .constraints ≤ mostRecords
   pub vocabulary : List ℕ
   pub accepted : policyRefusal vocabulary q ≡ 0
 
 -- record k is a term of q
 pub record Term (q : List ℕ) (k : ℕ) : Type 0 where
   pub reads : Reads q (childOf q k) (termAt q k)
+  pub shallow : depth (termAt q k) ≤ mostDepth
   pub within : termAt q k ∈ policyOf q
 
 -- record k is a term of q, unless k is 0
@@ -48,7 +47,7 @@ pub record Triable (q e w : List ℕ) (t : Tables) : Type 0 where
   pub askable : Askable q w t
   pub splittable : Splittable w (t .constraints)
   pub ends : Ends (policyOf q) e
-  pub few : product (policyOf q) (constraintsAt w (t .constraints)) ≤ mostCombinations
+  pub few : product (policyOf q) (firstConstraints w (t .constraints)) ≤ mostCombinations
 
 -- the answer for a form's combinations: 0 where none fails; else the first to fail, counted from 1, which the tables hold
 abbrev pub Failure : Vocabulary → Policy → Form → List ℕ → Tables → ℕ → Type 0
@@ -58,4 +57,4 @@ Failure K Q F w t (suc k) = (u : Form) × (firstFailing (passes K Q) 1 (combinat
 -- the answer is that for whatever form the tables hold, by whatever vocabulary; nothing but pieces has changed
 pub record Tried (Q : Policy) (w w′ : List ℕ) (t : Tables) (r : ℕ) : Type 0 where
   pub told : (K : Vocabulary) (F : Form) → Tabled K F w t → Failure K Q F w′ t r
-  pub kept : OnlyPieces (t .constraints) w w′
+  pub only : Only (Pieces (t .constraints)) w w′

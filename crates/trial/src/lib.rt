@@ -1,5 +1,6 @@
 // A term against the other policy: its constraints whole, else its combinations, one after another.
-use normal_form::Tables;
+use layout::Tables;
+use meaning::limits::MOST_DEPTH;
 use policy::child_of;
 use policy::first_term;
 use policy::next_of;
@@ -17,7 +18,7 @@ fn first_taker(q: &[u32], work: &[u32], t: Tables) -> u32
 {
     let mut k = first_term(q);
     while k != 0 {
-        if is_subsumed(q, work, t, child_of(q, k), 1) {
+        if is_subsumed(q, work, t, MOST_DEPTH, child_of(q, k), 1) {
             return k;
         }
         k = next_of(q, k);
@@ -31,7 +32,7 @@ fn taker(q: &[u32], work: &[u32], t: Tables, last: u32) -> u32
     ensures { λ r. ⌜ Taker (now (q .entry)) (now (work .entry)) t r ⌝ }
 {
     if last != 0 {
-        if is_subsumed(q, work, t, child_of(q, last), 1) {
+        if is_subsumed(q, work, t, MOST_DEPTH, child_of(q, last), 1) {
             return last;
         }
     }

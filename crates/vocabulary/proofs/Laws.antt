@@ -1,5 +1,5 @@
 -- Laws of the definitions, over plain lists and numbers: what a function's proof cites at its returns.
-use Prim.Native.Nat.{_<_, _≤_, suc, zero, ℕ}
+use Prim.Native.Nat.{_<_, _≤_, ℕ}
 use mathlib.Core.Bool.{Bool, _&&_, and-false, and-true, cond, false, not, true}
 use mathlib.Core.List.{List}
 use mathlib.Core.Path.{_∙_, _≡_, ap, refl, sym}
@@ -7,13 +7,14 @@ use lib.Dec.{eqb, leb}
 use lib.ListN.{length}
 use native.Mathlib.Omega.{arith}
 use borrow.Author.Tests.{le-leb, lt-leb, ne-eqb, not-false, not-true}
-use Rattle.meaning.proofs.Links.{bounds, enough-end, falling-le, falls, onward-le, passed, tests}
+use Rattle.meaning.proofs.Links.{bounds, falling-le, passed, tests}
 use Rattle.meaning.specs.Answers.{Answer, ReadingResult, accepted, refused, result}
 use Rattle.meaning.specs.Limits.{mostClasses, mostFeatures, mostRoles, mostVocabularyWords}
 use Rattle.meaning.specs.Operations.{readVocabulary, unless}
-use Rattle.meaning.specs.Records.{Enough, Onward, falling, isName, isOnward, isSized, lastOf}
-use Rattle.meaning.specs.Vocabulary.{axiomFits, axiomKind, axiomLeft, axiomNext, axiomRight, axiomsRefusal, classCount}
-use Rattle.meaning.specs.Vocabulary.{featureCount, firstAxiom, headedVocabulary, roleCount, soundAxiom, vocabularyRefusal}
+use Rattle.meaning.specs.Records.{Onward, falling, isName, isOnward, isSized, lastOf}
+use Rattle.meaning.specs.Vocabulary.{axiomFits, axiomKind, axiomLeft, axiomNext, axiomRight, axiomsRefusal, classCount, featureCount}
+use Rattle.meaning.specs.Vocabulary.{firstAxiom, headedVocabulary, roleCount, soundAxiom, vocabularyRefusal}
+use Rattle.records.proofs.Chains.{Reading, reading-ends, reading-falls, reading-on, reading-starts, reading-stops}
 
 -- ---- the header: its four tests in order, each with those before it
 
@@ -75,50 +76,36 @@ module _ (v : List ℕ) (k : ℕ) {l x : ℕ} {t : Bool} (p : l ≡ lastOf 4 v) 
 
 -- ---- the chain
 
--- the walk from the first record on has come to k: the refusal is that of the chain from k on, for which the fuel is enough
-pub record Walking (v : List ℕ) (k : ℕ) : Type 0 where
-  pub fuel : ℕ
-  pub enough : Enough (lastOf 4 v) fuel k
-  pub same : axiomsRefusal (length v) v (firstAxiom v) ≡ axiomsRefusal fuel v k
+-- the reader has come to record k
+pub record ReadingAxioms (v : List ℕ) (k : ℕ) : Type 0 where
+  pub reading : Reading (lastOf 4 v) 3 (axiomNext v) (soundAxiom v) (axiomsRefusal (length v) v (firstAxiom v)) k
 
-pub walking-starts : {v : List ℕ} {k : ℕ} → k ≡ firstAxiom v → firstAxiom v ≤ lastOf 4 v → Walking v k
-walking-starts {v} {k} e h = record { fuel = length v; enough = (omega arith, omega (arith, falling-le (lastOf 4 v) k)); same = rw e }
+pub axioms-start : {v : List ℕ} {k : ℕ} → k ≡ firstAxiom v → firstAxiom v ≤ lastOf 4 v → ReadingAxioms v k
+axioms-start {v} e h = record { reading = reading-starts {f = length v} e (h, omega (arith, falling-le (lastOf 4 v) (firstAxiom v))) }
 
-pub walking-ends : {v : List ℕ} {k : ℕ} → Walking v k → k ≡ 0 → 0 ≡ axiomsRefusal (length v) v (firstAxiom v)
-walking-ends {v} {k} w z = sym (w .same ∙ end (w .fuel))
-  where
-    end : (f : ℕ) → axiomsRefusal f v k ≡ 0
-    end zero = refl
-    end (suc f) = rw z
+pub axioms-end : {v : List ℕ} {k : ℕ} → ReadingAxioms v k → k ≡ 0 → 0 ≡ axiomsRefusal (length v) v (firstAxiom v)
+axioms-end w z = reading-ends (w .reading) z
 
-module _ {v : List ℕ} {k r : ℕ} (w : Walking v k) (n : k ≡ 0 → ⊥) (e : Refuses v k r) where
-  pub walking-stops : (r ≡ 0 → ⊥) → r ≡ axiomsRefusal (length v) v (firstAxiom v)
-  walking-stops z = go (w .fuel) (w .enough) (w .same)
+module _ {v : List ℕ} {k r : ℕ} (w : ReadingAxioms v k) (n : k ≡ 0 → ⊥) (e : Refuses v k r) where
+  pub axioms-stop : (r ≡ 0 → ⊥) → r ≡ axiomsRefusal (length v) v (firstAxiom v)
+  axioms-stop z = go (soundAxiom v k) refl e
     where
-      stop : (b : Bool) (x : ℕ) → r ≡ cond b 0 3 → r ≡ cond b x 3
-      stop true x e = absurd (z e)
-      stop false x e = e
+      go : (b : Bool) → soundAxiom v k ≡ b → r ≡ cond b 0 3 → r ≡ axiomsRefusal (length v) v (firstAxiom v)
+      go true s h = absurd (z h)
+      go false s h = h ∙ reading-stops (w .reading) n s
 
-      go : (f : ℕ) → Enough (lastOf 4 v) f k → axiomsRefusal (length v) v (firstAxiom v) ≡ axiomsRefusal f v k → r ≡ axiomsRefusal (length v) v (firstAxiom v)
-      go zero h s = absurd (n (enough-end _ k h))
-      go (suc f) h s = rw (s, ne-eqb k 0 n) (stop (soundAxiom v k) (axiomsRefusal f v (axiomNext v k)) e)
-
-  module _ {x : ℕ} (z : r ≡ 0) (p : x ≡ axiomNext v k) where
+  module _ (z : r ≡ 0) where
     sound : soundAxiom v k ≡ true
     sound = passed 2 (soundAxiom v k) 0 .0 (sym e ∙ z) .0
 
-    onward : Onward (lastOf 4 v) k x
-    onward = let u = simp tests at sound in rw p (u .1)
+    onward : Onward (lastOf 4 v) k (axiomNext v k)
+    onward = let u = simp tests at sound in u .1
 
-    pub walking-falls : falling (lastOf 4 v) x < falling (lastOf 4 v) k
-    walking-falls = falls (lastOf 4 v) k x (omega arith, w .enough .0) onward
+    pub axioms-fall : {x : ℕ} → x ≡ axiomNext v k → falling (lastOf 4 v) x < falling (lastOf 4 v) k
+    axioms-fall p = reading-falls (w .reading) n sound onward p
 
-    pub walking-on : Walking v x
-    walking-on = go (w .fuel) (w .enough) (w .same)
-      where
-        go : (f : ℕ) → Enough (lastOf 4 v) f k → axiomsRefusal (length v) v (firstAxiom v) ≡ axiomsRefusal f v k → Walking v x
-        go zero h s = absurd (n (enough-end _ k h))
-        go (suc f) h s = record { fuel = f; enough = (onward-le _ k x onward, omega (arith, walking-falls)); same = s ∙ rw (ne-eqb k 0 n, sound, p) }
+    pub axioms-on : {x : ℕ} → x ≡ axiomNext v k → ReadingAxioms v x
+    axioms-on p = record { reading = reading-on (w .reading) n sound onward p }
 
 -- ---- the whole
 

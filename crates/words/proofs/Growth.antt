@@ -12,10 +12,10 @@ use borrow.Author.Count.{below-more}
 use borrow.Author.Tests.{eq-eqb}
 use native.Mathlib.Nat.{suc-mul}
 use native.Mathlib.Omega.{arith}
+use Rattle.frames.specs.Rows.{putAt, rowAt}
 use Rattle.meaning.proofs.Links.{tests}
 use Rattle.meaning.proofs.Rules.{or-right}
 use Rattle.words.proofs.Laws.{in-union, length-union, union-at}
-use Rattle.words.specs.Rows.{putAt, rowAt}
 use Rattle.words.specs.Sets.{inSet, unionOf, wordSum}
 
 or-grows : (d a b : ℕ) → a ≤ d → a ≤ bitOr a b

@@ -3,7 +3,6 @@ pub mod Bits
 pub mod Lists
 pub mod Laws
 pub mod Listing
-pub mod Rows
 pub mod Growth
 pub mod Steps
 pub mod Examples

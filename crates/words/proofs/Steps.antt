@@ -13,13 +13,13 @@ use native.Mathlib.Nat.{one-mul}
 use native.Mathlib.Numerals.{add-one}
 use native.Mathlib.Omega.{arith}
 use borrow.Author.Tests.{eqb-false, eqb-true}
+use Rattle.frames.proofs.Rows.{length-row}
+use Rattle.frames.specs.Rows.{putAt, rowAt}
 use Rattle.meaning.specs.Records.{isName}
 use Rattle.words.proofs.Bits.{bit-mask, ones-within}
 use Rattle.words.proofs.Laws.{bits-more, count-members, in-including, in-past, in-union, length-union, union-at}
 use Rattle.words.proofs.Listing.{above-past, rest-empty, rest-lowest, rest-within}
-use Rattle.words.proofs.Rows.{length-row}
 use Rattle.words.specs.Members.{members, membersAbove, nextMember, setBits}
-use Rattle.words.specs.Rows.{putAt, rowAt}
 use Rattle.words.specs.Sets.{capacity, inSet, including, testBit, unionOf}
 
 -- ---- `has` and `insert`: 0, a number past the words, a number with a bit in the word at

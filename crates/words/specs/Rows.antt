@@ -1,17 +1,6 @@
--- Sets that stand in a longer row of words, each from a place on.
-use Prim.Native.Nat.{_+_, _/_, ℕ}
-use mathlib.Core.List.{List, _++_}
-use lib.ListN.{drop, length, take}
+-- How many words a set of classes takes in a longer row of words.
+use Prim.Native.Nat.{_/_, ℕ}
 use Rattle.meaning.specs.Limits.{mostClasses}
 
--- how many words a set of classes takes
 abbrev pub classWords : ℕ
 classWords = mostClasses / 32
-
--- the n words from a place on
-abbrev pub rowAt : ℕ → List ℕ → ℕ → List ℕ
-rowAt n ws at = take n (drop at ws)
-
--- the words with others in the place of theirs, from a place on
-abbrev pub putAt : List ℕ → ℕ → List ℕ → List ℕ
-putAt ws at vs = take at ws ++ (vs ++ drop (at + length vs) ws)

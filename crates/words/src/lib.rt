@@ -8,10 +8,11 @@ ghost use mathlib.Core.Logic.{_↔_};
 ghost use Prim.Native.Nat.{_+_, _<_, _^_, _≤_, ℕ};
 ghost use lib.Dec.{eqb};
 ghost use lib.ListN.{length, replicate};
+ghost use Rattle.frames.specs.Rows.{putAt, rowAt};
 ghost use Rattle.meaning.specs.Limits.{mostClasses};
 ghost use Rattle.meaning.specs.Records.{isName};
 ghost use Rattle.words.specs.Members.{members, nextMember};
-ghost use Rattle.words.specs.Rows.{classWords, putAt, rowAt};
+ghost use Rattle.words.specs.Rows.{classWords};
 ghost use Rattle.words.specs.Sets.{capacity, inSet, including, unionOf};
 
 // A number as a place in a slice: a cast of an element read asks that the element fits, and this call does not.

@@ -10,8 +10,9 @@ use Rattle.countermodel.proofs.count_row.Tie as tie
 
 returns : tie.Need-returns
 returns c =
-    let s = c .before .before .before .before .before .before .before .before in
-    row-counted (s .args .work .now) (s .args .t) (s .args .i) (c .before .before .before .before .before .before .place .ensures) (c .before .before .before .before .before .load .ensures) (c .before .before .before .before .count .ensures) (c .place3 .ensures)
+    let n = c .before .before .before .before in
+    let s = n .before .before .before .before in
+    row-counted (s .args .work .now) (s .args .t) (s .args .i) (n .before .before .place .ensures) (n .before .classes-of .ensures) (n .count .ensures) (c .place3 .ensures)
     (c .before .before .before .count-values .ensures) (c .before .before .place2 .ensures) (c .before .count-edges .ensures)
 
 -- the sum is a few
@@ -32,7 +33,6 @@ count-row-spec =
     tie.close
     (tie.spec
     (λ c κs. search needs)
-    (λ c. search needs) (λ c. search needs) (λ c. search needs)
     (λ c κs. search needs)
     (λ c κs. search needs)
     (λ c. search needs)

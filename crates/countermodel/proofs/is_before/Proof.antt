@@ -5,21 +5,14 @@ use Rattle.countermodel.proofs.is_before.Tie as tie
 
 returns : tie.Need-returns
 returns c =
-    let a = c .before .before .before .before .before .args in
-    before-same (a .work .now) (a .a) (a .b) (c .before .before .if1 .taken)
+    let g = c .before .before .before .before .before in
+    before-same _ _ _ (g .before .feature-of .ensures) (g .feature-of2 .ensures) (c .before .before .if1 .taken) (c .before .piece-hi .ensures) (c .piece-hi2 .ensures)
 
 returns-2 : tie.Need-returns-2
 returns-2 c =
-    let a = c .before .before .before .args in
-    before-other (a .work .now) (a .a) (a .b) (c .if1 .left)
+    let g = c .before .before .before .before .before in
+    before-other _ _ _ (g .before .feature-of .ensures) (g .feature-of2 .ensures) (c .before .before .if1 .left)
 
 pub is-before-spec : {M : Type 1} → statement M
 is-before-spec =
-    tie.close
-    (tie.spec
-    (λ c. search needs) (λ c. search needs) (λ c. search needs) (λ c. search needs) (λ c. search needs)
-    (λ c. search needs) (λ c. search needs) (λ c. search needs) (λ c. search needs) (λ c. search needs)
-    (λ c. search needs) (λ c. search needs) (λ c. search needs) (λ c. search needs) (λ c. search needs)
-    (λ c. search needs) (λ c. search needs) (λ c. search needs) (λ c. search needs) (λ c. search needs)
-    returns
-    returns-2)
+    tie.close (tie.spec (λ c κs. search needs) (λ c κs. search needs) (λ c κs. search needs) (λ c κs. search needs) returns returns-2)

@@ -18,10 +18,13 @@ link-requires c κs =
 
 write-rows-requires : tie.Need-write-rows-requires
 write-rows-requires c κs =
-    let s = c .before .before .before .before in (
+    let s = c .before .before .before .before in
+    let most = records-most (s .args .work .now) (s .args .t) (s .pre .0) in (
       s .pre .0,
-      record { long = simp length-set (s .pre .2); few = omega (arith, s .pre .1, records-most (s .args .work .now) (s .args .t) (s .pre .0)) },
-      s .pre .1,
+      record {
+        room = record { long = simp length-set (s .pre .2); few = omega (arith, s .pre .1) };
+        within = omega (arith, s .pre .1);
+      },
     )
 
 same-length : tie.Need-same-length

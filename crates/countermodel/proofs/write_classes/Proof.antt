@@ -1,13 +1,12 @@
 -- `write_classes`: at class c its fact and those of the classes above it are left.
 use borrow.Author.Needs.{needs}
-use mathlib.Core.Path.{_∙_, ap, refl}
+use mathlib.Core.Path.{refl}
 use native.Mathlib.Omega.{arith}
 use lib.ListN.{length}
 use Rattle.countermodel.proofs.Members.{members-end, members-more, members-start, membersLeft}
 use Rattle.countermodel.proofs.Output.{Left, left-end, left-start, turn-less, turn-more, turn-room}
 use Rattle.countermodel.proofs.write_classes.Statement.{statement}
 use Rattle.countermodel.specs.Facts.{memberFacts}
-use Rattle.normal_form.specs.Clean.{setAt}
 use Rattle.countermodel.proofs.write_classes.Tie as tie
 
 abbrev Inv-loop : tie.InvT-loop
@@ -18,36 +17,41 @@ abbrev μ-loop : tie.MeasureT-loop
 
 loop-holds : tie.Need-loop-holds Inv-loop μ-loop
 loop-holds c =
-    let s = c .before .before .before .before .before in
-    left-start _ _ _ _ _ (members-start (s .args .work .now) (s .args .i) _ 0 _ (c .before .load .ensures ∙ ap (setAt (s .args .work .now)) (c .before .before .place .ensures)) refl (c .next .ensures))
+    let a = c .before .before .before .before .before .args in
+    left-start _ _ _ _ _ (members-start (a .work .now) (a .i) (c .before .before .place .ensures) (c .before .classes-of .ensures) 0 _ refl (c .next .ensures))
 
 put-requires : tie.Need-put-requires Inv-loop μ-loop
 put-requires c κs =
-    let s = c .before .before .before .before .before .before .before .before .before in
+    let set = c .before .before .before .before .before in
+    let s = set .before .before .before .before in
     let l = c .before .before .before .loop in
-    turn-room (l .inv) (s .pre .2) (s .pre .3) _ _
-    (members-more (s .args .work .now) (s .args .i) _ (l .c .0) _ (c .before .before .before .before .before .load .ensures ∙ ap (setAt (s .args .work .now)) (c .before .before .before .before .before .before .place .ensures)) (c .before .if1 .taken) refl)
+    turn-room (l .inv) (s .pre .1) _ _
+    (members-more (s .args .work .now) (s .args .i) (set .before .place .ensures) (set .classes-of .ensures) (l .c .0) _ (c .before .if1 .taken) refl)
 
 loop-less : tie.Need-loop-less Inv-loop μ-loop
 loop-less c =
-    let s = c .before .before .before .before .before .before .before .before .before .before .before .before .before in
-    let l = c .before .before .before .before .before .before .before .loop in
-    turn-less (l .inv) (s .pre .2) (s .pre .3) _ _
-    (members-more (s .args .work .now) (s .args .i) _ (l .c .0) _ (c .before .before .before .before .before .before .before .before .before .load .ensures ∙ ap (setAt (s .args .work .now)) (c .before .before .before .before .before .before .before .before .before .before .place .ensures)) (c .before .before .before .before .before .if1 .taken) (c .next2 .ensures))
+    let test = c .before .before .before .before .before in
+    let set = test .before .before .before .before in
+    let s = set .before .before .before .before in
+    let l = test .before .before .loop in
+    turn-less (l .inv) (s .pre .1) _ _
+    (members-more (s .args .work .now) (s .args .i) (set .before .place .ensures) (set .classes-of .ensures) (l .c .0) _ (test .if1 .taken) (c .next2 .ensures))
 
 loop-again : tie.Need-loop-again Inv-loop μ-loop
 loop-again c =
-    let s = c .before .before .before .before .before .before .before .before .before .before .before .before .before in
-    let l = c .before .before .before .before .before .before .before .loop in
-    turn-more (l .inv) (s .pre .2) (s .pre .3) _ _
-    (members-more (s .args .work .now) (s .args .i) _ (l .c .0) _ (c .before .before .before .before .before .before .before .before .before .load .ensures ∙ ap (setAt (s .args .work .now)) (c .before .before .before .before .before .before .before .before .before .before .place .ensures)) (c .before .before .before .before .before .if1 .taken) (c .next2 .ensures))
+    let test = c .before .before .before .before .before in
+    let set = test .before .before .before .before in
+    let s = set .before .before .before .before in
+    let l = test .before .before .loop in
+    turn-more (l .inv) (s .pre .1) _ _
+    (members-more (s .args .work .now) (s .args .i) (set .before .place .ensures) (set .classes-of .ensures) (l .c .0) _ (test .if1 .taken) (c .next2 .ensures))
     _ (c .before .before .before .put .ensures)
 
 returns : tie.Need-returns Inv-loop μ-loop
 returns c =
-    let s = c .before .before .before .before .before .before .before .before in
+    let a = c .before .before .before .before .before .before .before .before .args in
     let l = c .before .before .loop in
-    left-end _ (l .inv) (members-end (s .args .work .now) (s .args .i) (l .c .0) (c .if1 .left))
+    left-end _ (l .inv) (members-end (a .work .now) (a .i) (l .c .0) (c .if1 .left))
 
 pub write-classes-spec : {M : Type 1} → statement M
 write-classes-spec =
@@ -56,7 +60,6 @@ write-classes-spec =
     Inv-loop
     μ-loop
     (λ c κs. search needs)
-    (λ c. search needs) (λ c. search needs) (λ c. search needs)
     (λ c κs. search needs)
     (λ c κs. search needs)
     loop-holds

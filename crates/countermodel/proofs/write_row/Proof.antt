@@ -1,7 +1,7 @@
 use borrow.Author.Needs.{needs}
 use mathlib.Core.Path.{_∙_, refl}
 use native.Mathlib.Omega.{arith}
-use Rattle.countermodel.proofs.Output.{three-written}
+use Rattle.countermodel.proofs.Output.{room-same, three-written}
 use Rattle.countermodel.proofs.Sizes.{row-length}
 use Rattle.countermodel.proofs.write_row.Statement.{statement}
 use Rattle.countermodel.specs.Facts.{factsAt}
@@ -10,7 +10,8 @@ use Rattle.countermodel.proofs.write_row.Tie as tie
 write-classes-requires : tie.Need-write-classes-requires
 write-classes-requires c κs =
     let s = c .before .before .before in
-    (search needs, search needs, s .pre .2, omega (arith, row-length (s .args .work .now) (s .args .t) (s .args .i)))
+    let fits = row-length (s .args .work .now) (s .args .t) (s .args .i) in
+    (search needs, record { room = s .pre .2 .room; within = omega (arith, s .pre .2 .within) })
 
 write-values-requires : tie.Need-write-values-requires
 write-values-requires c κs =
@@ -18,8 +19,10 @@ write-values-requires c κs =
     let a = c .before .before .before .write-classes .ensures in (
       search needs,
       search needs,
-      record { long = omega (arith, a .same, s .pre .2 .long); few = s .pre .2 .few },
-      omega (arith, a .count, s .pre .3, row-length (s .args .work .now) (s .args .t) (s .args .i)),
+      record {
+        room = room-same (a .same) (s .pre .2 .room);
+        within = omega (arith, a .count, s .pre .2 .within, row-length (s .args .work .now) (s .args .t) (s .args .i));
+      },
     )
 
 write-edges-requires : tie.Need-write-edges-requires
@@ -31,15 +34,17 @@ write-edges-requires c κs =
       search needs,
       search needs,
       search needs,
-      record { long = omega (arith, a .same, b .same, s .pre .2 .long); few = s .pre .2 .few },
-      omega (arith, a .count, b .count, s .pre .3, row-length (s .args .work .now) (s .args .t) (s .args .i)),
+      record {
+        room = room-same (b .same ∙ a .same) (s .pre .2 .room);
+        within = omega (arith, a .count, b .count, s .pre .2 .within, row-length (s .args .work .now) (s .args .t) (s .args .i));
+      },
     )
 
 returns : tie.Need-returns
 unfolding factsAt
 returns c =
     let s = c .before .before .before .before .before .before .before .before .before .before .before .before .before .before .before in
-    three-written refl (s .pre .2) (s .pre .3) (c .before .before .before .before .before .before .before .before .before .before .before .write-classes .ensures) (c .before .before .before .before .before .before .before .write-values .ensures)
+    three-written refl (s .pre .2) (c .before .before .before .before .before .before .before .before .before .before .before .write-classes .ensures) (c .before .before .before .before .before .before .before .write-values .ensures)
     (rw (c .before .before .before .before .place .ensures) at (c .before .before .write-edges .ensures))
 
 pub write-row-spec : {M : Type 1} → statement M

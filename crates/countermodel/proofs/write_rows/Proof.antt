@@ -3,7 +3,7 @@ use borrow.Author.Needs.{needs}
 use Prim.Native.Nat.{_-_, _≤_, ℕ}
 use mathlib.Core.Path.{_≡_, ap}
 use native.Mathlib.Omega.{arith}
-use Rattle.countermodel.proofs.Output.{Left, left-end, left-more, left-start}
+use Rattle.countermodel.proofs.Output.{Left, left-end, left-more, left-start, room-same}
 use Rattle.countermodel.proofs.Sizes.{rows-end, rows-length, rows-more}
 use Rattle.countermodel.proofs.write_rows.Statement.{statement}
 use Rattle.countermodel.specs.Facts.{factsFrom, tableFacts}
@@ -25,11 +25,14 @@ write-row-requires : tie.Need-write-row-requires Inv-loop μ-loop
 write-row-requires c κs =
     let s = c .before .before .before .before .before in
     let l = c .before .before .loop in
-    let more = c .before .loop-test .taken in (
+    let more = c .before .loop-test .taken in
+    let fits = rows-length (s .args .work .now) (s .args .t) (s .args .t .individuals) (l .i) more in (
       s .pre .0,
       more,
-      record { long = omega (arith, l .inv .1 .long, s .pre .1 .long); few = s .pre .1 .few },
-      omega (arith, s .pre .2, l .inv .1 .count, rows-length (s .args .work .now) (s .args .t) (s .args .t .individuals) (l .i) more),
+      record {
+        room = room-same (l .inv .1 .long) (s .pre .1 .room);
+        within = omega (arith, s .pre .1 .within, l .inv .1 .count);
+      },
     )
 
 loop-again : tie.Need-loop-again Inv-loop μ-loop
@@ -38,7 +41,7 @@ loop-again c =
     let l = c .before .before .before .before .before .loop in (
       search needs,
       left-more _ _ _ _ _ (l .inv .1) (rows-more (s .args .work .now) (s .args .t) (s .args .t .individuals) (l .i) (c .before .before .before .before .loop-test .taken))
-          (s .pre .1) (omega (arith, s .pre .2)) (c .before .before .write-row .ensures),
+          (s .pre .1) (c .before .before .write-row .ensures),
     )
 
 returns : tie.Need-returns Inv-loop μ-loop

@@ -2,11 +2,11 @@
 use borrow.Author.Needs.{needs}
 use native.Mathlib.Omega.{arith}
 use lib.ListN.{length}
-use Rattle.combination.specs.Combination.{pieceAt}
 use Rattle.countermodel.proofs.Output.{Left, left-end, left-start, turn-less, turn-more, turn-room}
 use Rattle.countermodel.proofs.Pairs.{values-end, values-here, values-more, values-start}
 use Rattle.countermodel.proofs.write_values.Statement.{statement}
 use Rattle.countermodel.specs.Facts.{valueFacts, valuesFrom}
+use Rattle.layout.specs.Tables.{constraintAt, pieceAt}
 use Rattle.meaning.specs.Intervals.{valueOf}
 use Rattle.countermodel.proofs.write_values.Tie as tie
 
@@ -25,23 +25,23 @@ put-requires : tie.Need-put-requires Inv-loop μ-loop
 put-requires c κs =
     let s = c .before .before .before .before .before .before .before .before in
     let l = c .before .before .before .before .loop in
-    turn-room (l .inv) (s .pre .2) (s .pre .3) _ _ (values-here (s .args .work .now) (s .args .n) (s .args .x) (l .m) (c .before .before .before .loop-test .taken))
+    turn-room (l .inv) (s .pre .2) _ _ (values-here (s .args .work .now) (s .args .n) (s .args .x) (l .m) (c .before .before .before .loop-test .taken))
 
 loop-less : tie.Need-loop-less Inv-loop μ-loop
 loop-less c =
     let s = c .before .before .before .before .before .before .before .before .before .before .before .before in
     let l = c .before .before .before .before .before .before .before .before .loop in
-    turn-less (l .inv) (s .pre .2) (s .pre .3) _ _
+    turn-less (l .inv) (s .pre .2) _ _
     (values-more (s .args .work .now) (s .args .n) (s .args .x) (l .m) _ (c .before .before .before .before .before .before .before .loop-test .taken) (c .next-pair2 .ensures .1))
 
 loop-again : tie.Need-loop-again Inv-loop μ-loop
-unfolding pieceAt valueOf
+unfolding constraintAt pieceAt valueOf
 loop-again c =
     let s = c .before .before .before .before .before .before .before .before .before .before .before .before in
     let l = c .before .before .before .before .before .before .before .before .loop in
-    turn-more (l .inv) (s .pre .2) (s .pre .3) _ _
+    turn-more (l .inv) (s .pre .2) _ _
     (values-more (s .args .work .now) (s .args .n) (s .args .x) (l .m) _ (c .before .before .before .before .before .before .before .loop-test .taken) (c .next-pair2 .ensures .1))
-    _ (c .before .before .before .put .ensures)
+    _ (let v = c .before .before .before .before .before in rw (v .before .feature-of .ensures, v .piece-hi .ensures) at (c .before .before .before .put .ensures))
 
 returns : tie.Need-returns Inv-loop μ-loop
 returns c =
@@ -57,8 +57,8 @@ write-values-spec =
     μ-loop
     (λ c κs. search needs)
     loop-holds
-    (λ c. search needs) (λ c. search needs) (λ c. search needs) (λ c. search needs) (λ c. search needs)
-    (λ c. search needs) (λ c. search needs) (λ c. search needs) (λ c. search needs) (λ c. search needs)
+    (λ c κs. search needs)
+    (λ c κs. search needs)
     put-requires
     (λ c. omega arith)
     (λ c κs. search needs)

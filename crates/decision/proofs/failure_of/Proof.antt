@@ -8,5 +8,5 @@ failure-of-spec =
     (tie.spec
     (λ c. failed-impossible _ (c .if1 .taken))
     (λ c κs. c .before .before .before .before .before .pre (c .before .if1 .left))
-    (λ c. c .before .before .first-failure .ensures .kept .same)
+    (λ c. c .before .before .first-failure .ensures .only .size)
     (λ c. failed-tried _ (c .before .before .before .before .if1 .left) (c .before .before .first-failure .ensures)))

@@ -2,7 +2,6 @@
 use borrow.Author.Needs.{needs}
 use Rattle.desk.proofs.answer.Statement.{statement}
 use Rattle.text.proofs.Outcomes.{answer-printed}
-use Rattle.text.proofs.Printing.{put-within}
 use Rattle.desk.proofs.answer.Tie as tie
 
 pub answer-spec : {M : Type 1} → statement M
@@ -15,6 +14,4 @@ answer-spec =
     (λ c. search needs)
     (λ c. search needs)
     (λ c. search needs)
-    (λ c.
-    let put = c .before .before .put-verdict .ensures in
-    (put-within put, answer-printed _ (c .before .before .before .before .before .before .before .before .before .before .before .decide-input .ensures) put)))
+    (λ c. answer-printed _ (c .before .before .before .before .before .before .before .before .before .before .before .decide-input .ensures) (c .before .before .put-verdict .ensures)))

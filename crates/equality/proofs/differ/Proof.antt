@@ -3,35 +3,35 @@ use mathlib.Core.Path.{_∙_}
 use borrow.Author.Needs.{needs}
 use Rattle.equality.proofs.Comparing.{countable-back, countable-forth, differs-back, differs-outside, differs-refused}
 use Rattle.equality.proofs.differ.Statement.{statement}
-use Rattle.workspace.proofs.Laws.{beyond-then}
+use Rattle.frames.proofs.Frames.{only-then}
 use Rattle.equality.proofs.differ.Tie as tie
 
 decide-requires-2 : tie.Need-decide-requires-2
 decide-requires-2 c κs =
     let p = c .before .before .before .before .before .before .before .before .before .before .before .before .before .before .before .before .before .pre in
     let d = c .before .before .before .before .before .before .before .before .decide .ensures .1 .0 in
-    ((p .0 .0, countable-back (p .0 .1) (d .0) (d .1)), p .1 .0)
+    ((p .0 .0, countable-back (p .0 .1) d), p .1 .0)
 
 returns : tie.Need-returns
 returns c =
     let a = c .before .before .before .before .before .before .before .before .before .before .before .before .before .before .before .before .before .before .before .before .before .before .before .args in
     let d = c .before .before .before .before .before .before .before .before .before .before .before .before .before .before .decide .ensures in
     let e = c .before .before .before .before .before .decide2 .ensures in (
-      λ v h. differs-back v (a .p .now) (a .q .now) (d .0 v (countable-forth h)) (c .before .before .before .before .before .before .before .before .enum-told .given .1) (e .0 v (countable-back h (d .1 .0 .0) (d .1 .0 .1))) (c .sided .ensures),
-      (beyond-then (d .1 .0 .1) (e .1 .0 .1), e .1 .1 ∙ d .1 .1),
+      λ v h. differs-back v (a .p .now) (a .q .now) (d .0 v (countable-forth h)) (c .before .before .before .before .before .before .before .before .enum-told .given .1) (e .0 v (countable-back h (d .1 .0))) (c .sided .ensures),
+      (only-then (d .1 .0) (e .1 .0), e .1 .1 ∙ d .1 .1),
     )
 
 returns-2 : tie.Need-returns-2
 returns-2 c =
     let a = c .before .before .before .before .before .before .before .before .before .before .before .before .before .before .before .before .args in
     let d = c .before .before .before .before .before .before .before .decide .ensures in
-    (λ v h. differs-outside v (a .p .now) (a .q .now) (d .0 v (countable-forth h)) (c .before .forth .given .1), (d .1 .0 .1, d .1 .1))
+    (λ v h. differs-outside v (a .p .now) (a .q .now) (d .0 v (countable-forth h)) (c .before .forth .given .1), (d .1 .0, d .1 .1))
 
 returns-3 : tie.Need-returns-3
 returns-3 c =
     let a = c .before .before .before .before .before .before .before .before .before .before .before .before .before .before .before .before .args in
     let d = c .before .before .before .before .before .before .before .decide .ensures in
-    (λ v h. differs-refused v (a .p .now) (a .q .now) (d .0 v (countable-forth h)) (c .before .forth2 .given .1), (d .1 .0 .1, d .1 .1))
+    (λ v h. differs-refused v (a .p .now) (a .q .now) (d .0 v (countable-forth h)) (c .before .forth2 .given .1), (d .1 .0, d .1 .1))
 
 pub differ-spec : {M : Type 1} → statement M
 differ-spec =
@@ -43,12 +43,12 @@ differ-spec =
     (λ c κs. search needs)
     (λ c. search needs)
     (λ c. search needs)
-    (λ c. c .before .before .before .before .before .decide2 .ensures .1 .0 .1 .size ∙ c .before .before .before .before .before .before .before .before .before .before .before .before .before .before .decide .ensures .1 .0 .1 .size)
+    (λ c. c .before .before .before .before .before .decide2 .ensures .1 .0 .size ∙ c .before .before .before .before .before .before .before .before .before .before .before .before .before .before .decide .ensures .1 .0 .size)
     (λ c. c .before .before .before .before .before .decide2 .ensures .1 .1 ∙ c .before .before .before .before .before .before .before .before .before .before .before .before .before .before .decide .ensures .1 .1)
     returns
-    (λ c. c .before .before .before .before .before .before .before .decide .ensures .1 .0 .1 .size)
+    (λ c. c .before .before .before .before .before .before .before .decide .ensures .1 .0 .size)
     (λ c. c .before .before .before .before .before .before .before .decide .ensures .1 .1)
     returns-2
-    (λ c. c .before .before .before .before .before .before .before .decide .ensures .1 .0 .1 .size)
+    (λ c. c .before .before .before .before .before .before .before .decide .ensures .1 .0 .size)
     (λ c. c .before .before .before .before .before .before .before .decide .ensures .1 .1)
     returns-3)

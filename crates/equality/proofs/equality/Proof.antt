@@ -1,64 +1,50 @@
 use lib.ListN.{length}
 use native.Mathlib.Omega.{arith}
 use borrow.Author.Needs.{needs}
-use Rattle.containment.proofs.Complying.{complies-accepted, complies-few, complies-full, complies-ready}
-use Rattle.containment.proofs.Laws.{early-work}
-use Rattle.equality.proofs.Comparing.{compared-work, compares, compares-refused, compares-right}
+use Rattle.containment.proofs.Complying.{pair-ready}
+use Rattle.equality.proofs.Comparing.{compared-late, equality-post}
 use Rattle.equality.proofs.equality.Statement.{statement}
+use Rattle.equality.specs.Comparisons.{compared}
+use Rattle.frames.proofs.Work.{done-answered, done-before, done-full, done-refused, in-order}
+use Rattle.meaning.proofs.Refusals.{accepted-input, input-early}
+use Rattle.preparation.proofs.Laws.{worked}
 use Rattle.equality.proofs.equality.Tie as tie
 
 returns : tie.Need-returns
 returns c =
     let a = c .before .before .before .before .before .before .before .before .before .args in
-    let w = length (a .work .now) in
-    let e = c .before .before .before .input-refusal .ensures in
-    let f = c .before .work-refusal .ensures in
-    let d = compares-refused (a .v .now) (a .p .now) (a .q .now) w (a .out .now) e f (c .if1 .taken) in
-    record { answer = d .answer; output = d .output; work = early-work _ _ _ (complies-few (a .v .now) (a .p .now) (a .q .now) w (a .out .now) e f); right = tt }
+    let r = in-order (a .work .now) (c .before .before .before .input-refusal .ensures) (c .before .work-refusal .ensures) in
+    equality-post (done-refused r (compared (a .v .now) (a .p .now) (a .q .now) (length (a .out .now))) (a .out .now) (input-early (a .v .now) (a .p .now) (a .q .now)) (c .if1 .taken))
 
 prepare-requires : tie.Need-prepare-requires
 prepare-requires c κs =
     let a = c .before .before .before .before .before .before .before .before .before .before .args in
-    let w = length (a .work .now) in
-    let e = c .before .before .before .before .input-refusal .ensures in
-    let f = c .before .before .work-refusal .ensures in (
-      complies-accepted (a .v .now) (a .p .now) (a .q .now) w (a .out .now) e f (c .before .if1 .left) .vocabulary,
-      complies-full (a .v .now) (a .p .now) (a .q .now) w (a .out .now) e f (c .before .if1 .left),
-    )
+    let r = in-order (a .work .now) (c .before .before .before .before .input-refusal .ensures) (c .before .before .work-refusal .ensures) in
+    let z = c .before .if1 .left in
+    (accepted-input (a .v .now) (a .p .now) (a .q .now) (done-before r z) .vocabulary, done-full r z)
 
 compare-requires : tie.Need-compare-requires
 compare-requires c κs =
     let a = c .before .before .before .before .before .before .before .before .before .before .before .before .before .before .before .args in
-    let w = length (a .work .now) in
-    let e = c .before .before .before .before .before .before .before .before .before .input-refusal .ensures in
-    let f = c .before .before .before .before .before .before .before .work-refusal .ensures in
+    let r = in-order (a .work .now) (c .before .before .before .before .before .before .before .before .before .input-refusal .ensures) (c .before .before .before .before .before .before .before .work-refusal .ensures) in
+    let z = c .before .before .before .before .before .before .if1 .left in
     let g = c .before .before .before .before .prepare .ensures in
-    (a .v .now, complies-ready (a .v .now) (a .p .now) (a .q .now) w (a .out .now) e f (c .before .before .before .before .before .before .if1 .left) (g .0) (g .1 .size))
+    (a .v .now, pair-ready (accepted-input (a .v .now) (a .p .now) (a .q .now) (done-before r z)) (done-full r z) (g .1) (g .0))
 
 clear-requires : tie.Need-clear-requires
 clear-requires c κs =
-    let a = c .before .before .before .before .before .before .before .before .before .before .before .before .before .before .before .before .before .before .before .before .before .args in
-    let s = c .before .before .before .before .before .before .before .before .before .before .prepare .ensures .1 .size in
-    let t = c .before .before .before .before .before .compare .ensures .1 .0 .size in
-    omega (arith, complies-full (a .v .now) (a .p .now) (a .q .now) (length (a .work .now)) (a .out .now) (c .before .before .before .before .before .before .before .before .before .before .before .before .before .before .before .input-refusal .ensures) (c .before .before .before .before .before .before .before .before .before .before .before .before .before .work-refusal .ensures) (c .before .before .before .before .before .before .before .before .before .before .before .before .if1 .left))
+    let r = in-order (c .before .before .before .before .before .before .before .before .before .before .before .before .before .before .before .before .before .before .before .before .before .args .work .now) (c .before .before .before .before .before .before .before .before .before .before .before .before .before .before .before .input-refusal .ensures) (c .before .before .before .before .before .before .before .before .before .before .before .before .before .work-refusal .ensures) in
+    omega (arith, done-full r (c .before .before .before .before .before .before .before .before .before .before .before .before .if1 .left), c .before .before .before .before .before .before .before .before .before .before .prepare .ensures .1 .size, c .before .before .before .before .before .compare .ensures .1 .0 .size)
 
 returns-2 : tie.Need-returns-2
 returns-2 c =
     let a = c .before .before .before .before .before .before .before .before .before .before .before .before .before .before .before .before .before .before .before .before .before .before .before .before .args in
-    let w = length (a .work .now) in
-    let e = c .before .before .before .before .before .before .before .before .before .before .before .before .before .before .before .before .before .before .input-refusal .ensures in
-    let f = c .before .before .before .before .before .before .before .before .before .before .before .before .before .before .before .before .work-refusal .ensures in
-    let n = c .before .before .before .before .before .before .before .before .before .before .before .before .before .before .before .if1 .left in
+    let r = in-order (a .work .now) (c .before .before .before .before .before .before .before .before .before .before .before .before .before .before .before .before .before .before .input-refusal .ensures) (c .before .before .before .before .before .before .before .before .before .before .before .before .before .before .before .before .work-refusal .ensures) in
+    let z = c .before .before .before .before .before .before .before .before .before .before .before .before .before .before .before .if1 .left in
     let g = c .before .before .before .before .before .before .before .before .before .before .before .before .before .prepare .ensures in
     let s = c .before .before .before .before .before .before .before .before .compare .ensures in
-    let t = s .0 (a .v .now) (complies-ready (a .v .now) (a .p .now) (a .q .now) w (a .out .now) e f n (g .0) (g .1 .size)) in
-    let d = compares (a .v .now) (a .p .now) (a .q .now) w (a .out .now) e f n t in
-    record {
-      answer = d .answer;
-      output = d .output;
-      work = compared-work _ _ _ _ (g .1) (s .1 .0) (c .before .before .clear .ensures) (t .answer);
-      right = compares-right (a .v .now) (a .p .now) (a .q .now) (a .out .now) _ w d;
-    }
+    let t = s .0 (a .v .now) (pair-ready (accepted-input (a .v .now) (a .p .now) (a .q .now) (done-before r z)) (done-full r z) (g .1) (g .0)) in
+    equality-post (done-answered r z {told = compared (a .v .now) (a .p .now) (a .q .now) (length (a .out .now))} (compared-late _ _ _ _) (t .answer) (t .output) (worked (g .1) (s .1 .0)) (c .before .before .clear .ensures))
 
 pub equality-spec : {M : Type 1} → statement M
 equality-spec =

@@ -6,7 +6,7 @@ use Rattle.exports.proofs.gimbuka_compliance.Tie as tie
 returns : tie.Need-returns
 returns c =
     let d = c .before .before .before .before .before .before .before .before .compliance .ensures in
-    (coded-verdict (d .answer) (c .verdict .ensures), (worked (d .answer) _ (d .work), d .output))
+    record { answer = coded-verdict (d .answer) (c .verdict .ensures); work = worked (d .answer) _ (d .work); output = d .output }
 
 pub gimbuka-compliance-spec : {M : Type 1} → statement M
 gimbuka-compliance-spec =

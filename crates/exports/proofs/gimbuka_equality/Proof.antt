@@ -6,7 +6,7 @@ use Rattle.exports.proofs.gimbuka_equality.Tie as tie
 returns : tie.Need-returns
 returns c =
     let d = c .before .before .before .before .before .before .before .before .before .equality .ensures in
-    (coded-comparison (d .answer) (c .comparison .ensures), (worked (d .answer) _ (d .work), d .output))
+    record { answer = coded-comparison (d .answer) (c .comparison .ensures); work = worked (d .answer) _ (d .work); output = d .output }
 
 pub gimbuka-equality-spec : {M : Type 1} → statement M
 gimbuka-equality-spec =

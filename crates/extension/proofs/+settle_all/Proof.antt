@@ -1,13 +1,12 @@
 -- The sets of a chain: the measure is what the links can still lead to.
 use borrow.Author.Needs.{needs}
 use Prim.Native.Nat.{_<_, ℕ}
-use mathlib.Core.Path.{subst}
 use borrow.Fn.Kinds.{In}
 use borrow.Fn.PlainCycle.{Measures, and, falls, is}
 use Rattle.extension.proofs.+settle_all.{statement}
 use Rattle.extension.proofs.+settle_all.Tie.{close}
 use Rattle.extension.proofs.Conjuncts.{child-charted, child-falls, next-charted, next-falls}
-use Rattle.extension.proofs.Settling.{filled-none, filled-placed, filled-ready, filled-then}
+use Rattle.extension.proofs.Settling.{filled-none, filled-placed, filled-ready, filled-size, filled-then}
 use Rattle.meaning.specs.Records.{falling, lastOf}
 use Rattle.extension.proofs.settle_all.Reads as settle-all
 use Rattle.extension.proofs.settle_all.Kinds as settle-all-kinds
@@ -38,19 +37,26 @@ pub +settle-all-spec : {M : Type 1} → statement M
 )
     (settle-all-at t)
     settle-all.Post
-    -- settle-all-returns
-    (λ c. filled-none (c .before .before .before .before .pre .1 .0) (c .if1 .taken))
-    -- settle-all-child-at-requires
+    -- returns
+    (λ c. search filled-none)
+    -- child-at-requires
     (λ c κs. search needs)
-    -- settle-all-settle-all-requires
-    (λ c κs. (subst (λ (n : ℕ). falling (lastOf 6 (c .before .before .before .before .before .before .args .p .now)) (c .child-at .result) < n) (c .before .before .before .before .before .before .pre .0) (child-falls (c .before .before .if1 .left) (c .before .before .before .before .before .before .pre .1 .1) (c .child-at .ensures)), (c .before .before .before .before .before .before .pre .1 .0, child-charted (c .before .before .if1 .left) (c .before .before .before .before .before .before .pre .1 .1) (c .child-at .ensures))))
-    -- settle-all-next-of-requires
+    -- settle-all-requires
+    (λ c κs. (search child-falls, (search needs, search child-charted)))
+    -- next-of-requires
     (λ c κs. search needs)
-    -- settle-all-settle-all-requires-2
-    (λ c κs. (subst (λ (n : ℕ). falling (lastOf 6 (c .before .before .before .before .before .before .before .before .before .before .before .args .p .now)) (c .next-of .result) < n) (c .before .before .before .before .before .before .before .before .before .before .before .pre .0) (next-falls (c .before .before .before .before .before .before .before .if1 .left) (c .before .before .before .before .before .before .before .before .before .before .before .pre .1 .1) (c .next-of .ensures)), (filled-ready (c .before .before .before .before .settle-all .ensures) (c .before .before .before .before .before .before .before .before .before .before .before .pre .1 .0), next-charted (c .before .before .before .before .before .before .before .if1 .left) (c .before .before .before .before .before .before .before .before .before .before .before .pre .1 .1) (c .next-of .ensures))))
-    -- settle-all-settle-requires
-    (λ c κs. (filled-ready (c .before .before .before .settle-all2 .ensures) (filled-ready (c .before .before .before .before .before .before .before .before .settle-all .ensures) (c .before .before .before .before .before .before .before .before .before .before .before .before .before .before .before .pre .1 .0)), filled-placed (c .before .before .before .before .before .before .before .before .before .before .before .if1 .left) (c .before .before .before .before .before .before .before .before .before .before .before .before .before .before .before .pre .1 .1) (c .before .before .before .before .before .before .before .before .before .child-at .ensures) (c .before .before .before .before .next-of .ensures) (c .before .before .before .before .before .before .before .before .settle-all .ensures) (c .before .before .before .settle-all2 .ensures), c .before .before .before .before .before .before .before .before .before .before .before .before .before .before .before .pre .1 .1))
-    -- settle-all-same-length
-    (λ c. filled-then (c .before .before .before .before .before .before .before .before .before .before .before .before .before .before .if1 .left) (c .before .before .before .before .before .before .before .before .before .before .before .before .before .before .before .before .before .before .pre .1 .1) (c .before .before .before .before .before .before .before .before .before .before .before .before .child-at .ensures) (c .before .before .before .before .before .before .before .next-of .ensures) (c .before .before .before .before .before .before .before .before .before .before .before .settle-all .ensures) (c .before .before .before .before .before .before .settle-all2 .ensures) (c .before .before .settle .ensures) .only .size)
-    -- settle-all-returns-2
-    (λ c. filled-then (c .before .before .before .before .before .before .before .before .before .before .before .before .before .before .if1 .left) (c .before .before .before .before .before .before .before .before .before .before .before .before .before .before .before .before .before .before .pre .1 .1) (c .before .before .before .before .before .before .before .before .before .before .before .before .child-at .ensures) (c .before .before .before .before .before .before .before .next-of .ensures) (c .before .before .before .before .before .before .before .before .before .before .before .settle-all .ensures) (c .before .before .before .before .before .before .settle-all2 .ensures) (c .before .before .settle .ensures))
+    -- settle-all-requires-2
+    (λ c κs. (search next-falls, (search filled-ready, search next-charted)))
+    -- settle-requires
+    (λ c κs.
+    let pre = c .before .before .before .before .before .before .before .before .before .before .before .before .before .before .before .pre .1 in
+    let first = c .before .before .before .before .before .before .before .before .settle-all .ensures in
+    let second = c .before .before .before .settle-all2 .ensures in (
+      filled-ready second (filled-ready first (pre .0)),
+      filled-placed (c .before .before .before .before .before .before .before .before .before .before .before .if1 .left) (pre .1) (c .before .before .before .before .before .before .before .before .before .child-at .ensures) (c .before .before .before .before .next-of .ensures) first second,
+      pre .1,
+    ))
+    -- same-length
+    (λ c. search filled-size)
+    -- returns-2
+    (λ c. search filled-then)

@@ -5,37 +5,29 @@ use native.Mathlib.Omega.{arith}
 use borrow.Author.Needs.{needs}
 use Rattle.extension.proofs.Sets.{everyone-more}
 use Rattle.extension.proofs.include_all.Statement.{statement}
-use Rattle.extension.specs.Places.{individualWords, setOf, setsAt, setsSize}
+use Rattle.frames.proofs.Frames.{only-none}
+use Rattle.frames.specs.Frames.{Only, Span}
 use Rattle.satisfaction.proofs.Rows.{put-inside}
+use Rattle.satisfaction.specs.Places.{individualWords, setOf, setsAt, setsEnd}
 use Rattle.words.specs.Sets.{inSet}
-use Rattle.workspace.proofs.Changes.{only-none}
-use Rattle.workspace.specs.Work.{Only}
 use Rattle.extension.proofs.include_all.Tie as tie
 
 abbrev Inv-loop : tie.InvT-loop
-Inv-loop m work₀ n i₀ work i = (i ≤ n) × ((d : ℕ) → 1 ≤ d → d ≤ i → inSet (setOf work 0) d ≡ true) × Only setsAt setsSize work₀ work
+Inv-loop m work₀ n i₀ work i = (i ≤ n) × ((d : ℕ) → 1 ≤ d → d ≤ i → inSet (setOf work 0) d ≡ true) × Only (Span setsAt setsEnd) work₀ work
 
 abbrev μ-loop : tie.MeasureT-loop
 μ-loop m work₀ n i₀ work i = n - i
 
 loop-again : tie.Need-loop-again Inv-loop μ-loop
 loop-again c =
-    let pre = c .before .before .before .before .before .before .before .before .before .pre in
-    let individual-count = c .before .before .before .before .before .before .individual-count in
     let loop = c .before .before .before .before .before .loop in
+    let put = c .before .before .put .ensures in
     let s = loop .inv .2 .size in
-    let n = pre .0 .individuals in
-    let e = individual-count .ensures in (
+    let n = c .before .before .before .before .before .before .before .before .before .pre .0 .individuals in (
       search needs,
-      everyone-more (loop .work) (loop .i) (omega arith) (omega arith) (loop .inv .1) (c .before .before .put .ensures),
-      put-inside individualWords (loop .work) setsAt (loop .i + 1) (omega arith) (omega arith) (omega arith) (c .before .before .put .ensures) (loop .inv .2),
+      everyone-more (loop .work) (loop .i) (omega arith) (omega arith) (loop .inv .1) put,
+      put-inside individualWords (loop .work) setsAt (loop .i + 1) (omega arith) (omega arith) (omega arith) put (loop .inv .2),
     )
-
-returns : tie.Need-returns Inv-loop μ-loop
-returns c =
-    let loop = c .before .loop in
-    let e = c .before .before .individual-count .ensures in
-    (λ d n. loop .inv .1 d (n .0) (omega arith), loop .inv .2)
 
 pub include-all-spec : {M : Type 1} → statement M
 include-all-spec =
@@ -51,4 +43,4 @@ include-all-spec =
     (λ c. search needs)
     loop-again
     (λ c. c .before .loop .inv .2 .size)
-    returns)
+    (λ c. record { everyone = λ d n. c .before .loop .inv .1 d (n .0) (omega arith); only = c .before .loop .inv .2 }))

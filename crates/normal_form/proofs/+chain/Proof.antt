@@ -43,6 +43,6 @@ pub +chain-spec : {M : Type 1} → statement M
     -- chain-chain-requires
     (λ c κs. (next-falls (inSet (c .before .before .before .before .before .before .before .before .before .args .f .features)) (c .before .before .before .before .before .before .before .before .before .args .p .now) (c .before .before .before .before .before .before .before .before .before .args .x) (c .before .before .before .before .before .before .before .before .before .args .first) (c .before .before .before .before .before .before .before .before .before .args .k) (c .before .before .before .before .before .before .before .before .before .args .work .now) (c .before .before .before .before .before .before .before .before .before .args .g) (c .before .before .before .before .before .before .if1 .left) (c .before .before .before .before .before .before .before .before .before .pre .1 .0) (c .next-of .ensures) (c .before .before .before .before .before .before .before .before .before .pre .0), (next-good (inSet (c .before .before .before .before .before .before .before .before .before .args .f .features)) (c .before .before .before .before .before .before .before .before .before .args .p .now) (c .before .before .before .before .before .before .before .before .before .args .x) (c .before .before .before .before .before .before .before .before .before .args .first) (c .before .before .before .before .before .before .before .before .before .args .k) (c .before .before .before .before .before .before .before .before .before .args .work .now) (c .before .before .before .before .before .before .before .before .before .args .g) (c .before .before .before .before .before .before .if1 .left) (c .before .before .before .before .before .before .before .before .before .pre .1 .0) (c .next-of .ensures), next-ready (inSet (c .before .before .before .before .before .before .before .before .before .args .f .features)) (c .before .before .before .before .before .before .before .before .before .args .p .now) (c .before .before .before .before .before .before .before .before .before .args .x) (c .before .before .before .before .before .before .before .before .before .args .first) (c .before .before .before .before .before .before .before .before .before .args .k) (c .before .before .before .before .before .before .before .before .before .args .work .now) (c .before .before .before .before .before .before .before .before .before .args .g) (c .before .before .before .before .before .before .if1 .left) (c .before .before .before .before .before .before .before .before .before .pre .1 .0) (c .next-of .ensures) (c .before .before .before .before .conjunct .ensures) (c .before .before .before .before .before .before .before .before .before .pre .1 .1))))
     -- chain-same-length
-    (λ c. c .before .before .chain .ensures .kept .same ∙ c .before .before .before .before .before .before .before .conjunct .ensures .kept .same)
+    (λ c. c .before .before .chain .ensures .only .size ∙ c .before .before .before .before .before .before .before .conjunct .ensures .only .size)
     -- chain-returns-2
     (λ c. chain-step (inSet (c .before .before .before .before .before .before .before .before .before .before .before .before .args .f .features)) (c .before .before .before .before .before .before .before .before .before .before .before .before .args .p .now) (c .before .before .before .before .before .before .before .before .before .before .before .before .args .x) (c .before .before .before .before .before .before .before .before .before .before .before .before .args .first) (c .before .before .before .before .before .before .before .before .before .before .before .before .args .k) (c .before .before .before .before .before .before .before .before .before .before .before .before .args .work .now) (c .before .before .before .before .before .before .before .before .before .before .before .before .args .g) (c .before .before .before .before .before .before .before .before .before .if1 .left) (c .before .before .before .before .before .before .before .before .before .before .before .before .pre .1 .0) (c .before .before .before .next-of .ensures) (c .before .before .before .before .before .before .before .conjunct .ensures) (c .before .before .chain .ensures))

@@ -39,7 +39,7 @@ pub +gather-spec : {M : Type 1} → statement M
     (gather-at t)
     gather.Post
     -- gather-returns
-    (λ c. let a = c .before .before .before .args in gather-end (inSet (a .f .roles)) (inSet (a .f .features)) (a .p .now) (a .x) (a .r) (a .j) (a .stop) (a .first) (a .work .now) (a .g) (c .before .before .before .pre .1) (c .if1 .taken))
+    (λ c. let a = c .before .before .before .args in gather-end (inSet (a .f .roles)) (inSet (a .f .features)) (a .p .now) (a .x) (a .r .0) (a .j) (a .stop) (a .first) (a .work .now) (a .g) (c .before .before .before .pre .1) (c .if1 .taken))
     -- gather-mul-k
     (λ c. let q = c .before .before .before .pre .1 in let u = q .1 in let v = q .4 .pending in let w = q .4 .long in omega arith)
     -- gather-slice-read-k
@@ -47,11 +47,11 @@ pub +gather-spec : {M : Type 1} → statement M
     -- gather-add-gather
     (λ c. let q = c .before .before .before .before .before .before .pre .1 in let u = q .1 in let v = q .4 .pending in let w = q .4 .long in omega arith)
     -- gather-gather-requires
-    (λ c κs. let a = c .before .before .before .before .before .before .args in (omega (arith, c .before .before .before .before .before .before .pre .0, c .before .before .before .before .before .before .pre .1 .0), skip-can (inSet (a .f .roles)) (inSet (a .f .features)) (a .p .now) (a .x) (a .r) (a .j) (a .stop) (a .first) (a .work .now) (a .g) (c .before .before .before .before .before .before .pre .1) (c .before .before .before .if1 .left) (c .before .if2 .taken)))
+    (λ c κs. let a = c .before .before .before .before .before .before .args in (omega (arith, c .before .before .before .before .before .before .pre .0, c .before .before .before .before .before .before .pre .1 .0), skip-can (inSet (a .f .roles)) (inSet (a .f .features)) (a .p .now) (a .x) (a .r .0) (a .j) (a .stop) (a .first) (a .work .now) (a .g) (c .before .before .before .before .before .before .pre .1) (c .before .before .before .if1 .left) (c .before .if2 .taken)))
     -- gather-same-length
-    (λ c. c .before .before .gather .ensures .0 .kept .same)
+    (λ c. c .before .before .gather .ensures .0 .only .size)
     -- gather-returns-2
-    (λ c. let a = c .before .before .before .before .before .before .before .before .before .args in skip-done (inSet (a .f .roles)) (inSet (a .f .features)) (a .p .now) (a .x) (a .r) (a .j) (a .stop) (a .first) (a .work .now) (a .g) (c .before .before .before .before .before .before .before .before .before .pre .1) (c .before .before .before .before .before .before .if1 .left) (c .before .before .before .before .if2 .taken) (c .before .before .gather .ensures))
+    (λ c. let a = c .before .before .before .before .before .before .before .before .before .args in skip-done (inSet (a .f .roles)) (inSet (a .f .features)) (a .p .now) (a .x) (a .r .0) (a .j) (a .stop) (a .first) (a .work .now) (a .g) (c .before .before .before .before .before .before .before .before .before .pre .1) (c .before .before .before .before .before .before .if1 .left) (c .before .before .before .before .if2 .taken) (c .before .before .gather .ensures))
     -- gather-does-join-requires
     (λ c κs. search needs)
     -- gather-mul-work
@@ -61,20 +61,20 @@ pub +gather-spec : {M : Type 1} → statement M
     -- gather-child-of-requires
     (λ c κs. search needs)
     -- gather-chain-requires
-    (λ c κs. let a = c .before .before .before .before .before .before .before .before .before .args in take-chain (inSet (a .f .roles)) (inSet (a .f .features)) (a .p .now) (a .x) (a .r) (a .j) (a .stop) (a .first) (a .work .now) (a .g) (c .before .before .before .before .before .before .before .before .before .pre .1) (c .before .before .before .before .before .before .if1 .left) refl (c .before .before .before .before .if2 .left) (sym (c .before .before .before .does-join .ensures) ∙ c .before .before .if3 .taken) (c .child-of .ensures) refl)
+    (λ c κs. let a = c .before .before .before .before .before .before .before .before .before .args in take-chain (inSet (a .f .roles)) (inSet (a .f .features)) (a .p .now) (a .x) (a .r .0) (a .j) (a .stop) (a .first) (a .work .now) (a .g) (c .before .before .before .before .before .before .before .before .before .pre .1) (c .before .before .before .before .before .before .if1 .left) refl (c .before .before .before .before .if2 .left) (sym (c .before .before .before .does-join .ensures) ∙ c .before .before .if3 .taken) (c .child-of .ensures) refl)
     -- gather-add-gather-2
     (λ c. let q = c .before .before .before .before .before .before .before .before .before .before .before .before .before .pre .1 in let u = q .1 in let v = q .4 .pending in let w = q .4 .long in omega arith)
     -- gather-gather-requires-2
-    (λ c κs. let a = c .before .before .before .before .before .before .before .before .before .before .before .before .before .args in (omega (arith, c .before .before .before .before .before .before .before .before .before .before .before .before .before .pre .0, c .before .before .before .before .before .before .before .before .before .before .before .before .before .pre .1 .0), take-can (inSet (a .f .roles)) (inSet (a .f .features)) (a .p .now) (a .x) (a .r) (a .j) (a .stop) (a .first) (a .work .now) (a .g) (c .before .before .before .before .before .before .before .before .before .before .before .before .before .pre .1) (c .before .before .before .before .before .before .before .before .before .before .if1 .left) refl (c .before .before .before .before .before .before .before .before .if2 .left) (sym (c .before .before .before .before .before .before .before .does-join .ensures) ∙ c .before .before .before .before .before .before .if3 .taken) (c .before .before .before .before .child-of .ensures) refl (c .before .before .before .chain .ensures)))
+    (λ c κs. let a = c .before .before .before .before .before .before .before .before .before .before .before .before .before .args in (omega (arith, c .before .before .before .before .before .before .before .before .before .before .before .before .before .pre .0, c .before .before .before .before .before .before .before .before .before .before .before .before .before .pre .1 .0), take-can (inSet (a .f .roles)) (inSet (a .f .features)) (a .p .now) (a .x) (a .r .0) (a .j) (a .stop) (a .first) (a .work .now) (a .g) (c .before .before .before .before .before .before .before .before .before .before .before .before .before .pre .1) (c .before .before .before .before .before .before .before .before .before .before .if1 .left) refl (c .before .before .before .before .before .before .before .before .if2 .left) (sym (c .before .before .before .before .before .before .before .does-join .ensures) ∙ c .before .before .before .before .before .before .if3 .taken) (c .before .before .before .before .child-of .ensures) refl (c .before .before .before .chain .ensures)))
     -- gather-same-length-2
-    (λ c. c .before .before .gather2 .ensures .0 .kept .same ∙ c .before .before .before .before .before .before .chain .ensures .kept .same ∙ simp length-set)
+    (λ c. c .before .before .gather2 .ensures .0 .only .size ∙ c .before .before .before .before .before .before .chain .ensures .only .size ∙ simp length-set)
     -- gather-returns-3
-    (λ c. let a = c .before .before .before .before .before .before .before .before .before .before .before .before .before .before .before .before .args in take-done (inSet (a .f .roles)) (inSet (a .f .features)) (a .p .now) (a .x) (a .r) (a .j) (a .stop) (a .first) (a .work .now) (a .g) (c .before .before .before .before .before .before .before .before .before .before .before .before .before .before .before .before .pre .1) (c .before .before .before .before .before .before .before .before .before .before .before .before .before .if1 .left) refl (c .before .before .before .before .before .before .before .before .before .before .before .if2 .left) (sym (c .before .before .before .before .before .before .before .before .before .before .does-join .ensures) ∙ c .before .before .before .before .before .before .before .before .before .if3 .taken) (c .before .before .before .before .before .before .before .child-of .ensures) refl (c .before .before .before .before .before .before .chain .ensures) (c .before .before .gather2 .ensures))
+    (λ c. let a = c .before .before .before .before .before .before .before .before .before .before .before .before .before .before .before .before .args in take-done (inSet (a .f .roles)) (inSet (a .f .features)) (a .p .now) (a .x) (a .r .0) (a .j) (a .stop) (a .first) (a .work .now) (a .g) (c .before .before .before .before .before .before .before .before .before .before .before .before .before .before .before .before .pre .1) (c .before .before .before .before .before .before .before .before .before .before .before .before .before .if1 .left) refl (c .before .before .before .before .before .before .before .before .before .before .before .if2 .left) (sym (c .before .before .before .before .before .before .before .before .before .before .does-join .ensures) ∙ c .before .before .before .before .before .before .before .before .before .if3 .taken) (c .before .before .before .before .before .before .before .child-of .ensures) refl (c .before .before .before .before .before .before .chain .ensures) (c .before .before .gather2 .ensures))
     -- gather-add-gather-3
     (λ c. let q = c .before .before .before .before .before .before .before .before .pre .1 in let u = q .1 in let v = q .4 .pending in let w = q .4 .long in omega arith)
     -- gather-gather-requires-3
-    (λ c κs. let a = c .before .before .before .before .before .before .before .before .args in (omega (arith, c .before .before .before .before .before .before .before .before .pre .0, c .before .before .before .before .before .before .before .before .pre .1 .0), pass-can (inSet (a .f .roles)) (inSet (a .f .features)) (a .p .now) (a .x) (a .r) (a .j) (a .stop) (a .first) (a .work .now) (a .g) (c .before .before .before .before .before .before .before .before .pre .1) (c .before .before .before .before .before .if1 .left) refl (c .before .before .before .if2 .left) (sym (c .before .before .does-join .ensures) ∙ c .before .if3 .left)))
+    (λ c κs. let a = c .before .before .before .before .before .before .before .before .args in (omega (arith, c .before .before .before .before .before .before .before .before .pre .0, c .before .before .before .before .before .before .before .before .pre .1 .0), pass-can (inSet (a .f .roles)) (inSet (a .f .features)) (a .p .now) (a .x) (a .r .0) (a .j) (a .stop) (a .first) (a .work .now) (a .g) (c .before .before .before .before .before .before .before .before .pre .1) (c .before .before .before .before .before .if1 .left) refl (c .before .before .before .if2 .left) (sym (c .before .before .does-join .ensures) ∙ c .before .if3 .left)))
     -- gather-same-length-3
-    (λ c. c .before .before .gather3 .ensures .0 .kept .same)
+    (λ c. c .before .before .gather3 .ensures .0 .only .size)
     -- gather-returns-4
-    (λ c. let a = c .before .before .before .before .before .before .before .before .before .before .before .args in pass-done (inSet (a .f .roles)) (inSet (a .f .features)) (a .p .now) (a .x) (a .r) (a .j) (a .stop) (a .first) (a .work .now) (a .g) (c .before .before .before .before .before .before .before .before .before .before .before .pre .1) (c .before .before .before .before .before .before .before .before .if1 .left) refl (c .before .before .before .before .before .before .if2 .left) (sym (c .before .before .before .before .before .does-join .ensures) ∙ c .before .before .before .before .if3 .left) (c .before .before .gather3 .ensures))
+    (λ c. let a = c .before .before .before .before .before .before .before .before .before .before .before .args in pass-done (inSet (a .f .roles)) (inSet (a .f .features)) (a .p .now) (a .x) (a .r .0) (a .j) (a .stop) (a .first) (a .work .now) (a .g) (c .before .before .before .before .before .before .before .before .before .before .before .pre .1) (c .before .before .before .before .before .before .before .before .if1 .left) refl (c .before .before .before .before .before .before .if2 .left) (sym (c .before .before .before .before .before .does-join .ensures) ∙ c .before .before .before .before .if3 .left) (c .before .before .gather3 .ensures))

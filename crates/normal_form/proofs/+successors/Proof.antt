@@ -43,7 +43,7 @@ pub +successors-spec : {M : Type 1} → statement M
     -- successors-successors-requires
     (λ c κs. let a = c .before .before .before .before .before .before .args in (skip-falls (a .f) (a .p .now) (a .work .now) (a .j) (a .stop) (a .parent) (a .t) (c .before .before .before .before .before .before .pre .1) (c .before .before .before .if1 .left) (c .before .if2 .taken) (c .before .before .before .before .before .before .pre .0), skip-room (a .f) (a .p .now) (a .work .now) (a .j) (a .stop) (a .parent) (a .t) (c .before .before .before .before .before .before .pre .1) (c .before .before .before .if1 .left) (c .before .if2 .taken)))
     -- successors-same-length
-    (λ c. c .before .before .successors .ensures .kept .same)
+    (λ c. c .before .before .successors .ensures .only .size)
     -- successors-returns-2
     (λ c. let a = c .before .before .before .before .before .before .before .before .before .args in skip-built (a .f) (a .p .now) (a .work .now) (a .j) (a .stop) (a .parent) (a .t) (c .before .before .before .before .before .before .before .before .before .pre .1) (c .before .before .before .before .before .before .if1 .left) (c .before .before .before .before .if2 .taken) (c .before .before .successors .ensures))
     -- successors-node-requires
@@ -57,6 +57,6 @@ pub +successors-spec : {M : Type 1} → statement M
     -- successors-successors-requires-3
     (λ c κs. let a = c .before .before .before .before .before .before .before .before .before .before .before .before .before .before .before .args in (next-falls (a .f) (a .p .now) (a .work .now) (a .j) (a .stop) (a .parent) (a .t) (c .before .before .before .before .before .before .before .before .before .before .before .before .before .before .before .pre .1) (c .before .before .before .before .before .before .before .before .before .before .before .before .if1 .left) refl (c .before .before .before .before .before .before .before .before .before .before .if2 .left) (c .before .before .before .before .before .before .before .before .node .ensures) refl (c .before .before .before .successors2 .ensures) (c .before .before .before .before .before .before .before .before .before .before .before .before .before .before .before .pre .0), next-room (a .f) (a .p .now) (a .work .now) (a .j) (a .stop) (a .parent) (a .t) (c .before .before .before .before .before .before .before .before .before .before .before .before .before .before .before .pre .1) (c .before .before .before .before .before .before .before .before .before .before .before .before .if1 .left) refl (c .before .before .before .before .before .before .before .before .before .before .if2 .left) (c .before .before .before .before .before .before .before .before .node .ensures) refl (c .before .before .before .successors2 .ensures)))
     -- successors-same-length-2
-    (λ c. c .before .before .successors3 .ensures .kept .same ∙ c .before .before .before .before .before .before .successors2 .ensures .kept .same ∙ c .before .before .before .before .before .before .before .before .before .before .before .node .ensures .kept .same)
+    (λ c. c .before .before .successors3 .ensures .only .size ∙ c .before .before .before .before .before .before .successors2 .ensures .only .size ∙ c .before .before .before .before .before .before .before .before .before .before .before .node .ensures .only .size)
     -- successors-returns-3
     (λ c. let a = c .before .before .before .before .before .before .before .before .before .before .before .before .before .before .before .before .before .before .args in node-built (a .f) (a .p .now) (a .work .now) (a .j) (a .stop) (a .parent) (a .t) (c .before .before .before .before .before .before .before .before .before .before .before .before .before .before .before .before .before .before .pre .1) (c .before .before .before .before .before .before .before .before .before .before .before .before .before .before .before .if1 .left) refl (c .before .before .before .before .before .before .before .before .before .before .before .before .before .if2 .left) (c .before .before .before .before .before .before .before .before .before .before .before .node .ensures) refl (c .before .before .before .before .before .before .successors2 .ensures) (c .before .before .successors3 .ensures))

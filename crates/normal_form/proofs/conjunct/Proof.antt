@@ -24,7 +24,7 @@ add-interval-requires c κs =
     let a = c .before .before .before .before .before .before .before .before .before .before .args in
     let q = c .before .before .before .before .before .before .before .before .before .before .pre in
     let n = c .before .before .before .before .match .rest in
-    (q .2 .first, interval-room (inSet (a .f .features)) (a .p .now) (a .x) (a .first) (a .k) (a .work .now) (a .g) (q .0) (q .1) (q .2) (c .before .before .before .before .before .before .before .kind-of .ensures) (c .before .before .before .before .before .before .name-of .ensures) (n .0 .0 .1) (n .0 .1) (n .1), q .2 .long)
+    (q .2 .first, (interval-room (inSet (a .f .features)) (a .p .now) (a .x) (a .first) (a .k) (a .work .now) (a .g) (q .0) (q .1) (q .2) (c .before .before .before .before .before .before .before .kind-of .ensures) (c .before .before .before .before .before .before .name-of .ensures) (n .0 .0 .1) (n .0 .1) (n .1), q .2 .long))
 
 returns : tie.Need-returns
 returns c =
@@ -72,5 +72,5 @@ conjunct-spec =
     returns-2
     (λ c. search needs)
     returns-3
-    (λ c. c .before .before .add-interval .ensures .same)
+    (λ c. c .before .before .add-interval .ensures .only .size)
     returns-4)

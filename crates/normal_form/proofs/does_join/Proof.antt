@@ -7,7 +7,7 @@ use Rattle.normal_form.proofs.does_join.Tie as tie
 returns : tie.Need-returns
 returns c =
     let a = c .before .before .before .before .args in
-    join-told (inSet (a .f .roles)) (a .p .now) (a .k) (a .r) (c .before .before .name-of .ensures) (c .before .has-role .ensures .0) (c .both .ensures)
+    join-told (inSet (a .f .roles)) (a .p .now) (a .k) (a .r .0) (c .before .before .name-of .ensures) (c .before .has-role .ensures .0) (c .both .ensures)
 
 pub does-join-spec : {M : Type 1} → statement M
 does-join-spec = tie.close (tie.spec (λ c κs. search needs) (λ c κs. search needs) (λ c κs. search needs) returns)

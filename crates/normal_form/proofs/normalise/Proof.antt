@@ -17,5 +17,5 @@ normalise-spec =
     (λ c. search needs)
     (λ c. search needs)
     (λ c κs. root-room (c .before .before .before .args .p .now) (c .before .before .before .args .work .now) (c .before .before .before .args .s) (c .before .before .before .pre))
-    (λ c. c .before .before .successors .ensures .kept .same ∙ simp length-set)
+    (λ c. c .before .before .successors .ensures .only .size ∙ simp length-set)
     returns)

@@ -1,23 +1,25 @@
--- `walk_from`: a fault at the record, no record left, or the child chain and then the next. The records left fall.
+-- `walk_from`: a loop along the chain, over its records, and a call for each child chain, with a level less.
 use borrow.Author.Needs.{needs}
 use Prim.Native.Nat.{_<_, ℕ}
+use mathlib.Core.Path.{_≡_}
+use lib.ListN.{length}
 use borrow.Fn.Kinds.{In}
 use borrow.Fn.PlainCycle.{Measures, and, falls, is}
+use Rattle.meaning.specs.Accepted.{Here}
 use Rattle.meaning.specs.Records.{falling, lastOf}
 use Rattle.policy.proofs.+walk_from.{statement}
 use Rattle.policy.proofs.+walk_from.Tie.{close}
-use Rattle.policy.proofs.Laws.{deeper, fewer, inside, walk-ends, walk-faults, walk-on, walk-stops}
+use Rattle.policy.proofs.Walking.{Going, child-inside, here, level, level-falls, next-falls, next-inside, walk-ends, walk-faults, walk-on, walk-starts, walk-stops}
 use Rattle.policy.proofs.walk_from.Reads as walk-from
 use Rattle.policy.proofs.walk_from.Kinds as walk-from-kinds
 use Rattle.policy.proofs.+walk_from.Lts-walk_from as walk-from-lts
 use Rattle.policy.proofs.child_of.Reads as child-of-reads
 use Rattle.policy.proofs.fault_at.Reads as fault-at-reads
 use Rattle.policy.proofs.next_of.Reads as next-of-reads
-use Rattle.words.proofs.has.Reads as has-reads
 use Rattle.words.proofs.insert.Reads as insert-reads
 
 abbrev μ-walk-from : Measures 3 walk-from-kinds.ps ℕ
-μ-walk-from κs a = falling (lastOf 6 (a .1 .0 .now)) (a .1 .1 .1 .0)
+μ-walk-from κs a = a .1 .1 .0
 
 abbrev walk-from-at : ℕ → In 3 walk-from-kinds.ps
 walk-from-at t = and 3 walk-from-kinds.ps (is 3 walk-from-kinds.ps μ-walk-from t) walk-from.Pre
@@ -26,10 +28,14 @@ abbrev walk-from-below : ℕ → In 3 walk-from-kinds.ps
 walk-from-below t =
     and 3 walk-from-kinds.ps (falls 3 walk-from-kinds.ps _<_ μ-walk-from t) walk-from.Pre
 
+abbrev walk-from-Inv-loop : walk-from-lts.InvT-loop
+walk-from-Inv-loop v p left first seen₀ k₀ seen k = Going v p left first seen₀ k seen × (length seen ≡ length seen₀)
+
+abbrev walk-from-μ-loop : walk-from-lts.MeasureT-loop
+walk-from-μ-loop v p left first seen₀ k₀ seen k = falling (lastOf 6 p) k
+
 pub +walk-from-spec : {M : Type 1} → statement M
 +walk-from-spec = close μ-walk-from λ t. walk-from-lts.spec (
-  has-reads.Asked,
-  has-reads.Learnt,
   fault-at-reads.Asked,
   fault-at-reads.Learnt,
   child-of-reads.Asked,
@@ -43,15 +49,15 @@ pub +walk-from-spec : {M : Type 1} → statement M
 )
     (walk-from-at t)
     walk-from.Post
-    -- returns
-    (λ c. search walk-ends)
-    -- has-requires
-    (λ c κs. search needs)
+    walk-from-Inv-loop
+    walk-from-μ-loop
+    -- loop-holds
+    (λ c. (search walk-starts, search needs))
     -- fault-at-requires
     (λ c κs. search needs)
     -- same-length
     (λ c. search needs)
-    -- returns-2
+    -- returns
     (λ c. search walk-faults)
     -- child-of-requires
     (λ c κs. search needs)
@@ -59,17 +65,23 @@ pub +walk-from-spec : {M : Type 1} → statement M
     (λ c κs. search needs)
     -- insert-requires
     (λ c κs. search needs)
-    -- add-walk-from
-    (λ c. search needs)
+    -- sub-walk-from
+    (λ c. search (needs, level))
     -- walk-from-requires
-    (λ c κs. (search fewer, (search needs, search needs, search inside, search deeper)))
+    (λ c κs.
+    let h : Here
+    (c .before .before .before .before .before .before .before .before .before .before .before .before .before .before .before .args .p .now)
+    (c .before .before .before .before .before .before .before .before .before .before .before .loop .k) = search here in
+    (search level-falls, (search needs, search needs, search (child-inside, next-inside), search needs)))
     -- same-length-2
     (λ c. search needs)
-    -- returns-3
+    -- returns-2
     (λ c. search walk-stops)
-    -- walk-from-requires-2
-    (λ c κs. (search fewer, (search needs, search needs, search inside, search needs)))
+    -- loop-less
+    (λ c. search next-falls)
+    -- loop-again
+    (λ c. (search walk-on, search needs))
     -- same-length-3
     (λ c. search needs)
-    -- returns-4
-    (λ c. search walk-on)
+    -- returns-3
+    (λ c. search walk-ends)

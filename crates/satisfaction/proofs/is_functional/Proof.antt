@@ -1,21 +1,18 @@
 use mathlib.Core.Path.{_∙_}
 use native.Mathlib.Omega.{arith}
 use borrow.Author.Needs.{needs}
-use Rattle.meaning.specs.Model.{factAt, factsOf}
+use Rattle.frames.proofs.Frames.{only-span, only-then}
+use Rattle.meaning.specs.Model.{factsOf}
 use Rattle.meaning.specs.Records.{falling, lastOf}
-use Rattle.model.proofs.Chain.{Scanning, scanning-ends, scanning-falls, scanning-found, scanning-on, scanning-starts}
-use Rattle.model.proofs.Chain.{scanning-stated}
-use Rattle.satisfaction.proofs.Links.{Holding, holding-ends, holding-fails, holding-on, holding-only}
-use Rattle.satisfaction.proofs.Values.{holding-starts}
+use Rattle.model.proofs.Chain.{Scanning, scanning-ends, scanning-falls, scanning-found, scanning-on, scanning-starts, scanning-stated}
+use Rattle.satisfaction.proofs.Links.{Noting, holding-ends, noting-fails, noting-on, noting-only}
+use Rattle.satisfaction.proofs.Values.{noting-starts}
 use Rattle.satisfaction.proofs.is_functional.Statement.{statement}
-use Rattle.satisfaction.specs.Links.{linkOf, linksOf}
-use Rattle.satisfaction.specs.Places.{tablesSize, valuesAt}
-use Rattle.workspace.proofs.Changes.{only-none, only-then, only-wider}
-use Rattle.workspace.specs.Work.{Only}
+use Rattle.satisfaction.specs.Links.{linkOf}
 use Rattle.satisfaction.proofs.is_functional.Tie as tie
 
 abbrev Inv-loop : tie.InvT-loop
-Inv-loop m work₀ kind a f₀ work f = Scanning (λ l. Holding work (linksOf kind a (factsOf m)) (linksOf kind a l)) m f × Only valuesAt tablesSize work₀ work
+Inv-loop m work₀ kind a f₀ work f = Scanning (Noting (linkOf kind a) (factsOf m) work₀ work) m f
 
 abbrev μ-loop : tie.MeasureT-loop
 μ-loop m work₀ kind a f₀ work f = falling (lastOf 5 m) f
@@ -23,72 +20,32 @@ abbrev μ-loop : tie.MeasureT-loop
 loop-holds : tie.Need-loop-holds Inv-loop μ-loop
 loop-holds c =
     let pre = c .before .before .before .before .before .before .before .pre in
-    let args = c .before .before .before .before .before .before .before .args in (
-      scanning-starts (pre .0) (c .first-fact .ensures) (holding-starts (pre .0) (args .kind) (args .a) (c .before .before .before .clear .ensures .zeros)),
-      only-none,
-    )
+    let args = c .before .before .before .before .before .before .before .args in
+    scanning-starts (pre .0) (c .first-fact .ensures) (noting-starts (pre .0) (args .kind) (args .a) (pre .2) (c .before .before .before .clear .ensures))
 
 note-requires : tie.Need-note-requires Inv-loop μ-loop
 note-requires c κs =
     let pre = c .before .before .before .before .before .before .before .before .before .before .pre in
-    let clear = c .before .before .before .before .before .before .clear in
-    let loop = c .before .before .loop in
-    let s = loop .inv .1 .size in
-    let t = clear .ensures .only .size in
-    let l = pre .2 in
-    (scanning-stated (loop .inv .0) (c .before .loop-test .taken), pre .0, pre .1, omega arith)
+    let x = c .before .before .loop .inv in
+    (scanning-stated x (c .before .loop-test .taken), pre .0, pre .1, x .walk .holds .long)
 
 same-length : tie.Need-same-length Inv-loop μ-loop
 same-length c =
-    let args = c .before .before .before .before .before .before .before .before .before .before .before .before .before .before .args in
-    let clear = c .before .before .before .before .before .before .before .before .before .before .clear in
-    let loop = c .before .before .before .before .before .before .loop in
-    let loop-test = c .before .before .before .before .before .loop-test in
-    (only-then (only-wider (clear .ensures .only) valuesAt tablesSize (omega arith) (omega arith)) (only-then (loop .inv .1) (scanning-found (loop .inv .0) (loop-test .taken) (λ l h. holding-only (linkOf (args .kind) (args .a) (factAt (args .m .now) (loop .f))) h (c .before .before .before .note .ensures .1))))) .size
+    scanning-found (c .before .before .before .before .before .before .loop .inv) (c .before .before .before .before .before .loop-test .taken) (noting-only (c .before .before .before .note .ensures)) .size ∙ c .before .before .before .before .before .before .before .before .before .before .clear .ensures .only .size
 
 returns : tie.Need-returns Inv-loop μ-loop
 returns c =
-    let args = c .before .before .before .before .before .before .before .before .before .before .before .before .before .before .args in
-    let clear = c .before .before .before .before .before .before .before .before .before .before .clear in
-    let loop = c .before .before .before .before .before .before .loop in
-    let loop-test = c .before .before .before .before .before .loop-test in (
-      scanning-found (loop .inv .0) (loop-test .taken) (λ l h. holding-fails (linkOf (args .kind) (args .a) (factAt (args .m .now) (loop .f))) h (c .before .before .before .note .ensures .1) (c .before .before .before .note .ensures .0) (c .if1 .taken)),
-      only-then (only-wider (clear .ensures .only) valuesAt tablesSize (omega arith) (omega arith)) (only-then (loop .inv .1) (scanning-found (loop .inv .0) (loop-test .taken) (λ l h. holding-only (linkOf (args .kind) (args .a) (factAt (args .m .now) (loop .f))) h (c .before .before .before .note .ensures .1)))),
+    let x = c .before .before .before .before .before .before .loop .inv in
+    let n = c .before .before .before .before .before .loop-test .taken in
+    let e = c .before .before .before .note .ensures in (
+      scanning-found x n (λ l t. noting-fails e l t (c .if1 .taken)),
+      only-then (only-span (c .before .before .before .before .before .before .before .before .before .before .clear .ensures .only) (omega arith) (omega arith)) (scanning-found x n (noting-only e)),
     )
-
-loop-less : tie.Need-loop-less Inv-loop μ-loop
-loop-less c =
-    let loop = c .before .before .before .before .before .before .before .loop in
-    let loop-test = c .before .before .before .before .before .before .loop-test in
-    scanning-falls (loop .inv .0) (loop-test .taken) (c .fact-next .ensures)
-
-loop-again : tie.Need-loop-again Inv-loop μ-loop
-loop-again c =
-    let pre = c .before .before .before .before .before .before .before .before .before .before .before .before .before .before .before .pre in
-    let args = c .before .before .before .before .before .before .before .before .before .before .before .before .before .before .before .args in
-    let clear = c .before .before .before .before .before .before .before .before .before .before .before .clear in
-    let loop = c .before .before .before .before .before .before .before .loop in
-    let loop-test = c .before .before .before .before .before .before .loop-test in
-    let note = c .before .before .before .before .note in
-    let s = loop .inv .1 .size in
-    let t = clear .ensures .only .size in
-    let z = pre .2 in (
-      scanning-on (loop .inv .0) (loop-test .taken) (c .fact-next .ensures) (λ l h. holding-on (linkOf (args .kind) (args .a) (factAt (args .m .now) (loop .f))) h (note .ensures .1) (omega arith) (note .ensures .0) (c .before .if1 .left)),
-      only-then (loop .inv .1) (scanning-found (loop .inv .0) (loop-test .taken) (λ l h. holding-only (linkOf (args .kind) (args .a) (factAt (args .m .now) (loop .f))) h (note .ensures .1))),
-    )
-
-same-length-2 : tie.Need-same-length-2 Inv-loop μ-loop
-same-length-2 c =
-    let clear = c .before .before .before .before .before .clear in
-    c .before .loop .inv .1 .size ∙ clear .ensures .only .size
 
 returns-2 : tie.Need-returns-2 Inv-loop μ-loop
 returns-2 c =
-    let clear = c .before .before .before .before .before .clear in
-    let loop = c .before .loop in (
-      holding-ends (scanning-ends (loop .inv .0) (c .loop-test .left)),
-      only-then (only-wider (clear .ensures .only) valuesAt tablesSize (omega arith) (omega arith)) (loop .inv .1),
-    )
+    let t = scanning-ends (c .before .loop .inv) (c .loop-test .left) in
+    (holding-ends (t .holding), only-then (only-span (c .before .before .before .before .before .clear .ensures .only) (omega arith) (omega arith)) (t .only))
 
 pub is-functional-spec : {M : Type 1} → statement M
 is-functional-spec =
@@ -103,7 +60,7 @@ is-functional-spec =
     same-length
     returns
     (λ c κs. search needs)
-    loop-less
-    loop-again
-    same-length-2
+    (λ c. search scanning-falls)
+    (λ c. scanning-on (c .before .before .before .before .before .before .before .loop .inv) (c .before .before .before .before .before .before .loop-test .taken) (c .fact-next .ensures) (λ l t. noting-on (c .before .before .before .before .note .ensures) l t (c .before .if1 .left)))
+    (λ c. c .before .loop .inv .walk .holds .only .size ∙ c .before .before .before .before .before .clear .ensures .only .size)
     returns-2)

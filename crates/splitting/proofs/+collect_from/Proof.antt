@@ -6,24 +6,24 @@ use native.Mathlib.Omega.{arith}
 use borrow.Fn.Kinds.{In}
 use borrow.Fn.PlainCycle.{Measures, and, falls, is}
 use Rattle.meaning.specs.Accepted.{count}
-use Rattle.normal_form.specs.Parts.{chainAt}
+use Rattle.policy.specs.Terms.{conjunctsAt}
 use Rattle.splitting.proofs.+collect_from.{statement}
 use Rattle.splitting.proofs.+collect_from.Tie.{close}
-use Rattle.splitting.proofs.Collecting.{behind-asks, behind-paired, both-paired, child-asks, later-asks, next-asks}
-use Rattle.splitting.proofs.Collecting.{next-paired, pairs-fit, pairs-none, pairs-same}
-use Rattle.splitting.proofs.collect_from.Reads as collect-from
-use Rattle.splitting.proofs.collect_from.Kinds as collect-from-kinds
-use Rattle.splitting.proofs.+collect_from.Lts-collect_from as collect-from-lts
+use Rattle.splitting.proofs.Collecting.{behind-asks, behind-paired, both-paired, child-asks, later-asks, next-asks, next-paired}
+use Rattle.splitting.proofs.Collecting.{pairs-fit, pairs-none, pairs-same}
 use Rattle.policy.proofs.child_of.Reads as child-of-reads
 use Rattle.policy.proofs.hi_of.Reads as hi-of-reads
 use Rattle.policy.proofs.kind_of.Reads as kind-of-reads
 use Rattle.policy.proofs.lo_of.Reads as lo-of-reads
 use Rattle.policy.proofs.name_of.Reads as name-of-reads
 use Rattle.policy.proofs.next_of.Reads as next-of-reads
+use Rattle.splitting.proofs.+collect_from.Lts-collect_from as collect-from-lts
+use Rattle.splitting.proofs.collect_from.Kinds as collect-from-kinds
+use Rattle.splitting.proofs.collect_from.Reads as collect-from
 use Rattle.splitting.proofs.put_pairs.Reads as put-pairs-reads
 
 abbrev μ-collect-from : Measures 2 collect-from-kinds.ps ℕ
-μ-collect-from κs a = count (chainAt (a .0 .now) (a .1 .1 .0))
+μ-collect-from κs a = count (conjunctsAt (a .0 .now) (a .1 .1 .0))
 
 abbrev collect-from-at : ℕ → In 2 collect-from-kinds.ps
 collect-from-at t =

@@ -25,14 +25,21 @@ returns : tie.Need-returns Inv-loop μ-loop
 returns c =
     let l = c .before .before .before .before .before .before .loop in
     let a = c .before .before .before .before .before .before .before .before .before .args in
-    λ Q m. ways-past Q (a .work .now) (a .n) (l .i) _ (c .before .before .before .before .before .loop-test .taken)
-    (ways-more Q (a .work .now) (l .i) (l .all) _ (l .inv .2 Q m) (c .before .count .ensures .1 Q m)) (omega arith)
+    let f = c .before .before .before .before in
+    λ Q m. ways-past Q (a .work .now) (a .n) (l .i) _ (f .before .loop-test .taken)
+    (ways-more Q (a .work .now) (l .i) (l .all) _ (l .inv .2 Q m) (f .feature-of .ensures) (c .before .before .before .lo-of .ensures) (c .before .before .hi-of .ensures)
+    (c .before .count .ensures .1 Q m)) (omega arith)
 
 loop-again : tie.Need-loop-again Inv-loop μ-loop
 loop-again c =
     let l = c .before .before .before .before .before .before .loop in
     let a = c .before .before .before .before .before .before .before .before .before .args in
-    (omega arith, omega arith, λ Q m. ways-more Q (a .work .now) (l .i) (l .all) _ (l .inv .2 Q m) (c .before .count .ensures .1 Q m))
+    let f = c .before .before .before .before in (
+      omega arith,
+      omega arith,
+      λ Q m. ways-more Q (a .work .now) (l .i) (l .all) _ (l .inv .2 Q m) (f .feature-of .ensures) (c .before .before .before .lo-of .ensures) (c .before .before .hi-of .ensures)
+          (c .before .count .ensures .1 Q m),
+    )
 
 returns-2 : tie.Need-returns-2 Inv-loop μ-loop
 returns-2 c =
@@ -46,18 +53,10 @@ combinations-spec =
     Inv-loop
     μ-loop
     (λ c. (omega arith, omega arith, λ Q m. refl))
-    (λ c. search needs)
-    (λ c. search needs)
-    (λ c. search needs)
-    (λ c. search needs)
-    (λ c. search needs)
-    (λ c. search needs)
-    (λ c. search needs)
-    (λ c. search needs)
-    (λ c. search needs)
-    (λ c. search needs)
-    (λ c. search needs)
-    (λ c κs. full-at _ _ _ (c .before .before .before .before .before .before .before .pre .full) (c .before .before .before .loop-test .taken))
+    (λ c κs. search needs)
+    (λ c κs. search needs)
+    (λ c κs. search needs)
+    (λ c κs. let l = c .before .before .before in full-at (l .before .before .before .before .pre) (l .loop-test .taken) (c .before .lo-of .ensures) (c .hi-of .ensures))
     mul-all
     (λ c. search needs)
     returns

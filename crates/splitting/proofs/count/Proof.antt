@@ -2,9 +2,9 @@
 use borrow.Author.Needs.{needs}
 use Prim.Native.Nat.{_+_, _-_, _≤_}
 use native.Mathlib.Omega.{arith}
+use Rattle.layout.specs.Tables.{intervalOf}
 use Rattle.meaning.specs.Intervals.{NonEmpty}
 use Rattle.meaning.specs.Policy.{Policy}
-use Rattle.normal_form.specs.Steps.{intervalOf}
 use Rattle.splitting.proofs.Pieces.{Walked, walk-ends, walk-on, walk-starts}
 use Rattle.splitting.proofs.Scanning.{upper-above}
 use Rattle.splitting.proofs.count.Statement.{statement}
@@ -13,7 +13,7 @@ use Rattle.splitting.proofs.count.Tie as tie
 
 abbrev Inv-loop : tie.InvT-loop
 Inv-loop ends f lo hi c₀ x₀ c x =
-    (x ≤ hi) × (1 ≤ c) × (c + lo ≤ x + 1) × ((Q : Policy) (n : Ends Q ends) (a : NonEmpty lo hi) → Walked Q ends (intervalOf f lo hi) n a c x)
+    (x ≤ hi) × (1 ≤ c) × (c + lo ≤ x + 1) × ((Q : Policy) (n : Ends Q ends) (a : NonEmpty lo hi) → Walked Q ends (intervalOf (f .0) lo hi) n a c x)
 
 abbrev μ-loop : tie.MeasureT-loop
 μ-loop ends f lo hi c₀ x₀ c x = hi - x

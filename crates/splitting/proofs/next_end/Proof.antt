@@ -10,7 +10,7 @@ use Rattle.splitting.specs.Ends.{endsIn, least}
 use Rattle.splitting.proofs.next_end.Tie as tie
 
 abbrev Inv-loop : tie.InvT-loop
-Inv-loop ends f x hi best₀ i₀ best i = (i ≤ length ends) × (least (endsIn (drop i ends) f) x best ≡ least (endsIn ends f) x hi)
+Inv-loop ends f x hi best₀ i₀ best i = (i ≤ length ends) × (least (endsIn (drop i ends) (f .0)) x best ≡ least (endsIn ends (f .0)) x hi)
 
 abbrev μ-loop : tie.MeasureT-loop
 μ-loop ends f x hi best₀ i₀ best i = length ends - i

@@ -9,7 +9,7 @@ use Rattle.splitting.proofs.next_upper.Tie as tie
 sub-result : tie.Need-sub-result
 sub-result c =
     let s = c .before .before .before in
-    omega (arith, least-above (endsIn (s .args .ends .now) (s .args .f)) (s .args .p) (s .args .hi) (s .pre), c .before .next-end .ensures)
+    omega (arith, least-above (endsIn (s .args .ends .now) (s .args .f .0)) (s .args .p) (s .args .hi) (s .pre), c .before .next-end .ensures)
 
 pub next-upper-spec : {M : Type 1} → statement M
 next-upper-spec =

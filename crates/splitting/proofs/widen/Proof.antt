@@ -16,8 +16,8 @@ abbrev μ-loop : tie.MeasureT-loop
 
 loop-again : tie.Need-loop-again Inv-loop μ-loop
 loop-again c =
-    let l = c .before .before .before .before .before .before .before .loop in
-    (omega arith, widened-more (l .work) (l .i) _ _ (omega arith) (l .inv .1) (c .before .before .put-piece .ensures))
+    let put = c .before .before in
+    (omega arith, widened-more (put .before .before .before .before .before .before .before .loop .inv .1) (put .before .before .before .before .lo-of .ensures) (put .before .before .hi-of .ensures) (put .put-piece .ensures))
 
 returns : tie.Need-returns Inv-loop μ-loop
 returns c =
@@ -32,19 +32,11 @@ widen-spec =
     Inv-loop
     μ-loop
     (λ c. (omega arith, widened-none _))
-    (λ c. search needs)
-    (λ c. search needs)
-    (λ c. search needs)
-    (λ c. search needs)
-    (λ c. search needs)
-    (λ c. search needs)
-    (λ c. search needs)
-    (λ c. search needs)
-    (λ c. search needs)
-    (λ c. search needs)
+    (λ c κs. search needs)
+    (λ c κs. search needs)
     (λ c κs. search needs)
     (λ c. search needs)
     (λ c. search needs)
     loop-again
-    (λ c. c .before .loop .inv .1 .kept .same)
+    (λ c. c .before .loop .inv .1 .only .size)
     returns)

@@ -1,6 +1,6 @@
 -- `put_compliant`: the name and a line feed.
 use borrow.Author.Needs.{needs}
-use Rattle.text.proofs.Printing.{put-then}
+use Rattle.printing.proofs.Printing.{put-then}
 use Rattle.text.proofs.put_compliant.Statement.{statement}
 use Rattle.text.proofs.put_compliant.Tie as tie
 
@@ -14,4 +14,4 @@ put-compliant-spec =
     (λ c. search needs)
     (λ c.
     let named = c .before .before .before .before .before .before .put-name .ensures in
-    put-then named (c .before .before .put-byte .ensures) (search needs)))
+    put-then named (c .before .before .put-byte .ensures)))

@@ -3,10 +3,11 @@ use borrow.Author.Needs.{needs}
 use Prim.Native.Nat.{_*_, _+_, _-_, _≤_}
 use Rattle.meaning.specs.Lists.{flatMap}
 use Rattle.meaning.specs.Program.{factLine}
+use Rattle.printing.proofs.Printing.{put-nothing}
+use Rattle.printing.specs.Printing.{Put}
 use Rattle.text.proofs.Facts.{facts-all, facts-more}
-use Rattle.text.proofs.Printing.{put-nothing}
 use Rattle.text.proofs.put_facts.Statement.{statement}
-use Rattle.text.specs.Text.{Put, mostLine, recordsTo}
+use Rattle.text.specs.Text.{mostLine, recordsTo}
 use Rattle.text.proofs.put_facts.Tie as tie
 
 abbrev Inv-loop : tie.InvT-loop
@@ -29,7 +30,7 @@ put-facts-spec =
     (λ c. search needs)
     (λ c.
     let l = c .before .before .before .before .before .loop in
-    (search needs, search needs, facts-more (c .before .before .before .before .before .before .before .before .args .out .now) (l .k) (l .inv .2) (c .before .before .put-fact .ensures .0) (search needs)))
+    (search needs, search needs, facts-more (c .before .before .before .before .before .before .before .before .args .out .now) (l .k) (l .inv .2) (c .before .before .put-fact .ensures .0)))
     (λ c. search needs)
     (λ c.
     let start = c .before .before .before .before .args in

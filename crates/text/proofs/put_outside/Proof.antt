@@ -1,8 +1,8 @@
 -- `put_outside`: the answer's line and the records' lines.
 use borrow.Author.Needs.{needs}
 use native.Mathlib.Omega.{arith}
+use Rattle.printing.proofs.Printing.{put-as, put-then}
 use Rattle.text.proofs.Facts.{model-count, model-printed}
-use Rattle.text.proofs.Printing.{put-as, put-then}
 use Rattle.text.proofs.put_outside.Statement.{statement}
 use Rattle.text.proofs.put_outside.Tie as tie
 
@@ -17,4 +17,4 @@ put-outside-spec =
     (λ c. search needs)
     (λ c.
     put-as (model-printed _ _ (c .before .before .before .before .before .before .before .before .before .before .before .pre .1) _ _)
-    (put-then (c .before .before .before .before .before .before .put-pair .ensures .0) (c .before .before .put-facts .ensures) (search needs))))
+    (put-then (c .before .before .before .before .before .before .put-pair .ensures .0) (c .before .before .put-facts .ensures))))

@@ -1,6 +1,6 @@
 -- `put_pair`: piece by piece, as `line` has them.
 use borrow.Author.Needs.{needs}
-use Rattle.text.proofs.Printing.{put-then}
+use Rattle.printing.proofs.Printing.{put-then}
 use Rattle.text.proofs.put_pair.Statement.{statement}
 use Rattle.text.proofs.put_pair.Tie as tie
 
@@ -15,6 +15,6 @@ put-pair-spec =
     (λ c. search needs)
     (λ c.
     let named = c .before .before .before .before .before .before .before .before .before .before .before .before .before .before .put-name .ensures in
-    let first = put-then named (c .before .before .before .before .before .before .before .before .before .before .put-number .ensures .0) (search needs) in
-    let second = put-then first (c .before .before .before .before .before .before .put-number2 .ensures .0) (search needs) in
-    (put-then second (c .before .before .put-byte .ensures) (search needs), search needs)))
+    let first = put-then named (c .before .before .before .before .before .before .before .before .before .before .put-number .ensures .0) in
+    let second = put-then first (c .before .before .before .before .before .before .put-number2 .ensures .0) in
+    (put-then second (c .before .before .put-byte .ensures), search needs)))

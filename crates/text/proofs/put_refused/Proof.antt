@@ -1,6 +1,6 @@
 -- `put_refused`: the name, the number and a line feed.
 use borrow.Author.Needs.{needs}
-use Rattle.text.proofs.Printing.{put-then}
+use Rattle.printing.proofs.Printing.{put-then}
 use Rattle.text.proofs.put_refused.Statement.{statement}
 use Rattle.text.proofs.put_refused.Tie as tie
 
@@ -15,5 +15,5 @@ put-refused-spec =
     (λ c. search needs)
     (λ c.
     let named = c .before .before .before .before .before .before .before .before .before .before .put-name .ensures in
-    let first = put-then named (c .before .before .before .before .before .before .put-number .ensures .0) (search needs) in
-    put-then first (c .before .before .put-byte .ensures) (search needs)))
+    let first = put-then named (c .before .before .before .before .before .before .put-number .ensures .0) in
+    put-then first (c .before .before .put-byte .ensures)))

@@ -4,8 +4,8 @@ use mathlib.Core.Path.{_∙_, ap, subst, sym}
 use Rattle.meaning.specs.Answers.{compliant, refused, result}
 use Rattle.meaning.specs.Program.{printed}
 use Rattle.meaning.specs.declared.Verdict.{Verdict}
+use Rattle.printing.proofs.Printing.{put-as}
 use Rattle.text.proofs.Facts.{line-printed}
-use Rattle.text.proofs.Printing.{put-as}
 use Rattle.text.proofs.put_verdict.Statement.{statement}
 use Rattle.text.specs.Text.{Reported, shown}
 use Rattle.text.proofs.put_verdict.Tie as tie

@@ -1,9 +1,9 @@
 -- `first_failure`: no one takes the constraints whole; the combinations before c have passed, and the tables stand at c.
 use mathlib.Core.Path.{_∙_, refl}
-use Rattle.splitting.proofs.Callers.{kept-trans}
+use Rattle.frames.proofs.Frames.{only-then}
 use Rattle.trial.proofs.Passing.{taken}
-use Rattle.trial.proofs.Trying.{Trying, kept-triable, kept-tried, left, trying-askable, trying-below, trying-ends}
-use Rattle.trial.proofs.Trying.{trying-fails, trying-falls, trying-on, trying-splittable, trying-starts, whole-tried}
+use Rattle.trial.proofs.Trying.{Trying, kept-triable, kept-tried, left, trying-askable, trying-below, trying-ends, trying-fails}
+use Rattle.trial.proofs.Trying.{trying-falls, trying-on, trying-splittable, trying-starts, whole-tried}
 use Rattle.trial.proofs.first_failure.Statement.{statement}
 use Rattle.trial.specs.Trials.{Known}
 use Rattle.trial.proofs.first_failure.Tie as tie
@@ -17,7 +17,7 @@ abbrev μ-loop : tie.MeasureT-loop
 first-taker-requires : tie.Need-first-taker-requires Inv-loop μ-loop
 first-taker-requires c κs =
     let w = c .before .before .before in
-    kept-triable (w .before .before .before .before .before .pre) (w .widen .ensures .kept) .askable
+    kept-triable (w .before .before .before .before .before .pre) (w .widen .ensures .only) .askable
 
 returns : tie.Need-returns Inv-loop μ-loop
 returns c =
@@ -28,13 +28,13 @@ returns c =
 start-requires : tie.Need-start-requires Inv-loop μ-loop
 start-requires c κs =
     let w = c .before .before .before .before .before .before in
-    kept-triable (w .before .before .before .before .before .pre) (w .widen .ensures .kept) .splittable
+    kept-triable (w .before .before .before .before .before .pre) (w .widen .ensures .only) .splittable
 
 loop-holds : tie.Need-loop-holds Inv-loop μ-loop
 loop-holds c =
     let s = c .before .before in
     let w = s .before .before .before .before .before .before .before in
-    let k = kept-trans (w .widen .ensures .kept) (s .start .ensures .kept) in
+    let k = only-then (w .widen .ensures .only) (s .start .ensures .only) in
     (trying-starts (kept-triable (w .before .before .before .before .before .pre) k) (s .start .ensures), λ z. absurd (z refl))
 
 taker-requires : tie.Need-taker-requires Inv-loop μ-loop
@@ -42,7 +42,7 @@ taker-requires c κs =
     let l = c .before .before in
     let s = l .before .before .before in
     let w = s .before .before .before .before .before .before .before in
-    let k = kept-trans (w .widen .ensures .kept) (s .start .ensures .kept) in
+    let k = only-then (w .widen .ensures .only) (s .start .ensures .only) in
     (trying-askable (kept-triable (w .before .before .before .before .before .pre) k) (l .loop .inv .0), l .loop .inv .1)
 
 same-length-2 : tie.Need-same-length-2 Inv-loop μ-loop
@@ -50,7 +50,7 @@ same-length-2 c =
     let l = c .before .before .before .before in
     let s = l .before .before .before in
     let w = s .before .before .before .before .before .before .before in
-    l .loop .inv .0 .kept .same ∙ (s .start .ensures .kept .same ∙ w .widen .ensures .kept .same)
+    l .loop .inv .0 .only .size ∙ (s .start .ensures .only .size ∙ w .widen .ensures .only .size)
 
 returns-2 : tie.Need-returns-2 Inv-loop μ-loop
 returns-2 c =
@@ -58,7 +58,7 @@ returns-2 c =
     let s = l .before .before .before in
     let w = s .before .before .before .before .before .before .before in
     let r = w .before .before .before .before .before .pre in
-    let k = kept-trans (w .widen .ensures .kept) (s .start .ensures .kept) in
+    let k = only-then (w .widen .ensures .only) (s .start .ensures .only) in
     let n = c .before .before .before .loop-test .taken in
     kept-tried r k (trying-fails (kept-triable r k) (l .loop .inv .0) n (c .before .taker .ensures .none (c .if2 .taken)))
 
@@ -67,7 +67,7 @@ step-requires c κs =
     let l = c .before .before .before .before .before in
     let s = l .before .before .before in
     let w = s .before .before .before .before .before .before .before in
-    let k = kept-trans (w .widen .ensures .kept) (s .start .ensures .kept) in
+    let k = only-then (w .widen .ensures .only) (s .start .ensures .only) in
     let g = kept-triable (w .before .before .before .before .before .pre) k in
     (trying-splittable g (l .loop .inv .0), trying-below g (l .loop .inv .0) (c .before .before .before .before .loop-test .taken))
 
@@ -76,7 +76,7 @@ loop-less c =
     let l = c .before .before .before .before .before .before .before .before in
     let s = l .before .before .before in
     let w = s .before .before .before .before .before .before .before in
-    let k = kept-trans (w .widen .ensures .kept) (s .start .ensures .kept) in
+    let k = only-then (w .widen .ensures .only) (s .start .ensures .only) in
     let g = kept-triable (w .before .before .before .before .before .pre) k in
     let n = c .before .before .before .before .before .before .before .loop-test .taken in
     trying-falls g (l .loop .inv .0) n (c .before .before .step .ensures)
@@ -86,7 +86,7 @@ loop-again c =
     let l = c .before .before .before .before .before .before .before .before in
     let s = l .before .before .before in
     let w = s .before .before .before .before .before .before .before in
-    let k = kept-trans (w .widen .ensures .kept) (s .start .ensures .kept) in
+    let k = only-then (w .widen .ensures .only) (s .start .ensures .only) in
     let g = kept-triable (w .before .before .before .before .before .pre) k in
     let a = c .before .before .before .before .before .taker .ensures in
     let n = c .before .before .before .before .before .before .before .loop-test .taken in
@@ -97,14 +97,14 @@ same-length-3 : tie.Need-same-length-3 Inv-loop μ-loop
 same-length-3 c =
     let s = c .before .before .before .before in
     let w = s .before .before .before .before .before .before .before in
-    c .before .loop .inv .0 .kept .same ∙ (s .start .ensures .kept .same ∙ w .widen .ensures .kept .same)
+    c .before .loop .inv .0 .only .size ∙ (s .start .ensures .only .size ∙ w .widen .ensures .only .size)
 
 returns-3 : tie.Need-returns-3 Inv-loop μ-loop
 returns-3 c =
     let s = c .before .before .before .before in
     let w = s .before .before .before .before .before .before .before in
     let r = w .before .before .before .before .before .pre in
-    let k = kept-trans (w .widen .ensures .kept) (s .start .ensures .kept) in
+    let k = only-then (w .widen .ensures .only) (s .start .ensures .only) in
     kept-tried r k (trying-ends (kept-triable r k) (c .before .loop .inv .0) (c .loop-test .left))
 
 pub first-failure-spec : {M : Type 1} → statement M
@@ -115,7 +115,7 @@ first-failure-spec =
     μ-loop
     (λ c κs. c .before .before .before .before .pre .splittable)
     first-taker-requires
-    (λ c. c .before .before .before .before .before .widen .ensures .kept .same)
+    (λ c. c .before .before .before .before .before .widen .ensures .only .size)
     returns
     start-requires
     loop-holds

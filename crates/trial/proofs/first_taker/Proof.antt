@@ -4,9 +4,9 @@ use mathlib.Core.List.{List}
 use native.Mathlib.Omega.{arith}
 use borrow.Author.Needs.{needs}
 use Rattle.meaning.specs.Records.{falling, lastOf}
+use Rattle.policy.proofs.Terms.{Asking, asking-term, asking-ends, asking-falls, asking-found, asking-on, asking-starts}
 use Rattle.trial.proofs.Passing.{Rest, rest-ends, rest-found, rest-on, rest-starts, testable-term}
 use Rattle.trial.proofs.first_taker.Statement.{statement}
-use Rattle.workspace.proofs.Walk.{Asking, asking-conjuncts, asking-ends, asking-falls, asking-found, asking-on, asking-starts}
 use Rattle.trial.proofs.first_taker.Tie as tie
 
 abbrev Inv-loop : tie.InvT-loop
@@ -24,8 +24,8 @@ is-subsumed-requires : tie.Need-is-subsumed-requires Inv-loop μ-loop
 is-subsumed-requires c κs =
     let p = c .before .before .before .before .before .before .pre in
     let l = c .before .before .loop in
-    let r = asking-conjuncts (l .inv .2) (c .before .loop-test .taken) in
-    (testable-term _ _ _ (l .k) (c .child-of .ensures) p r, omega arith, p .some)
+    let r = asking-term (l .inv .2) (c .before .loop-test .taken) in
+    (testable-term _ _ _ (l .k) (c .child-of .ensures) p (r .reads) (r .shallow), omega arith, p .some)
 
 returns : tie.Need-returns Inv-loop μ-loop
 returns c =
@@ -34,7 +34,7 @@ returns c =
     let n = c .before .before .before .loop-test .taken in
     let e = c .before .before .child-of .ensures in
     let f = c .before .is-subsumed .ensures in
-    asking-found (i .2) n (λ p r. rest-found _ _ _ (l .k) e f (i .1) p r (c .if1 .taken) n (asking-conjuncts (i .2) n))
+    asking-found (i .2) n (λ p r. rest-found _ _ _ (l .k) e f (i .1) p r (c .if1 .taken) n (asking-term (i .2) n .reads) (asking-term (i .2) n .shallow))
 
 loop-less : tie.Need-loop-less Inv-loop μ-loop
 loop-less c =

@@ -9,7 +9,7 @@ is-subsumed-requires : tie.Need-is-subsumed-requires
 is-subsumed-requires c κs =
     let s = c .before .before .before .before in
     let p = s .pre in
-    (testable-term _ _ _ (s .args .last) (c .child-of .ensures) (p .0) (p .1 (c .before .if1 .taken) .reads), omega arith, p .0 .some)
+    (testable-term _ _ _ (s .args .last) (c .child-of .ensures) (p .0) (p .1 (c .before .if1 .taken) .reads) (p .1 (c .before .if1 .taken) .shallow), omega arith, p .0 .some)
 
 returns : tie.Need-returns
 returns c =

@@ -1,11 +1,11 @@
 use borrow.Author.Needs.{needs}
 use Rattle.meaning.specs.Records.{falling, lastOf}
-use Rattle.vocabulary.proofs.Laws.{Walking, walking-ends, walking-falls, walking-on, walking-starts, walking-stops}
+use Rattle.vocabulary.proofs.Laws.{ReadingAxioms, axioms-end, axioms-fall, axioms-on, axioms-start, axioms-stop}
 use Rattle.vocabulary.proofs.axioms_refusal.Statement.{statement}
 use Rattle.vocabulary.proofs.axioms_refusal.Tie as tie
 
 abbrev Inv-loop : tie.InvT-loop
-Inv-loop v k₀ k = Walking v k
+Inv-loop v k₀ k = ReadingAxioms v k
 
 abbrev μ-loop : tie.MeasureT-loop
 μ-loop v k₀ k = falling (lastOf 4 v) k
@@ -17,10 +17,10 @@ axioms-refusal-spec =
     Inv-loop
     μ-loop
     (λ c κs. search needs)
-    (λ c. search walking-starts)
+    (λ c. search axioms-start)
     (λ c κs. search needs)
-    (λ c. search walking-stops)
+    (λ c. search axioms-stop)
     (λ c κs. search needs)
-    (λ c. search walking-falls)
-    (λ c. search walking-on)
-    (λ c. search walking-ends))
+    (λ c. search axioms-fall)
+    (λ c. search axioms-on)
+    (λ c. search axioms-end))

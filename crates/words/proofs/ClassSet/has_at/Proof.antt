@@ -3,8 +3,8 @@ use borrow.Author.Needs.{needs}
 use mathlib.Core.List.{List}
 use mathlib.Core.Path.{_∙_, ap}
 use Prim.Native.Nat.{ℕ}
+use Rattle.frames.proofs.Rows.{row-part}
 use Rattle.words.proofs.ClassSet.has_at.Statement.{statement}
-use Rattle.words.proofs.Rows.{row-part}
 use Rattle.words.specs.Rows.{classWords}
 use Rattle.words.specs.Sets.{inSet}
 use Rattle.words.proofs.ClassSet.has_at.Tie as tie

@@ -1,0 +1,2 @@
+-- Laws of the names; other crates cite them.
+pub mod FunctionalNames

@@ -1,0 +1,2 @@
+-- The functional names.
+pub mod FunctionalNames

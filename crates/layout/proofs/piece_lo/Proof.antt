@@ -1,0 +1,11 @@
+use borrow.Author.Needs.{needs}
+use Rattle.layout.specs.Tables.{pieceAt}
+use Rattle.layout.proofs.piece_lo.Statement.{statement}
+use Rattle.layout.proofs.piece_lo.Tie as tie
+
+returns : tie.Need-returns
+unfolding pieceAt
+returns c = search needs
+
+pub piece-lo-spec : {M : Type 1} → statement M
+piece-lo-spec = tie.close (tie.spec (λ c. search needs) (λ c. search needs) (λ c. search needs) (λ c. search needs) (λ c. search needs) returns)

@@ -1,0 +1,2 @@
+-- Laws of the list; other crates cite them.
+pub mod Pairs

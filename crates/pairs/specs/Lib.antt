@@ -1,0 +1,2 @@
+-- The list of the pairs.
+pub mod Pairs

@@ -1,0 +1,2 @@
+-- Laws of what is prepared; other crates cite them.
+pub mod Laws

@@ -1,0 +1,2 @@
+-- What is prepared.
+pub mod Prepared

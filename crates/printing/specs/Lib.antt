@@ -1,0 +1,2 @@
+-- Printing into a slice of bytes.
+pub mod Printing

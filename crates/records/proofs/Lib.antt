@@ -1,0 +1,2 @@
+-- The way along a chain; other crates cite it.
+pub mod Chains

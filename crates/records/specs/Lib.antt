@@ -1,0 +1,2 @@
+-- Chains of records.
+pub mod Chains
