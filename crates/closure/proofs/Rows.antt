@@ -14,9 +14,10 @@ use Rattle.frames.proofs.Rows.{length-put, length-row, put-row, put-self}
 use Rattle.frames.specs.Frames.{Only, Span}
 use Rattle.frames.specs.Rows.{rowAt}
 use Rattle.layout.specs.Places.{rowPlace}
+use Rattle.meaning.proofs.Rules.{order}
 use Rattle.meaning.specs.Records.{Name}
 use Rattle.words.proofs.Growth.{sum-put, union-grows, union-same}
-use Rattle.words.proofs.Laws.{in-union, length-union, lt-or-ge}
+use Rattle.words.proofs.Laws.{in-union, length-union}
 use Rattle.words.specs.Rows.{classWords}
 use Rattle.words.specs.Sets.{inSet, unionOf, wordSum}
 
@@ -40,7 +41,7 @@ module _ (w : List ℕ) (i : ℕ) (f : Fits w i) where
 
     pub with-other : (j : ℕ) → 1 ≤ j → (i ≡ j → ⊥) → rowOf (withRow w i s) j ≡ rowOf w j
     with-other j p n =
-        ⊎-elim (λ h. row-behind with-only classWords (rowPlace j) (omega arith)) (λ h. row-before with-only classWords (rowPlace j) (omega arith)) (lt-or-ge i j)
+        ⊎-elim (λ h. row-behind with-only classWords (rowPlace j) (omega arith)) (λ h. row-before with-only classWords (rowPlace j) (omega arith)) (order i j)
 
 -- ---- rows that are filled one after another
 
@@ -103,7 +104,7 @@ module _ (w : List ℕ) (i j : ℕ) (f : Fits w i) (g : Fits w j) where
 
   pub joined-more : (unionOf (rowOf w i) (rowOf w j) ≡ rowOf w i → ⊥) → wordSum w < wordSum (joined w i j)
   joined-more n =
-      ⊎-elim (λ h. h) (λ h. absurd (n (union-same (rowOf w i) (rowOf w j) (omega (arith, sums))))) (lt-or-ge (wordSum w) (wordSum (joined w i j)))
+      ⊎-elim (λ h. h) (λ h. absurd (n (union-same (rowOf w i) (rowOf w j) (omega (arith, sums))))) (order (wordSum w) (wordSum (joined w i j)))
 
   pub joined-still : unionOf (rowOf w i) (rowOf w j) ≡ rowOf w i → joined w i j ≡ w
   unfolding joined

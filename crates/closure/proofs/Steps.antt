@@ -59,7 +59,7 @@ module _ (v w : List ℕ) (k : ℕ) {kind : ℕ} (e : kind ≡ axiomKind v k) wh
     named = head (subst (All _) states (subclass-named v (axiomAt v k) (axiom-named v k (h .0))))
 
     pub lift-fits : (1 ≤ a) × (1 ≤ b) × (a * classWords ≤ length w) × (b * classWords ≤ length w)
-    lift-fits = let n = named in let f = h .1 in (n .0 .0, n .1 .0, omega arith, omega arith)
+    lift-fits = let n = named in (n .0 .0, n .1 .0, omega arith, omega arith)
 
     module _ {u : List ℕ} (j : u ≡ joined w a b) where
       pub lift-length : length u ≡ length w
@@ -82,11 +82,11 @@ module _ (v w : List ℕ) (k : ℕ) {kind : ℕ} (e : kind ≡ axiomKind v k)
     named-range = head (subst (All _) range-states (rangePair-named v (axiomAt v k) (axiom-named v k (h .0))))
 
     pub widen-role : a ≤ mostRoles
-    widen-role = let n = named-range in let f = h .1 in omega arith
+    widen-role = let n = named-range in omega arith
 
     module _ {b : ℕ} (q : b ≡ axiomRight v k) where
       pub widen-fits : (1 ≤ roleRow a) × (1 ≤ b) × (roleRow a * classWords ≤ length w) × (b * classWords ≤ length w)
-      widen-fits = let n = named-range in let f = h .1 in (omega arith, omega arith, omega arith, omega arith)
+      widen-fits = let n = named-range in (omega arith, omega arith, omega arith, omega arith)
 
       module _ {u : List ℕ} (j : u ≡ joined w (roleRow a) b) where
         pub widen-length : length u ≡ length w

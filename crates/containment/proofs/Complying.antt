@@ -42,11 +42,11 @@ module _ {v p q w : List ℕ} {f : Functional} (r : PreparedPair v p q w f) wher
 
   -- still
   pub ready-still : {w′ : List ℕ} → Only InTables w w′ → PreparedPair v p q w′ f
-  ready-still o = let s = o .size in let l = r .full in record { prepared = prepared-kept o (r .prepared); full = omega arith; first = r .first; second = r .second }
+  ready-still o = record { prepared = prepared-kept o (r .prepared); full = omega arith; first = r .first; second = r .second }
 
 -- after `prepare`
 pub pair-ready : {v p q w w′ : List ℕ} {f : Functional} → AcceptedInput v p q → workSize ≤ length w → Only (Span 0 pairsEnd) w w′ → Prepared v w′ f → PreparedPair v p q w′ f
-pair-ready a full o g = let s = o .size in record { prepared = g; full = omega arith; first = a .firstPolicy; second = a .secondPolicy }
+pair-ready a full o g = record { prepared = g; full = omega arith; first = a .firstPolicy; second = a .secondPolicy }
 
 -- ---- 22 and the verdict
 

@@ -64,7 +64,6 @@ module _ (K : Vocabulary) (w : List ℕ) (top : ℕ) where
       let rest : 0 + left ≡ left = omega arith in
       rw (here, rest)
   over x i n (successor r m under next) left b h g =
-      let p = b .0 in
       let rows : size (successor r m under next) + left ≡ suc (size under + (size next + left)) = omega arith in
       let behind : suc n + size under + size next ≡ n + size (successor r m under next) = omega arith in
       rw (rows, le-ltb (parentAt w n) x (omega arith), ne-eqb (parentAt w n) x (λ e. omega arith))
@@ -94,7 +93,6 @@ module _ (K : Vocabulary) (w : List ℕ) (top : ℕ) where
 pub kin-edges : {K : Vocabulary} {w : List ℕ} {t : Tables} {x : ℕ} {ks : Successors} → Kin K w t x x ks → edgeFacts w (t .individuals) x ≡ edges ks x (suc x)
 unfolding edgesFrom
 kin-edges {K} {w} {t} {x} {ks} k =
-    let fits = k .fits in
     let rows : t .individuals - x ≡ size ks + (t .individuals - (x + size ks)) = omega arith in
     rw rows (own K w (t .constraints) x x ks (t .individuals - (x + size ks)) (k .below) (omega arith)
     ∙ ap (λ (F : List Fact). edges ks x (suc x) ++ F) (ended (t .individuals - (x + size ks)) refl) ∙ append-nil (edges ks x (suc x)))

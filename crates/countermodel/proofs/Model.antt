@@ -31,8 +31,6 @@ module _ (K : Vocabulary) (few : K .classes ≤ mostClasses) (bounded : Bounded 
   -- the set of an individual is among those of the vocabulary, so its members are those of the definition
   classes-are : (i : ℕ) (m : Node) → i < t .individuals → Above K (setAt w i) (m .classes) → All (Name (K .classes)) (m .classes) → members (setAt w i) ≡ classesAbove K m
   classes-are i m h a names =
-      let l = stand .long in
-      let n = stand .individuals in
       members-are (setAt w i) (λ b. any (λ c. isBelow K c b) (m .classes)) (K .classes) (omega (arith, length-row classWords w (individualPlace i + 2) (omega arith)))
       (λ d. a d ∙ bound d (any (λ c. isBelow K c d) (m .classes)) refl)
     where

@@ -87,10 +87,6 @@ module _ {last k₀ : ℕ} {F : List Fact} {o₀ : List ℕ} {k : ℕ} {o : List
       Written last k A o o′ k′ → Left last k₀ F o₀ k′ G o′
   left-more A G H o′ k′ l e room w =
       let n : length H ≡ length A + length G = ap length e ∙ length-append A G in
-      let c = l .count in
-      let s = l .long in
-      let r = room .room .long in
-      let m = room .within in
       record {
         same = rw (w .words, w .count, recorded-more last k A o (omega arith) G, ← e) (l .same);
         count = omega (arith, w .count);
@@ -100,7 +96,6 @@ module _ {last k₀ : ℕ} {F : List Fact} {o₀ : List ℕ} {k : ℕ} {o : List
   pub left-end : (G : List Fact) → Left last k₀ F o₀ k G o → G ≡ [] → Written last k₀ F o₀ o k
   left-end G l e =
       let n : length G ≡ 0 = ap length e in
-      let c = l .count in
       record {
         words = sym (recorded-none last k F o) ∙ ap (λ (H : List Fact). recorded last k H o) (sym e) ∙ l .same;
         count = omega arith;
@@ -131,7 +126,6 @@ module _ {last k₀ : ℕ} {F : List Fact} {o₀ : List ℕ} {k : ℕ} {G : List
   pub turn-room : (k ≤ last) × Room last o
   turn-room =
       let n = ap length e in
-      let c = l .count in
       (omega (arith, room .within), room-same (l .long) (room .room))
 
   pub turn-less : length H < length G
@@ -140,7 +134,6 @@ module _ {last k₀ : ℕ} {F : List Fact} {o₀ : List ℕ} {k : ℕ} {G : List
   pub turn-more : (o′ : List ℕ) → o′ ≡ putAt o (5 * k) (factWords x (linkAt last k)) → Left last k₀ F o₀ (k + 1) H o′
   turn-more o′ q =
       let r = turn-room in
-      let s = r .1 .long in
       left-more (x ∷ []) H G o′ (k + 1) l e room (one-written last k x o o′ (omega arith) q)
 
 -- ---- header and records

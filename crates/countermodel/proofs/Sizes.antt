@@ -85,8 +85,6 @@ module _ (w : List ℕ) (t : Tables) where
   module _ (stand : Standing w t) where
     pub row-most : (i : ℕ) → length (factsAt w t i) ≤ 1280
     row-most i =
-        let a = stand .individuals in
-        let b = stand .constraints in
         omega (arith, row-length i, members-length w i, members-most w i, values-most w (t .constraints) (i + 1), edges-most w (t .individuals) (i + 1))
 
     facts-most : (left i : ℕ) → length (factsFrom w t left i) ≤ 1280 * left
@@ -95,7 +93,7 @@ module _ (w : List ℕ) (t : Tables) where
     facts-most (suc left) i = simp length-append (omega (arith, row-most i, facts-most left (suc i)))
 
     pub records-most : recordCount w t ≤ 655360
-    records-most = let a = stand .individuals in omega (arith, facts-most (t .individuals) 0)
+    records-most = omega (arith, facts-most (t .individuals) 0)
 
 -- ---- row by row
 

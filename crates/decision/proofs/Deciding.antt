@@ -281,8 +281,6 @@ term-bounded v c h = chain-bounded (classCount v) (roleCount v) (featureCount v)
 module _ {c : Chain} {f : Functional} {Q : Policy} {w w′ w″ : List ℕ} {t : Tables} {r : ℕ} (d : Tabulated c f w w′ t) (g : Failed Q w′ w″ t r) where
   pub term-standing : Standing w″ t
   term-standing =
-      let l = d .standing .long in
-      let y = g .only .size in
       record { long = omega arith; individuals = d .standing .individuals; constraints = d .standing .constraints }
 
   pub term-only : Only InTables w w″

@@ -69,7 +69,7 @@ module _ (v p q : List ℕ) (w o : ℕ) (a : Comparable v p q w o) where
   answered r =
       told-long (vocabularyOf v) 1 (decide (vocabularyOf v) (policyOf p) (policyOf q)) _ _ (a .long) (λ l.
       told-long (vocabularyOf v) 2 (decide (vocabularyOf v) (policyOf q) (policyOf p)) (says equal) _ l
-      (λ u x. let e = x .1 in absurd (let z : _≡_ {A = ℕ} 0 1 = cc in omega arith)))
+      (λ u x. absurd (let z : _≡_ {A = ℕ} 0 1 = cc in omega arith)))
       (rw (a .within .accepted, le-ltb w workSize (a .within .full), a .within .few, a .within .fewer) at r)
 
 pub equality-answers : {v p q w w′ o o′ : List ℕ} {r : Comparison} → EqualityPost v p q w w′ o o′ r → Comparable v p q (length w) (length o) → Compares r
@@ -87,7 +87,7 @@ equal-or-differs {r = comparison.Differs side s k n} c t = inr (record {
   fits = let f = differs-output c refl in omega (arith, f .fits, f .size);
   one-or-two = ⊎-elim (λ h. inl (h .0)) (λ h. inr (h .0)) (c .right .0);
   first = λ e. ⊎-elim (λ h. h .1) (λ h. absurd (let z = h .0 in omega arith)) (c .right .0);
-  second = λ e. ⊎-elim (λ h. absurd (let z = h .0 in omega arith)) (λ h. h .1) (c .right .0);
+  second = λ e. ⊎-elim (λ h. absurd (omega arith)) (λ h. h .1) (c .right .0);
 })
 equal-or-differs {r = comparison.Refused n} c t = absurd (t (n, refl))
 

@@ -70,7 +70,7 @@ module _ (K : Vocabulary) (o o′ : List ℕ) where
   -- else what follows does not matter
   module _ (rest : Outcome ComparisonResult) where
     pub forth-outside : {s c n : ℕ} (d : Decision) → Delivers (told outside d (says compliant)) o o′ (verdict.Outside s c n) → Compares (told (differs 1) d rest) o o′ (comparison.Differs 1 s c n)
-    forth-outside contained x = let a = x .answer in absurd (let z : _≡_ {A = ℕ} 0 1 = cc in omega arith)
+    forth-outside contained x = absurd (let z : _≡_ {A = ℕ} 0 1 = cc in omega arith)
     forth-outside {s} {c} {n} (escapes i q u) x = go (leb (length (countermodel K u)) (length o)) (x .answer) (x .output)
       where
         go : (b : Bool) → result (outside s c n) ≡ cond b (record { answer = result (outside i q (length (countermodel K u))); words = countermodel K u }) (refuses 23) .answer →
@@ -80,7 +80,7 @@ module _ (K : Vocabulary) (o o′ : List ℕ) where
         go false e f = absurd (let z : _≡_ {A = ℕ} 0 1 = cc in omega arith)
 
     pub forth-refused : {n : ℕ} (d : Decision) → Delivers (told outside d (says compliant)) o o′ (verdict.Refused n) → Compares (told (differs 1) d rest) o o′ (comparison.Refused n)
-    forth-refused contained x = let a = x .answer in absurd (let z : _≡_ {A = ℕ} 0 1 = cc in omega arith)
+    forth-refused contained x = absurd (let z : _≡_ {A = ℕ} 0 1 = cc in omega arith)
     forth-refused {n} (escapes i q u) x = go (leb (length (countermodel K u)) (length o)) (x .answer) (x .output)
       where
         go : (b : Bool) → refused n ≡ cond b (record { answer = result (outside i q (length (countermodel K u))); words = countermodel K u }) (refuses 23) .answer →

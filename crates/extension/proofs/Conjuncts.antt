@@ -115,7 +115,7 @@ module _ {p : List ℕ} {k : ℕ} (z : k ≡ 0 → ⊥) (c : Charted p k) where
   child-onward = child-is (Onward (lastOf 6 p) k) p k (inl refl) (λ e. cut-here .here .child)
 
   bounded : (j : ℕ) → Onward (lastOf 6 p) k j → (j ≤ mostRecords) × (j ≡ k → ⊥)
-  bounded j o = let h = onward-le (lastOf 6 p) k j o in let f = c .few in (omega arith, apart o)
+  bounded j o = let h = onward-le (lastOf 6 p) k j o in (omega arith, apart o)
     where
       apart : Onward (lastOf 6 p) k j → j ≡ k → ⊥
       apart (inl e) d = z (sym d ∙ e)
@@ -123,7 +123,7 @@ module _ {p : List ℕ} {k : ℕ} (z : k ≡ 0 → ⊥) (c : Charted p k) where
 
   pub linked-at : Linked p k
   linked-at = record {
-    conjunct = let h = cut-here .here .inside in let f = c .few in (h .0, omega arith);
+    conjunct = let h = cut-here .here .inside in (h .0, omega arith);
     child = bounded (childAt p k) child-onward;
     next = bounded (nextOf p k) (cut-here .here .next);
   }

@@ -61,4 +61,4 @@ module _ {m : List ℕ} {f : ℕ} (s : Stated m f) where
 
 -- a role's child has a set
 pub child-inside : {p m w : List ℕ} {k kind child : ℕ} → Placed p m w k → kind ≡ kindOf p k → kind ≡ 3 → child ≡ childOf p k → child ≤ mostRecords
-child-inside {p} {k = k} q ek e ec = let h = q .linked .child .0 in let d : childAt p k ≡ childOf p k = rw (← ek, e) in omega arith
+child-inside {p} {k = k} q ek e ec = let d : childAt p k ≡ childOf p k = rw (← ek, e) in omega arith

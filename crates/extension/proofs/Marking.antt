@@ -11,6 +11,7 @@ use Rattle.extension.proofs.Sets.{kept-in, kept-only, set-kept}
 use Rattle.extension.specs.Sets.{Fillable, Linked, Marked, Vacant, inClass, kept, markedMember, markedShown, shown, shows}
 use Rattle.frames.proofs.Frames.{only-none}
 use Rattle.frames.specs.Frames.{Only, Span}
+use Rattle.meaning.proofs.Counting.{in-counting}
 use Rattle.meaning.proofs.Refusals.{cond-all}
 use Rattle.meaning.proofs.Rules.{T-and, and-T, any-at, any-in, any-out, at-any, same-test}
 use Rattle.meaning.specs.Limits.{mostIndividuals, workSize}
@@ -22,7 +23,6 @@ use Rattle.model.specs.Chain.{Readable, Stated}
 use Rattle.satisfaction.proofs.Facts.{owner-at}
 use Rattle.satisfaction.specs.Classes.{ownerOf}
 use Rattle.satisfaction.specs.Places.{classesOf, setOf, setPlace}
-use Rattle.words.proofs.Lists.{in-counting}
 use Rattle.words.specs.Sets.{inSet}
 
 -- ---- put in or not, by the test b
@@ -101,8 +101,6 @@ module _ (p m : List ℕ) (k : ℕ) where
   pub showing-on : {w₀ w w′ : List ℕ} {f : ℕ} → Readable m → Linked p k → workSize ≤ length w → Stated m f → w′ ≡ markedShown p m k w f →
       (l : List Fact) → Showing w₀ w (factAt m f ∷ l) → Showing w₀ w′ l
   showing-on {w₀} {f = f} r n long s e l t =
-      let o = s .owner in
-      let i = r .individuals in
       subst (λ (y : List ℕ). Showing w₀ y l) (sym e)
       (one-marked n long (factAt m f) (omega (arith, owner-at s)) t)
 
@@ -125,6 +123,5 @@ module _ (p m : List ℕ) (k : ℕ) where
   pub telling-on : {w₀ w w′ : List ℕ} {i : ℕ} → Linked p k → Fillable m w → Name (individualCount m) i → w′ ≡ markedMember p k w i →
       (l : List ℕ) → Telling w₀ w (i ∷ l) → Telling w₀ w′ l
   telling-on {w₀} {w} {i = i} n r h e l t =
-      let c = r .interpreted .readable .individuals in
       subst (λ (y : List ℕ). Telling w₀ y l) (sym (e ∙ rw (r .interpreted .classed .rows i (nameOf p k) h)))
       (one-marked n (r .interpreted .long) i (omega arith) t)

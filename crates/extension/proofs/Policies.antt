@@ -64,7 +64,7 @@ module _ {p m w : List ℕ} {k : ℕ} where
         seeking-charted = record { reads = rw e (asking-term (x .asking) n .reads); few = x .few }
 
         pub seeking-inside : j ≤ mostRecords
-        seeking-inside = let s = x .few in let r = reads-inside (seeking-charted .reads) in omega arith
+        seeking-inside = let r = reads-inside (seeking-charted .reads) in omega arith
 
         module _ {w′ : List ℕ} (f : Filled p m j w w′) where
           pub seeking-ready : Fillable m w′

@@ -39,7 +39,7 @@ module _ {p m w w₁ : List ℕ} {k at : ℕ} (r : Fillable m w) (q : Placed p m
   settle-vacant = none-in individualWords w₁ (setPlace k) (λ i a b. e .zeros i (omega arith) (omega arith))
 
   told : Cut p m k (conjunctsAt p k)
-  told = cut m (λ z. let n = q .linked .conjunct in omega arith) (c .reads)
+  told = cut m (λ z. omega arith) (c .reads)
 
   -- by the kind of the record
   module _ {kind : ℕ} (ek : kind ≡ kindOf p k) where

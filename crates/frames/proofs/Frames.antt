@@ -62,16 +62,6 @@ module _ {from to : ℕ} {w w′ : List ℕ} (o : Only (Span from to) w w′) wh
   pub row-behind : (n at : ℕ) → to ≤ at → rowAt n w′ at ≡ rowAt n w at
   row-behind n at h = row-same n w w′ at (o .size) (λ i f g. only-behind i (omega arith))
 
--- from what is known of the words before and behind
-pub span-only : {from to : ℕ} {w w′ : List ℕ} → length w′ ≡ length w → ((i : ℕ) → i < from → getD w′ i 0 ≡ getD w i 0) →
-    ((i : ℕ) → to ≤ i → getD w′ i 0 ≡ getD w i 0) → Only (Span from to) w w′
-span-only {from} {to} {w} {w′} e before behind = record { size = e; others = λ i h. go i h (order i from) (order i to) }
-  where
-    go : (i : ℕ) → (Span from to i → ⊥) → (i < from) ⊎ (from ≤ i) → (i < to) ⊎ (to ≤ i) → getD w′ i 0 ≡ getD w i 0
-    go i h (inl a) b = before i a
-    go i h (inr a) (inl b) = absurd (h (record { low = a; high = b }))
-    go i h (inr a) (inr b) = behind i b
-
 -- ---- words put in the place of others
 
 put-word : (w : List ℕ) (at : ℕ) (vs : List ℕ) → at + length vs ≤ length w → (i : ℕ) → (i < at) ⊎ (at + length vs ≤ i) → getD (putAt w at vs) i 0 ≡ getD w i 0

@@ -1,9 +1,9 @@
 -- Sets in a longer row of words: a part of a slice, what was put there, and what stands beside it. Assumes nothing.
-use Prim.Native.Nat.{_+_, _-_, _≤_, suc, zero, ℕ}
+use Prim.Native.Nat.{_+_, _-_, _≤_, ℕ}
 use lib.ListN.{drop, length, length-append, length-drop, length-take, take, take-append-drop}
 use lib.Seq.{drop-append-add, drop-at, drop-drop, length-take-le, take-append-le, take-at, take-take}
-use mathlib.Core.List.{List, [], _++_, _∷_, append-assoc}
-use mathlib.Core.Path.{_∙_, _≡_, ap, refl, sym}
+use mathlib.Core.List.{List, [], _++_, append-assoc}
+use mathlib.Core.Path.{_∙_, _≡_, ap, sym}
 use native.Mathlib.Nat.{add-zero}
 use native.Mathlib.Omega.{arith}
 use Rattle.frames.specs.Rows.{putAt, rowAt}
@@ -20,16 +20,6 @@ back : (xs ys : List ℕ) (i : ℕ) → length xs ≤ i → drop i (xs ++ ys) �
 back xs ys i l =
     let past : i ≡ length xs + (i - length xs) = omega arith in
     ap (λ (k : ℕ). drop k (xs ++ ys)) past ∙ drop-append-add xs ys (i - length xs)
-
--- a row within what two lists begin with
-pub row-front : (n : ℕ) (ws vs : List ℕ) (at e : ℕ) → at + n ≤ e → take e ws ≡ take e vs → rowAt n ws at ≡ rowAt n vs at
-row-front n ws vs at e h same = sym (part at e ws h) ∙ ap (λ (l : List ℕ). rowAt n l at) same ∙ part at e vs h
-  where
-    part : (at e : ℕ) (l : List ℕ) → at + n ≤ e → rowAt n (take e l) at ≡ rowAt n l at
-    part zero e l h = take-take n e l (omega arith)
-    part (suc i) zero l h = absurd (omega arith)
-    part (suc i) (suc e) [] h = refl
-    part (suc i) (suc e) (x ∷ l) h = part i e l (omega arith)
 
 module _ (ws : List ℕ) (at : ℕ) (vs : List ℕ) (h : at + length vs ≤ length ws) where
   pub length-put : length (putAt ws at vs) ≡ length ws
@@ -66,12 +56,6 @@ module _ (ws : List ℕ) (at : ℕ) (vs : List ℕ) (h : at + length vs ≤ leng
       ap (take (at + length vs)) (sym (append-assoc (take at ws) vs rest)) ∙ take-at (take at ws ++ vs) rest (at + length vs) first in
       let all : at + length vs + length us ≡ at + length (vs ++ us) = simp length-append (omega arith) in
       rw (front, put-drop (at + length vs + length us) (omega arith), all) (simp append-assoc)
-
-  pub put-before : (n i : ℕ) → i + n ≤ at → rowAt n (putAt ws at vs) i ≡ rowAt n ws i
-  put-before n i l = row-front n (putAt ws at vs) ws i (i + n) (omega arith) (put-take (i + n) l)
-
-  pub put-after : (n i : ℕ) → at + length vs ≤ i → rowAt n (putAt ws at vs) i ≡ rowAt n ws i
-  put-after n i l = ap (take n) (put-drop i l)
 
 -- no words put
 pub put-nil : (ws : List ℕ) (at : ℕ) → putAt ws at [] ≡ ws

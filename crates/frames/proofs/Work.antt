@@ -55,7 +55,6 @@ cleared-more {at} {n} {w} {w′} l e = record {
   where
     go : (i : ℕ) → at ≤ i → i < at + (n + 1) → (b : Bool) → eqb i (at + n) ≡ b → getD (set w′ (at + n) 0) i 0 ≡ 0
     go i f g true d =
-        let s = e .only .size in
         ap (λ (j : ℕ). getD (set w′ (at + n) 0) j 0) (eqb-true i (at + n) d) ∙ getD-set-same w′ (at + n) 0 0 (omega arith)
     go i f g false d = let z = eqb-false i (at + n) d in getD-set-other w′ (at + n) i 0 0 z ∙ e .zeros i f (omega arith)
 
@@ -87,7 +86,6 @@ zeroed-words n w w′ h e z f = ext-getD 0 w′ (zeros ++ drop n w) sizes (λ i 
 pub cleared-all : {w w₁ w₂ : List ℕ} → Only (Span 0 workSize) w w₁ → Cleared 0 workSize w₁ w₂ → w₂ ≡ zeroed workSize w
 cleared-all {w} {w₁} {w₂} o c =
     let s = o .size in
-    let l = c .fits in
     zeroed-words workSize w w₂ (omega arith) (c .only .size ∙ s) (λ i h. c .zeros i (omega arith) (omega arith))
     (λ i h. only-behind (c .only) i (omega arith) ∙ only-behind o i h)
 

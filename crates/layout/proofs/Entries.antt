@@ -177,8 +177,6 @@ held-in t = sym (length-map (heldIn t) (λ h. h .constraint)) ∙ ap length (hel
 pub tabled-kept : (K : Vocabulary) (t : Form) (w w′ : List ℕ) (r : Tables) → (r .individuals ≤ mostRecords) × (r .constraints ≤ mostRecords) → length w′ ≡ length w →
     Same w w′ individualsAt constraintsAt → ((m : ℕ) → m < mostRecords → Same w w′ (constraintPlace m) (constraintPlace m + 4)) → Tabled K t w r → Tabled K t w′ r
 tabled-kept K t w w′ r most same f g s =
-    let a = s .count in
-    let b = s .top in
     let c = held-in t in
     record {
       count = s .count;

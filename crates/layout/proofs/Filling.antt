@@ -194,9 +194,7 @@ combined K t w r s =
     let a = intervals-split w 0 (heldBy 1 (t .node .constraints)) (heldBelow (t .successors) 2) (s .held) in
     let b = held-length 1 (t .node .constraints) in
     let c = length-append (t .node .constraints) (constraintsBelow (t .successors)) in
-    let d = s .top in
     let n = size-filled (pieceAt w) (t .successors) (length (t .node .constraints)) in
-    let e = s .count in
     let u : ConstraintsStand w (length (t .node .constraints)) (heldBelow (t .successors) 2) = subst (λ (i : ℕ). ConstraintsStand w i (heldBelow (t .successors) 2)) (omega arith) (a .1) in
     record {
       count = omega arith;

@@ -70,11 +70,11 @@ module _ {K : Vocabulary} {w : List ℕ} {t : Tables} {x j : ℕ} where
     where
       go : (j < t .individuals) ⊎ (t .individuals ≤ j) → nextSuccessor w x (t .individuals - j) j ≡ t .individuals
       go (inl h) = let z : j + 0 ≡ j = omega arith in next-behind w x (t .individuals) j h (subst (λ (i : ℕ). parentAt w i < x) z (k .ends (omega arith)))
-      go (inr h) = let f = k .fits in let e : j ≡ t .individuals = omega arith in next-ends w x (t .individuals) j h ∙ e
+      go (inr h) = let e : j ≡ t .individuals = omega arith in next-ends w x (t .individuals) j h ∙ e
 
   module _ {r : ℕ} {m : Node} {under next : Successors} (k : Kin K w t x j (successor r m under next)) where
     pub kin-first : nextSuccessor w x (t .individuals - j) j ≡ j
-    kin-first = let f = k .fits in next-here w x (t .individuals) j (omega arith) (k .below .0)
+    kin-first = next-here w x (t .individuals) j (omega arith) (k .below .0)
 
     pub kin-role : roleAt w j ≡ r
     kin-role = k .below .1
@@ -83,12 +83,11 @@ module _ {K : Vocabulary} {w : List ℕ} {t : Tables} {x j : ℕ} where
     kin-individual = k .below .2
 
     pub kin-inside : j < t .individuals
-    kin-inside = let f = k .fits in omega arith
+    kin-inside = omega arith
 
     -- what follows: the next successors, from after those below this one
     pub kin-rest : Kin K w t x (suc j + size under) next
     kin-rest =
-        let f = k .fits in
         let e : j + size (successor r m under next) ≡ suc j + size under + size next = omega arith in
         record {
           below = k .below .4;
@@ -99,7 +98,7 @@ module _ {K : Vocabulary} {w : List ℕ} {t : Tables} {x j : ℕ} where
     module _ (own : x ≤ j) where
       pub kin-child : Kin K w t (suc j) (suc j) under
       kin-child =
-          let f = k .fits in record {
+          record {
             below = k .below .3;
             fits = omega arith;
             ends = λ h. go next (kin-rest .below) (kin-rest .ends) h;
@@ -110,10 +109,9 @@ module _ {K : Vocabulary} {w : List ℕ} {t : Tables} {x j : ℕ} where
               suc j + size under < t .individuals → parentAt w (suc j + size under) < suc j
           go none b e h = let z : suc j + size under + 0 ≡ suc j + size under = omega arith in
               let l = subst (λ (i : ℕ). parentAt w i < x) z (e (omega arith)) in omega arith
-          go (successor q n un ks) b e h = let l = b .0 in omega arith
+          go (successor q n un ks) b e h = omega arith
 
       pub kin-next : nextSuccessor w x (t .individuals - (j + 1)) (j + 1) ≡ nextSuccessor w x (t .individuals - (suc j + size under)) (suc j + size under)
       kin-next =
-          let f = k .fits in
           next-over K w (t .constraints) x (t .individuals) (suc j + size under) (j + 1) (omega arith) (omega arith)
           (λ i p q. let l = parents K w (t .constraints) under (suc j) (suc j) (omega arith) (k .below .3) i (omega arith) q in omega arith)

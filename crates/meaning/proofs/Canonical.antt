@@ -1,11 +1,12 @@
 -- Lemma 1: the canonical model of a combination satisfies the vocabulary, and individual 1 is in the normal form that was split.
-use Prim.Native.Nat.{_+_, _<_, _≤_, suc, zero, ℕ}
+use Prim.Native.Nat.{_+_, _≤_, suc, ℕ}
 use mathlib.Core.List.{List, [], _∷_, map}
 use mathlib.Core.Logic.{_⊎_, inl, inr}
 use mathlib.Core.Path.{_∙_, _≡_, subst, sym}
 use lib.Dec.{T}
 use native.Mathlib.Omega.{arith}
 use Rattle.meaning.proofs.Closure.{below-bounded, below-refl, below-subclass, below-trans}
+use Rattle.meaning.proofs.Counting.{in-counting}
 use Rattle.meaning.proofs.Forms.{Has, HoldsForm, HoldsNode, HoldsSuccessors}
 use Rattle.meaning.proofs.Intervals.{inside-within, value-within}
 use Rattle.meaning.proofs.Pairs.{pairs-out}
@@ -13,12 +14,12 @@ use Rattle.meaning.proofs.Picks.{Parts, Picked, PickedForm, PickedNode,
 use Rattle.meaning.proofs.Picks.{picked}
 use Rattle.meaning.proofs.Places.{Child, Place, True, places, root}
 use Rattle.meaning.proofs.Rules.{all-any, all-append, all-at, all-filter, all-fst, all-map, all-mono, all-of, all-snd}
-use Rattle.meaning.proofs.Rules.{any-cases, any-in, any-none, any-out, at-any, head, in-filter, map-all, order, tail}
+use Rattle.meaning.proofs.Rules.{any-cases, any-in, any-none, any-out, at-any, head, in-filter, map-all, tail}
 use Rattle.meaning.proofs.Stated.{stated-all}
 use Rattle.meaning.specs.Countermodel.{canonicalModel, classesAbove, edges, individuals, pairs, recordsBelow, recordsOf, size}
 use Rattle.meaning.specs.Interpretation.{Proper, Satisfies}
 use Rattle.meaning.specs.Intervals.{Constraint, valueOf}
-use Rattle.meaning.specs.Lists.{All, Any, _∈_, any, cons, counting, here, nil, there}
+use Rattle.meaning.specs.Lists.{All, Any, _∈_, any, cons, counting, nil}
 use Rattle.meaning.specs.Model.{Fact, edge, member, stands, value}
 use Rattle.meaning.specs.Normal.{Bounded, Distinct, Fresh, NormalSuccessors}
 use Rattle.meaning.specs.NormalForm.{Form, Node, Successors, none, successor}
@@ -27,14 +28,6 @@ use Rattle.meaning.specs.Promises.{inhabited}
 use Rattle.meaning.specs.Records.{Name}
 use Rattle.meaning.specs.Stated.{isBelow, isFunctionalFeature, isFunctionalRole, ranges, subclass}
 use Rattle.meaning.specs.Vocabulary.{Vocabulary}
-
-in-counting : (n from b : ℕ) → from ≤ b → b < from + n → b ∈ counting from n
-in-counting zero from b a c = absurd (omega arith)
-in-counting (suc n) from b a c = go (in-counting n (suc from) b) (order from b)
-  where
-    go : (suc from ≤ b → b < suc from + n → b ∈ counting (suc from) n) → (from < b) ⊎ (b ≤ from) → b ∈ counting from (suc n)
-    go f (inl d) = there (f d (omega arith))
-    go f (inr d) = here {x = from} (omega arith)
 
 -- the individuals are 1 to n
 abbrev Numbered : ℕ → Fact → Type 0
@@ -86,7 +79,7 @@ module _ (K : Vocabulary) (w : Bounded K) (F : List Fact) where
       all-of (n .classes) (λ c m b t.
       let d = below-bounded K w c b (all-at s m) t in
       all-at (map-all (λ a. member a i) (classesAbove K n) (all-fst (map (λ a. member a i) (classesAbove K n)) _ h))
-      (in-filter (λ a. any (λ e. isBelow K e a) (n .classes)) (in-counting (K .classes) 1 b (d .0) (omega arith)) (any-in (λ e. isBelow K e b) (at-any m t))))
+      (in-filter (λ a. any (λ e. isBelow K e a) (n .classes)) (in-counting 1 (K .classes) b (d .0) (omega arith)) (any-in (λ e. isBelow K e b) (at-any m t))))
 
   pub node-values : (n : Node) (under : Successors) (i : ℕ) → There (recordsOf K n under i) → All (λ s. value (s .feature) i (valueOf s) ∈ F) (n .constraints)
   node-values n under i h =

@@ -1,11 +1,13 @@
--- The numbers from one on: two runs of them, what a function makes of them, and a loop over them that stops where a test fails.
+-- The numbers from one on: two runs of them, which are among them, what a function makes of them, and a loop over them that stops where a test fails.
 use Prim.Native.Nat.{_+_, _-_, _<_, _≤_, suc, zero, ℕ}
 use mathlib.Core.Bool.{Bool, _&&_, false, true}
 use mathlib.Core.List.{List, [], _++_, _∷_, map}
+use mathlib.Core.Logic.{_⊎_, inl, inr}
 use mathlib.Core.Path.{_∙_, _≡_, ap, ap₂, refl, sym}
 use native.Mathlib.Numerals.{add-one}
 use native.Mathlib.Omega.{arith}
-use Rattle.meaning.specs.Lists.{all, counting}
+use Rattle.meaning.proofs.Rules.{order}
+use Rattle.meaning.specs.Lists.{_∈_, all, counting, here, there}
 
 pub counting-append : (k m n : ℕ) → counting k (m + n) ≡ counting k m ++ counting (k + m) n
 counting-append k zero n = rw (zero-add n) (ap (λ (i : ℕ). counting i n) (omega arith))
@@ -16,6 +18,14 @@ counting-append k (suc m) n =
     let e : suc m + n ≡ suc (m + n) = omega arith in
     let d : suc k + m ≡ k + suc m = omega arith in
     rw e (ap (λ (l : List ℕ). k ∷ l) (counting-append (suc k) m n ∙ ap (λ (i : ℕ). counting (suc k) m ++ counting i n) d))
+
+pub in-counting : (k n z : ℕ) → k ≤ z → z < k + n → z ∈ counting k n
+in-counting k zero z l h = absurd (omega arith)
+in-counting k (suc n) z l h = go (in-counting (suc k) n z) (order k z)
+  where
+    go : (suc k ≤ z → z < suc k + n → z ∈ counting (suc k) n) → (k < z) ⊎ (z ≤ k) → z ∈ counting k (suc n)
+    go f (inl d) = there (f d (omega arith))
+    go f (inr d) = here {x = k} (omega arith)
 
 -- one more, after the others
 pub counted-more : {A : Type 0} (f : ℕ → A) (n : ℕ) → map f (counting 0 (n + 1)) ≡ map f (counting 0 n) ++ (f n ∷ [])

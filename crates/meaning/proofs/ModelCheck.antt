@@ -1,13 +1,13 @@
 -- The model check says what is true of the interpretation that the facts stand for: who is in a term, and what is obeyed.
 use Prim.Native.Nat.{ℕ}
-use mathlib.Core.Bool.{Bool, _&&_, _||_, false, not, true}
+use mathlib.Core.Bool.{Bool, _&&_, _||_, not}
 use mathlib.Core.List.{List}
 use mathlib.Core.Logic.{_↔_}
 use mathlib.Core.Path.{_≡_, ap₂, refl, subst, sym}
 use lib.Dec.{T, T-not, eqb, eqb-refl, eqb→eq, not-T}
 use Rattle.meaning.proofs.Intervals.{isWithin-iff}
 use Rattle.meaning.proofs.Rules.{T-and, all-at, all-in, all-mono, all-of, all-out, and-T, any-at, any-in, any-mono, any-out}
-use Rattle.meaning.proofs.Rules.{eqb-of}
+use Rattle.meaning.proofs.Rules.{eqb-of, imp-in, imp-out}
 use Rattle.meaning.specs.Interpretation.{Holds, In, Obeys, Satisfies}
 use Rattle.meaning.specs.Intervals.{Within, isWithin}
 use Rattle.meaning.specs.Lists.{_∈_, all, any}
@@ -79,14 +79,6 @@ holds-in n F (some r child next) i h =
 holds-in n F (interval f lo hi next) i h =
     let v = h .0 in
     and-T (any (hasWithin f i lo hi) F) _ (any-in (hasWithin f i lo hi) (any-mono (λ x m. is-value f i lo hi (v .0) (v .2) x m) (v .1))) (holds-in n F next i (h .1))
-
-imp-out : (a b : Bool) → T (not a || b) → T a → T b
-imp-out true b t u = t
-imp-out false b t u = absurd u
-
-imp-in : (a b : Bool) → (T a → T b) → T (not a || b)
-imp-in true b f = f tt
-imp-in false b f = tt
 
 module _ (F : List Fact) where
   -- a fact of one kind and name has k

@@ -62,6 +62,14 @@ same-test true false f g = absurd (f tt)
 same-test false true f g = absurd (g tt)
 same-test false false f g = refl
 
+pub imp-out : (a b : Bool) → T (not a || b) → T a → T b
+imp-out true b t u = t
+imp-out false b t u = absurd u
+
+pub imp-in : (a b : Bool) → (T a → T b) → T (not a || b)
+imp-in true b f = f tt
+imp-in false b f = tt
+
 pub order : (a b : ℕ) → (a < b) ⊎ (b ≤ a)
 order a b = go (leb b a) (λ t. leb→le b a t) (λ t. nleb→lt b a t)
   where

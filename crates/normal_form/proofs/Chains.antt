@@ -233,7 +233,7 @@ module _ (p : List ℕ) (x j e m : ℕ) {fc fd : List ℕ → List ℕ} {rs qs :
     top = λ l h q. t .top (fs l) (s .top l h q) (s .constraints l h q);
     constraints = λ l h q. t .constraints (fs l) (s .top l h q) (s .constraints l h q);
     few = let u = s .few in let v = t .few in omega arith;
-    first = let u = s .first in let v = t .first in omega arith;
+    first = let u = s .first in omega arith;
     bottom = t .bottom ∙ ap (λ (y : Bool). y || b) (s .bottom) ∙ or-assoc (g .impossible) a b ∙ ap (λ (y : Bool). g .impossible || y) (sym ec);
     only = only-then (s .only) (only-wider (fresh-in (λ i z. inl z) (let u = s .pending in omega arith) (omega arith) (omega arith)) (t .only));
   }
@@ -242,7 +242,7 @@ module _ (p : List ℕ) (x j e m : ℕ) {fc fd : List ℕ → List ℕ} {rs qs :
       words =
           words-eq w″ {b = g .pending} refl (length-append rs qs) ∙ words-append w″ (g .pending) (length rs) (length qs)
           ∙ ap (λ (l : List ℕ). l ++ wordsAt w″ (g .pending + length rs) (length qs))
-          (words-kept w′ w″ (g .pending) (length rs) (λ i h f. word-same (t .only) i (inr (omega arith)) (let u = s .pending in omega arith)))
+          (words-kept w′ w″ (g .pending) (length rs) (λ i h f. word-same (t .only) i (inr (omega arith)) (omega arith)))
           ∙ ap (λ (l : List ℕ). wordsAt w′ (g .pending) (length rs) ++ l) (words-eq w″ {n = length qs} (sym (s .pending)) refl)
 
 -- as an addition that keeps less
@@ -272,7 +272,7 @@ module _ (one : ℕ → Bool) (p : List ℕ) (x m k : ℕ) (w : List ℕ) (g : D
 
   module _ {kind a : ℕ} (ek : kind ≡ kindOf p k) (ea : a ≡ nameOf p k) where
     pub class-place : kind ≡ 1 → (1 ≤ a) × (a * classWords ≤ length w)
-    class-place i = let n = cut-here .named (sym ek ∙ i) in let l = d .long in (omega arith, omega arith)
+    class-place i = let n = cut-here .named (sym ek ∙ i) in (omega arith, omega arith)
 
     pub conj-class : kind ≡ 1 → (g′ : Draft) (ws : List ℕ) → ws ≡ rowOf w a →
         ((b : ℕ) → inSet (g′ .classes .words) b ≡ inSet (g .classes .words) b || inSet ws b) →
@@ -288,7 +288,6 @@ module _ (one : ℕ → Bool) (p : List ℕ) (x m k : ℕ) (w : List ℕ) (g : D
     pub role-room : kind ≡ 3 → g .pending < individualsAt
     role-room i =
         let u = cut-here .arms in
-        let v = d .pending in
         let e : length (roles (headAt p k)) ≡ 1 = ap (λ (y : Chain). length (roles y)) (head-some p k (sym ek ∙ i)) in
         omega arith
 
@@ -305,7 +304,6 @@ module _ (one : ℕ → Bool) (p : List ℕ) (x m k : ℕ) (w : List ℕ) (g : D
       pub interval-room : g .constraints < mostRecords
       interval-room =
           let u = cut-here .constraints in
-          let v = d .constraints in
           let e : intervalCount (headAt p k) ≡ 1 = ap (λ (y : Chain). intervalCount y) (head-interval p k is-interval) in
           omega arith
 
@@ -314,7 +312,7 @@ module _ (one : ℕ → Bool) (p : List ℕ) (x m k : ℕ) (w : List ℕ) (g : D
           Adding one p x m (headAt p k) w w′ g g′
       conj-interval {t} {lo} {hi} et el eh g′ w′ u hc hp hb =
           headed (head-interval p k is-interval)
-          (add-interval p x m w g g′ w′ (d .low) (one (nameOf p k)) (nameOf p k) (loOf p k) (hiOf p k) (let b = d .pending in omega arith) told hc hp hb)
+          (add-interval p x m w g g′ w′ (d .low) (one (nameOf p k)) (nameOf p k) (loOf p k) (hiOf p k) (omega arith) told hc hp hb)
         where
           told : Placed (one (nameOf p k)) x m (g .constraints) (nameOf p k) (loOf p k) (hiOf p k) w w′ (g′ .constraints)
           told = rw (← ea, ← el, ← eh, ← et) u
@@ -338,17 +336,6 @@ module _ (one : ℕ → Bool) (p : List ℕ) (x m k : ℕ) (w : List ℕ) (g : D
       where
         go : Cut p k (chainAt p k) → HasRoomFor w′ m g′ (chainAt p (nextOf p k))
         go u =
-            let a = u .arms in
-            let b = u .constraints in
-            let h = s .pending in
-            let i = s .few in
-            let j = s .first in
-            let n = s .only .size in
-            let d1 = d .long in
-            let d2 = d .low in
-            let d3 = d .pending in
-            let d4 = d .first in
-            let d5 = d .constraints in
             record { long = omega arith; low = omega arith; pending = omega arith; first = omega arith; constraints = omega arith }
 
     pub chain-step : {w″ : List ℕ} {g″ : Draft} → Adding one p x m (chainAt p y) w′ w″ g′ g″ → Adding one p x m (chainAt p k) w w″ g g″

@@ -96,7 +96,7 @@ module _ (one two : ℕ → Bool) (p : List ℕ) (x r j stop m : ℕ) (w : List 
 
     module _ (ne : j ≡ stop → ⊥) where
       pub less : j < stop
-      less = let a = can .0 in omega arith
+      less = omega arith
 
       -- struck out already
       module _ (z : getD w j 0 ≡ 0) where
@@ -104,7 +104,7 @@ module _ (one two : ℕ → Bool) (p : List ℕ) (x r j stop m : ℕ) (w : List 
         skip-can = (
           let a = less in omega arith,
           can .1,
-          let a = can .2 in omega arith,
+          omega arith,
           sure-tail p w j stop less (can .3),
           rw (rest-zero p w j stop less z) at (can .4),
         )
@@ -119,7 +119,7 @@ module _ (one two : ℕ → Bool) (p : List ℕ) (x r j stop m : ℕ) (w : List 
         )
           where
             zero′ : getD w′ j 0 ≡ 0
-            zero′ = word-same (s .0 .only) j (inl (omega arith)) (let a = less in let b = can .1 in omega arith) ∙ z
+            zero′ = word-same (s .0 .only) j (inl (omega arith)) (let a = less in omega arith) ∙ z
 
       module _ {k : ℕ} (ek : k ≡ getD w j 0) (nk : k ≡ 0 → ⊥) where
         pub entry : Entry p k
@@ -141,7 +141,7 @@ module _ (one two : ℕ → Bool) (p : List ℕ) (x r j stop m : ℕ) (w : List 
               let b = room .constraints in (
                 let a = less in omega arith,
                 can .1,
-                let a = can .2 in omega arith,
+                omega arith,
                 sure-tail p w j stop less (can .3),
                 record { long = room .long; low = room .low; pending = omega arith; first = room .first; constraints = omega arith },
               )
@@ -156,7 +156,7 @@ module _ (one two : ℕ → Bool) (p : List ℕ) (x r j stop m : ℕ) (w : List 
           )
             where
               ek′ : k ≡ getD w′ j 0
-              ek′ = ek ∙ sym (word-same (s .0 .only) j (inl (omega arith)) (let a = less in let b = can .1 in omega arith))
+              ek′ = ek ∙ sym (word-same (s .0 .only) j (inl (omega arith)) (let a = less in omega arith))
 
               passed : picks one p w r j stop ≡ picks one p w r (j + 1) stop
               passed = ap (filter (joins one r)) rest ∙ rw no
@@ -170,15 +170,13 @@ module _ (one two : ℕ → Bool) (p : List ℕ) (x r j stop m : ℕ) (w : List 
           u-only = rw eu (only-set j 0 (record { low = omega arith; high = omega arith }) only-none)
 
           u-tables : Only InTables w u
-          u-tables = let t = less in let q = can .1 in let n = can .2 in let r = room .pending in only-span u-only (omega arith) (omega arith)
+          u-tables = let t = less in only-span u-only (omega arith) (omega arith)
 
           pub take-chain : Good p y × HasRoomFor u m g (chainAt p y)
           take-chain =
               let e = length-append (roles (chainAt p (childOf p k))) (rolesAll (restAt p w (j + 1) stop)) in
               let z = u-only .size in
-              let a = room .pending in
-              let b = room .constraints in
-              let l = room .long in
+              let a = room in
               rw ey (entry .good, record { long = omega arith; low = room .low; pending = omega arith; first = room .first; constraints = omega arith })
 
           -- v is the words after its chain, h what it has given
@@ -193,7 +191,6 @@ module _ (one two : ℕ → Bool) (p : List ℕ) (x r j stop m : ℕ) (w : List 
             v-zero =
                 let o = less in
                 let q = end-low in
-                let t = room .pending in
                 let l = room .long in
                 word-same (c .only) j (inr (omega arith)) (omega arith) ∙ ap (λ (l : List ℕ). getD l j 0) eu ∙ getD-set-same w j 0 0 (omega arith)
 
@@ -207,18 +204,11 @@ module _ (one two : ℕ → Bool) (p : List ℕ) (x r j stop m : ℕ) (w : List 
             take-can =
                 let e = length-append (roles (chainAt p (childOf p k))) (rolesAll (restAt p w (j + 1) stop)) in
                 let z = u-only .size in
-                let a = room .pending in
-                let b = room .constraints in
+                let a = room in
                 let l = room .long in
-                let o = room .low in
-                let i = room .first in
-                let c1 = c′ .pending in
-                let c2 = c′ .few in
-                let c3 = c′ .first in
-                let c4 = c′ .only .size in
+                let c1 = c′ in
                 let q = end-low in
-                let t = less in
-                let n = can .2 in (
+                let t = less in (
                   omega arith,
                   omega arith,
                   omega arith,
@@ -246,7 +236,6 @@ module _ (one two : ℕ → Bool) (p : List ℕ) (x r j stop m : ℕ) (w : List 
               only =
                   let t = less in
                   let q = end-low in
-                  let n = can .2 in
                   let r = room .pending in
                   only-then
                   (only-wider (λ i z. struck (record { low = omega (arith, z .low); high = omega (arith, z .high) }) (record { low = z .low; high = omega (arith, z .high) })) u-only)
@@ -255,7 +244,7 @@ module _ (one two : ℕ → Bool) (p : List ℕ) (x r j stop m : ℕ) (w : List 
               where
                 onto-u : (l : List Constraint) → ConstraintsStand w m (heldBy x l) → ConstraintsStand u m (heldBy x l)
                 onto-u l s =
-                    let t = less in let q = end-low in let r = room .pending in constraints-kept w u m (heldBy x l) (λ i a b. only-behind u-only i (omega arith)) s
+                    let t = less in let q = end-low in constraints-kept w u m (heldBy x l) (λ i a b. only-behind u-only i (omega arith)) s
 
             module _ {w′ : List ℕ} {g′ : Draft} (s : Done (j + 1) v w′ h g′) where
               taken : picks one p w r j stop ≡ armAt p k ∷ picks one p w r (j + 1) stop
@@ -268,7 +257,6 @@ module _ (one two : ℕ → Bool) (p : List ℕ) (x r j stop m : ℕ) (w : List 
               zero′ =
                   let a = less in
                   let b = end-low in
-                  let c1 = c′ .pending in
                   word-same (s .0 .only) j (inl (omega arith)) (omega arith) ∙ v-zero
 
               gone : filter (parts one r) (restAt p w (j + 1) stop) ≡ filter (parts one r) (armAt p k ∷ restAt p w (j + 1) stop)

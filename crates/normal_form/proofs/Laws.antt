@@ -251,7 +251,6 @@ module _ {one : Bool} {x first top f lo hi : ℕ} {w₀ : List ℕ} where
 
     pub placing-last : {w′ : List ℕ} → top ≤ i → ConstraintPut top x f lo hi w w′ → Placed one x first top f lo hi w₀ w′ (top + 1)
     placing-last {w′} h u =
-        let a = s .high in
         let e : i ≡ top = omega arith in
         s .placed w′ (top + 1) (placed-last one x i top f lo hi w w′ small e (subst (λ (k : ℕ). ConstraintPut k x f lo hi w w′) (sym e) u))
 
@@ -263,7 +262,7 @@ module _ {one : Bool} {x first top f lo hi : ℕ} {w₀ : List ℕ} where
 
       pub placing-on : t ≡ false → Placing one x first top f lo hi w₀ w (i + 1)
       placing-on z = record {
-        low = let a = s .low in omega arith;
+        low = omega arith;
         high = omega arith;
         same = s .same;
         placed = λ w′ r p. s .placed w′ r (placed-on one x i top f lo hi w w′ small less eg et z p);

@@ -84,7 +84,7 @@ module _ (one two : ℕ → Bool) (p w : List ℕ) (j stop n m k : ℕ) (less : 
   }
 
   pub number : n < mostRecords
-  number = let s = sums .long in let a = room .rows in omega arith
+  number = let s = sums .long in omega arith
 
   pub role-small : nameOf p k ≤ mostRoles
   role-small = entry-in .role
@@ -92,12 +92,7 @@ module _ (one two : ℕ → Bool) (p w : List ℕ) (j stop n m k : ℕ) (less : 
   module _ {start : Draft} (sp : start .pending ≡ stop) (ss : start .constraints ≡ m) {y : ℕ} (ey : y ≡ childOf p k) where
     pub own-ready : Good p y × HasRoomFor w m start (chainAt p y)
     own-ready =
-        let s1 = sums .heavy in
-        let s2 = sums .all in
-        let s3 = sums .split in
-        let a = room .pending in
-        let b = room .constraints in
-        let l = room .low in
+        let s1 = sums in
         rw ey (entry-in .good, record { long = room .long; low = omega arith; pending = omega arith; first = omega arith; constraints = omega arith })
 
     module _ {x : ℕ} {w1 : List ℕ} {mine : Draft} (c : Adding two p x m (chainAt p y) w w1 start mine) where
@@ -112,17 +107,9 @@ module _ (one two : ℕ → Bool) (p w : List ℕ) (j stop n m k : ℕ) (less : 
 
       pub gather-can : (j + 1 ≤ stop) × (stop ≤ mine .pending) × (pendingAt ≤ j + 1) × Sure p (wordsAt w1 (j + 1) (stop - (j + 1))) × HasRoomForAll w1 m mine (restAt p w1 (j + 1) stop)
       gather-can =
-          let s1 = sums .heavy in
-          let s2 = sums .all in
-          let s3 = sums .split in
-          let a = room .pending in
-          let b = room .constraints in
-          let d = room .long in
+          let s1 = sums in
           let l = room .low in
-          let e = c′ .pending in
-          let f = c′ .few in
-          let h = c′ .first in
-          let i = c′ .only .size in (
+          let e = c′ in (
             omega arith,
             omega arith,
             omega arith,
@@ -144,17 +131,12 @@ module _ (one two : ℕ → Bool) (p w : List ℕ) (j stop n m k : ℕ) (less : 
             (subst (λ (l : List Arm). Gathering two p x (j + 1) stop m (filter (joins one (nameOf p k)) l) w1 w2 mine g) same-rest (q .0))
 
         pub row-long : tablesEnd ≤ length w2
-        row-long = let a = total .only .size in let b = room .long in omega arith
+        row-long = omega arith
 
         pub noded : {i : ℕ} {w3 : List ℕ} {b : Bool} → x ≡ n + 1 → start .classes .words ≡ startOf (front w) r → start .impossible ≡ b →
             IndividualPut n i r (g .classes .words) w2 w3 → Noded two p every others (nameOf p k) j stop i n m b w w3 g
         noded {i} {w3} {b} ex ec eb u =
-            let s1 = sums .heavy in
-            let s2 = sums .both in
-            let s3 = sums .whole in
-            let s4 = sums .cut-heavy in
-            let a = room .pending in
-            let d = room .constraints in
+            let s1 = sums in
             let l = room .low in
             let num = number in
             let none-yet : start .constraints ≡ m + 0 = omega arith in
@@ -208,7 +190,7 @@ module _ (f : Functional) (p w : List ℕ) (j stop i : ℕ) (t : Tables) (room :
 
   module _ (ne : j ≡ stop → ⊥) where
     pub less : j < stop
-    less = let a = room .order in omega arith
+    less = omega arith
 
     -- struck out
     module _ (z : getD w j 0 ≡ 0) where
@@ -219,11 +201,7 @@ module _ (f : Functional) (p w : List ℕ) (j stop i : ℕ) (t : Tables) (room :
       skip-room =
           let e : weigh (restAt p w j stop) ≡ weigh (restAt p w (j + 1) stop) = ap weigh gone in
           let h : length (restAt p w j stop) ≡ length (restAt p w (j + 1) stop) = ap length gone in
-          let a = room .pending in
-          let b = room .rows in
-          let c = room .constraints in
           let d = less in
-          let l = room .low in
           record {
             long = room .long;
             low = omega arith;
@@ -266,7 +244,7 @@ module _ (f : Functional) (p w : List ℕ) (j stop i : ℕ) (t : Tables) (room :
 
       module _ {w1 : List ℕ} {g : Draft} (nd : Noded two p ev ot (nameOf p k) j stop i (t .individuals) (t .constraints) (t .impossible) w w1 g) where
         wide : g .pending - stop ≡ length (rolesAll ev)
-        wide = let a = nd .pending in omega arith
+        wide = omega arith
 
         new-words : wordsAt w1 stop (g .pending - stop) ≡ wordsAt w1 stop (length (rolesAll ev))
         new-words = words-eq w1 {b = stop} refl wide
@@ -278,19 +256,7 @@ module _ (f : Functional) (p w : List ℕ) (j stop i : ℕ) (t : Tables) (room :
         child-room =
             let e : weigh (restAt p w1 stop (g .pending)) ≡ weigh (rolesAll ev) = ap weigh new-rest in
             let h : length (restAt p w1 stop (g .pending)) ≡ length (rolesAll ev) = ap length new-rest in
-            let s1 = S .long in
-            let s2 = S .heavy in
-            let s3 = S .both in
-            let s4 = S .whole in
-            let s5 = S .cut-heavy in
-            let a = nd .pending in
-            let b = nd .few in
-            let c = nd .only .size in
-            let r1 = room .pending in
-            let r2 = room .rows in
-            let r3 = room .constraints in
-            let r4 = room .long in
-            let r5 = room .low in
+            let s1 = S in
             let l = less in
             record {
               long = omega arith;
@@ -305,10 +271,7 @@ module _ (f : Functional) (p w : List ℕ) (j stop i : ℕ) (t : Tables) (room :
         pub child-falls : {n : ℕ} → undone p w j stop ≡ n → undone p w1 stop (g .pending) < n
         child-falls q =
             let e : weigh (restAt p w1 stop (g .pending)) ≡ weigh (rolesAll ev) = ap weigh new-rest in
-            let s2 = S .heavy in
-            let s3 = S .both in
-            let s4 = S .whole in
-            let s5 = S .cut-heavy in
+            let s2 = S in
             let a = wide in
             let d = less in
             omega arith
@@ -336,23 +299,7 @@ module _ (f : Functional) (p w : List ℕ) (j stop i : ℕ) (t : Tables) (room :
 
           pub next-room : Room p w2 (j + 1) stop (u .individuals) (u .constraints)
           next-room =
-              let s1 = S .long in
-              let s2 = S .heavy in
-              let s3 = S .both in
-              let s4 = S .whole in
-              let s5 = S .cut-heavy in
-              let s6 = S .cut-long in
-              let a = nd .pending in
-              let b = nd .few in
-              let c = nd .only .size in
-              let d = ch .only .size in
-              let h = ch .few in
-              let o = ch .fewer in
-              let r1 = room .pending in
-              let r2 = room .rows in
-              let r3 = room .constraints in
-              let r4 = room .long in
-              let r5 = room .low in
+              let s1 = S in
               let l = less in
               let n1 = e1 in
               let n2 = e2 in
@@ -373,8 +320,7 @@ module _ (f : Functional) (p w : List ℕ) (j stop i : ℕ) (t : Tables) (room :
 
           pub next-falls : {n : ℕ} → undone p w j stop ≡ n → undone p w2 (j + 1) stop < n
           next-falls q =
-              let s2 = S .heavy in
-              let s5 = S .cut-heavy in
+              let s2 = S in
               let d = less in
               let n3 = e3 in
               omega arith
@@ -435,7 +381,7 @@ module _ (f : Functional) (p w : List ℕ) (j stop i : ℕ) (t : Tables) (room :
 
               mid : u .constraints ≡ t .constraints + length (me .constraints) + length (constraintsBelow under)
               unfolding me
-              mid = let a = below .top in let b = nd .top in omega arith
+              mid = let a = below .top in omega arith
 
               me-held : ConstraintsStand w1 (t .constraints) (heldBy (t .individuals + 1) (me .constraints))
               unfolding me
@@ -471,9 +417,8 @@ module _ (f : Functional) (p w : List ℕ) (j stop i : ℕ) (t : Tables) (room :
               together : Grown K (successor (nameOf p k) me under next) i (t .individuals) (t .constraints) w3 u3
               together =
                   let a1 = then in
-                  let a2 = behind .count in
+                  let a2 = behind in
                   let a3 = mid in
-                  let a4 = behind .top in
                   let a5 = length-append (me .constraints) (constraintsBelow under ++ constraintsBelow next) in
                   let a6 = length-append (constraintsBelow under) (constraintsBelow next) in
                   record { count = omega arith; top = omega arith; rows = rows-all; held = held-all }
@@ -498,20 +443,7 @@ module _ (f : Functional) (p w : List ℕ) (j stop i : ℕ) (t : Tables) (room :
 
             pub node-built : Built f (restAt p w j stop) j i (t .individuals) (t .constraints) (t .impossible) w w3 u3
             node-built =
-                let s1 = S .long in
-                let s2 = S .heavy in
-                let s3 = S .both in
-                let s4 = S .whole in
-                let s5 = S .cut-heavy in
-                let s6 = S .cut-long in
-                let b1 = ch .few in
-                let b2 = nx .few in
-                let b3 = ch .fewer in
-                let b4 = nx .fewer in
-                let b5 = nd .few in
-                let b6 = ch .more in
-                let b7 = nx .more in
-                let b8 = nd .top in
+                let s1 = S in
                 let n1 = e1 in
                 let n2 = e2 in
                 let n3 = e3 in
@@ -524,8 +456,6 @@ module _ (f : Functional) (p w : List ℕ) (j stop i : ℕ) (t : Tables) (room :
                   bottom = bars-all;
                   only =
                       let l = less in
-                      let r1 = room .pending in
-                      let d1 = nd .pending in
                       only-then (nd .only) (only-then
                       (only-wider (none-struck (omega arith) (omega arith) (omega arith)) (ch .only))
                       (only-wider (none-struck (omega arith) (omega arith) (omega arith)) (nx .only)));
@@ -535,7 +465,7 @@ module _ (f : Functional) (p w : List ℕ) (j stop i : ℕ) (t : Tables) (room :
 
 module _ (p w : List ℕ) (s : ℕ) (fit : Fit p w s) where
   first : getD (set w pendingAt s) pendingAt 0 ≡ s
-  first = getD-set-same w pendingAt s 0 (let a = fit .long in omega arith)
+  first = getD-set-same w pendingAt s 0 (omega arith)
 
   term : chainAt p (childOf p s) ≡ termAt p s
   unfolding chainAt
@@ -553,7 +483,6 @@ module _ (p w : List ℕ) (s : ℕ) (fit : Fit p w s) where
       let d : count (chainAt p (childOf p s)) ≡ count (termAt p s) = ap count term in
       let a = fit .few in
       let b = length-set w pendingAt s in
-      let c = fit .long in
       record {
         long = omega arith;
         low = omega arith;
@@ -565,7 +494,7 @@ module _ (p w : List ℕ) (s : ℕ) (fit : Fit p w s) where
       }
     where
       entry : Entry p s
-      entry = record { role = let a = fit .nameless in omega arith; good = record { reads = rw term (fit .reads); named = rw term (fit .named) } }
+      entry = record { role = omega arith; good = record { reads = rw term (fit .reads); named = rw term (fit .named) } }
 
   pub normalised : (f : Functional) {w′ : List ℕ} {u : Tables} →
       Built f (restAt p (set w pendingAt s) pendingAt (pendingAt + 1)) pendingAt 0 0 0 false (set w pendingAt s) w′ u → Normalised f (termAt p s) w w′ u
@@ -573,9 +502,7 @@ module _ (p w : List ℕ) (s : ℕ) (fit : Fit p w s) where
     tabled = tabled;
     bottom = b .bottom ∙ or-false (hasBottom (chainAt p (childOf p s))) ∙ ap hasBottom term;
     most =
-        let c1 = b .few in
-        let c2 = b .fewer in
-        let c3 = fit .few in
+        let c1 = b in
         let c4 : count (chainAt p (childOf p s)) ≡ count (termAt p s) = ap count term in
         (omega arith, omega arith);
     only = only-then root (in-tables (b .only));
@@ -596,9 +523,7 @@ module _ (p w : List ℕ) (s : ℕ) (fit : Fit p w s) where
           let t = normalForm K (termAt p s) in
           let g : Grown K (successor 0 (t .node) (t .successors) none) 0 0 0 w′ u =
           subst (λ (y : Successors). Grown K y 0 0 0 w′ u) (ap (λ (a : Arm). successorsOf K (a ∷ [])) arm ∙ successors-root K (termAt p s) (unranged q))
-          (b .grown v (prepared-kept root q) (cons (let a = fit .nameless in omega arith, rw term n) nil)) in
-          let c1 = g .count in
-          let c2 = g .top in
+          (b .grown v (prepared-kept root q) (cons (omega arith, rw term n) nil)) in
           let c6 = length-append (t .node .constraints) (constraintsBelow (t .successors) ++ []) in
           let c7 = length-append (constraintsBelow (t .successors)) [] in
           let c8 = length-append (t .node .constraints) (constraintsBelow (t .successors)) in

@@ -141,7 +141,7 @@ module _ (v w : List ℕ) (r : vocabularyRefusal v ≡ 0) (fits : pairsEnd ≤ l
     unfolding disjointPairs
     listing-ends z = record {
       only = only-then (only-set pairsAt 0 (record { low = omega arith; high = omega arith }) only-none) (h .only);
-      listed = record { few = let m = h .room in omega arith; rows = folding-ends (h .walk) z ∙ gathered-all [] (vocabularyOf v .axioms) };
+      listed = record { few = omega arith; rows = folding-ends (h .walk) z ∙ gathered-all [] (vocabularyOf v .axioms) };
     }
 
     module _ (n : k ≡ 0 → ⊥) where

@@ -25,11 +25,11 @@ module _ (v w : List ℕ) (a : vocabularyRefusal v ≡ 0) (full : workSize ≤ l
 
   module _ (w₁ : List ℕ) (c : Closed v w w₁) where
     pub roles-fit : roleRow (roleCount v) * classWords ≤ length w₁
-    roles-fit = let n = accepted-counts v a in let s = c .only .size in omega arith
+    roles-fit = let n = accepted-counts v a in omega arith
 
     module _ (w₂ : List ℕ) (r : Ranged v w₁ w₂) where
       pub pairs-fit : pairsEnd ≤ length w₂
-      pairs-fit = let s = c .only .size in let t = r .only .size in omega arith
+      pairs-fit = omega arith
 
       module _ (w₃ : List ℕ) (l : Listed v w₂ w₃) where
         pub prepared-only : Only (Span 0 pairsEnd) w w₃

@@ -32,7 +32,7 @@ Roomy (edge r i j) = Unit {0}
 Roomy (value f i v) = Unit {0}
 
 roomy : {m : List ℕ} {k : ℕ} → Readable m → Stated m k → Roomy (factAt m k)
-roomy r s = by-kind s Roomy (λ e. let o = s .owner in let n = r .individuals in (s .class e, (o .0, omega arith))) (λ _. tt) (λ _. tt)
+roomy r s = by-kind s Roomy (λ e. let o = s .owner in (s .class e, (o .0, omega arith))) (λ _. tt) (λ _. tt)
 
 -- with the facts l left, what the sets hold and what these put in is what all put in
 pub record Entering (m w₀ w : List ℕ) (l : List Fact) : Type 0 where
@@ -42,13 +42,11 @@ pub record Entering (m w₀ w : List ℕ) (l : List Fact) : Type 0 where
 
 module _ {m w w₁ : List ℕ} (c : Cleared 0 classesEnd w w₁) where
   pub entering-starts : Readable m → workSize ≤ length w → Entering m w₁ w₁ (factsOf m)
-  entering-starts r h =
-      let s = c .only .size in
-      let few = r .individuals .1 in record {
-        long = omega arith;
-        only = only-none;
-        left = λ i a n. rw (none-in classWords w₁ (classPlace i) (λ j p q. c .zeros j (omega arith) (omega arith)) a);
-      }
+  entering-starts r h = record {
+    long = omega arith;
+    only = only-none;
+    left = λ i a n. rw (none-in classWords w₁ (classPlace i) (λ j p q. c .zeros j (omega arith) (omega arith)) a);
+  }
 
   pub entering-ends : {w₂ : List ℕ} → Entering m w₁ w₂ [] → AllEntered m w w₂
   entering-ends {w₂} t = record {
@@ -66,11 +64,10 @@ module _ {m w₀ w : List ℕ} {l : List Fact} where
   }
     where
       fits : classPlace o + classWords ≤ length w
-      fits = let z = f .1 in let h = t .long in omega arith
+      fits = omega arith
 
       other : (i : ℕ) → 1 ≤ i → (i ≡ o → ⊥) → classesOf (entered w (member c o)) i ≡ classesOf w i
       other i l d =
-          let z = f .1 in
           let p = put-only classWords w (classPlace o) c fits in
           ⊎-elim (λ q. row-before p classWords (classPlace i) (omega arith)) (λ q. row-behind p classWords (classPlace i) (omega arith)) (order i o)
 
@@ -94,19 +91,16 @@ entering-on {m} {w₀} {k = k} r s e l t = subst (λ (x : List ℕ). Entering m 
 -- ---- what keeps them
 
 pub entered-all : {m w w′ : List ℕ} → workSize ≤ length w → Readable m → AllEntered m w w′ → Interpreted m w′
-entered-all h r c = let s = c .only .size in record { long = omega arith; readable = r; classed = c .classed }
+entered-all h r c = record { long = omega arith; readable = r; classed = c .classed }
 
 module _ {m w w′ : List ℕ} where
   -- they stand in front of what is changed
   pub interpreted-kept : {from to : ℕ} → classesEnd ≤ from → Only (Span from to) w w′ → Interpreted m w → Interpreted m w′
-  interpreted-kept l o c =
-      let s = o .size in
-      let h = c .long in
-      let few = c .readable .individuals .1 in record {
-        long = omega arith;
-        readable = c .readable;
-        classed = record { rows = λ i a n. ap (λ (x : List ℕ). inSet x a) (row-before o classWords (classPlace i) (omega arith)) ∙ c .classed .rows i a n };
-      }
+  interpreted-kept l o c = record {
+    long = omega arith;
+    readable = c .readable;
+    classed = record { rows = λ i a n. ap (λ (x : List ℕ). inSet x a) (row-before o classWords (classPlace i) (omega arith)) ∙ c .classed .rows i a n };
+  }
 
   pub satisfied : {v w₀ : List ℕ} {b : Bool} → AllEntered m w₀ w → Interpreted m w → b ≡ isModel (factsOf m) (vocabularyOf v) → Only (Span valuesAt valuesEnd) w w′ →
       Satisfied v m w₀ w′ b

@@ -29,7 +29,6 @@ module _ {m : List ℕ} {k : ℕ} (s : Stated m k) where
   by-kind P f g h =
       split P (eqb (factKind m k) 1) (λ a. f (eqb-true (factKind m k) 1 a)) (λ a.
       split P (eqb (factKind m k) 2) (λ b. g (eqb-true (factKind m k) 2 b)) (λ b.
-      let i = s .kind in
       let x = eqb-false (factKind m k) 1 a in
       let y = eqb-false (factKind m k) 2 b in h (omega arith)))
 
@@ -59,7 +58,7 @@ module _ {m : List ℕ} {k : ℕ} (s : Stated m k) where
 
     module _ {w : List ℕ} {j : ℕ} (i : Interpreted m w) (e : kind ≡ 2) (ej : j ≡ factOther m k) where
       pub target-named : Name mostIndividuals j × (workSize ≤ length w)
-      target-named = let t = s .target (sym ek ∙ e) in let n = i .readable .individuals in (omega arith, i .long)
+      target-named = let t = s .target (sym ek ∙ e) in (omega arith, i .long)
 
       pub ranged : (r c : ℕ) {a : ℕ} {b : Bool} → a ≡ factName m k → a ≡ r → b ≡ inSet (classesOf w j) c → b ≡ isRanged (factsOf m) r c (factAt m k)
       ranged r c {a} {b} ea d h =

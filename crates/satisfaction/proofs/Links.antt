@@ -164,7 +164,7 @@ module _ {says : Fact → Link} {F : List Fact} {w₀ w w′ : List ℕ} {x : Fa
 
   pub noting-on : not b ≡ false → Noting says F w₀ w′ l
   noting-on n = record {
-    long = let h = t .long in let s = t .only .size in omega (arith, noting-only .size);
+    long = omega (arith, noting-only .size);
     only = noting-only;
     holding = subst (λ (y : List ℕ). Holding says F y l) (sym (c .words)) (one-noted (t .holding) (says x) refl (t .long) (sym (c .told) ∙ not-false b n));
   }

@@ -1,6 +1,6 @@
 -- Laws of what a vocabulary states: tests of one after another, and what the facts obey.
 use Prim.Native.Nat.{_+_, _-_, _<_, _≤_, suc, zero, ℕ}
-use mathlib.Core.Bool.{Bool, _||_, cond, false, not, true}
+use mathlib.Core.Bool.{Bool, cond, false, not, true}
 use mathlib.Core.List.{List, [], _∷_}
 use mathlib.Core.Logic.{_↔_}
 use mathlib.Core.Path.{_∙_, _≡_, refl, sym}
@@ -9,7 +9,8 @@ use native.Mathlib.Numerals.{add-one}
 use native.Mathlib.Omega.{arith}
 use borrow.Author.Tests.{ne-eqb, not-false, not-true}
 use Rattle.meaning.proofs.ModelCheck.{is-member, member-is, obeys-iff}
-use Rattle.meaning.proofs.Rules.{all-at, all-in, all-out, any-in, any-mono, any-out, same-test}
+use Rattle.meaning.proofs.Counting.{in-counting}
+use Rattle.meaning.proofs.Rules.{all-at, all-in, all-out, any-in, any-mono, any-out, imp-in, imp-out, same-test}
 use Rattle.meaning.specs.Lists.{All, _∈_, all, any, cons, counting, nil}
 use Rattle.meaning.specs.Model.{Fact, factsOf, individualCount, member}
 use Rattle.meaning.specs.ModelCheck.{isMember, isModel, obeys}
@@ -22,7 +23,6 @@ use Rattle.satisfaction.proofs.Facts.{owners-named}
 use Rattle.satisfaction.specs.Classes.{Classed, follows}
 use Rattle.satisfaction.specs.Places.{classesOf}
 use Rattle.vocabulary.proofs.Chain.{axiomLinks, axioms-along}
-use Rattle.words.proofs.Lists.{in-counting}
 use Rattle.words.specs.Sets.{inSet}
 
 -- ---- one after another
@@ -60,14 +60,6 @@ module _ {T : List ℕ → Type 0} {n : ℕ} where
       counting-on f = record { bound = omega arith; holds = f (counting (i + 1 + 1) (n - (i + 1))) next }
 
 -- ---- two classes
-
-imp-out : (s t : Bool) → T (not s || t) → T s → T t
-imp-out true t h k = h
-imp-out false t h k = absurd k
-
-imp-in : (s t : Bool) → (T s → T t) → T (not s || t)
-imp-in true t f = f tt
-imp-in false t f = tt
 
 counted : {P : ℕ → Type 0} (k n : ℕ) → ((i : ℕ) → k ≤ i → i < k + n → P i) → All P (counting k n)
 counted k zero f = nil

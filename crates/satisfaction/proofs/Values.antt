@@ -50,9 +50,7 @@ noting-starts {m} r kind a h c = record {
     named : (i j : ℕ) → Gives (linkOf kind a) i j (factsOf m) → Name mostIndividuals i
     named i j g =
         let x = all-any (owners-named r) g in
-        let n = x .1 in
         let e = link-owner kind a i j (x .0) (x .2) in
-        let k = r .individuals in
         omega arith
 
 -- ---- the facts of a role, and of a feature

@@ -32,7 +32,7 @@ pub use Rattle.splitting.proofs.Whole.{widened-form}
 -- ---- before: a policy that the reader accepts
 
 pub collectable : {v q e : List ℕ} → Accepted v q → endWords ≤ length e → Collectable q e
-collectable a h = let b = a .few in let c = a .small in record { reads = a .reads; few = omega arith; room = h }
+collectable a h = record { reads = a .reads; few = omega arith; room = h }
 
 -- ---- none of the constraints is empty
 
@@ -76,4 +76,4 @@ module _ {K : Vocabulary} {F : Form} {w : List ℕ} {t : Tables} (s : Tabled K F
       (λ m c i a b. k .others i (λ p. omega (arith, p .span .low, p .span .high))) s
 
 pub splittable-kept : {m n : ℕ} {w w′ : List ℕ} → Only (Pieces m) w w′ → Splittable w n → Splittable w′ n
-splittable-kept {n = n} k s = record { few = s .few; long = let a = s .long in omega (arith, k .size); full = full-kept k n (s .full) }
+splittable-kept {n = n} k s = record { few = s .few; long = omega (arith, k .size); full = full-kept k n (s .full) }

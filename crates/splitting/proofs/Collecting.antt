@@ -124,13 +124,11 @@ module _ {q e : List ℕ} {k n : ℕ} (s : Chained q e k n) where
 
       pub child-asks : {t : ℕ} → count (conjunctsAt q k) ≡ t → (count (conjunctsAt q child) < t) × Chained q e child n
       child-asks h =
-          let r = s .room in
           (omega (arith, records), record { reads = rw ec (first .child (sym ek ∙ i)); room = omega (arith, records) })
 
       module _ {e′ : List ℕ} {m : ℕ} (p : Paired (conjunctsAt q child) n e e′ m) where
         pub later-asks : {t : ℕ} → count (conjunctsAt q k) ≡ t → (count (conjunctsAt q next) < t) × Chained q e′ next m
         later-asks h =
-            let r = s .room in
             let few = pairs-few (conjunctsAt q child) in
             (omega (arith, records), record { reads = rw en (first .next); room = omega (arith, records, p .long, p .same) })
 
@@ -149,7 +147,7 @@ module _ {q e : List ℕ} {k n : ℕ} (s : Chained q e k n) where
       pair-records = rw en (ap count (first .constraint (sym ek ∙ i)))
 
       pub pairs-fit : n + 4 ≤ length e
-      pairs-fit = let r = s .room in omega (arith, pair-records)
+      pairs-fit = omega (arith, pair-records)
 
       module _ {f lo hi : ℕ} (ef : f ≡ nameOf q k) (el : lo ≡ loOf q k) (eh : hi ≡ hiOf q k) {e′ : List ℕ} (w : e′ ≡ pairsPut e n f lo hi) where
         here : conjunctsAt q k ≡ interval f lo hi (conjunctsAt q next)
@@ -160,7 +158,6 @@ module _ {q e : List ℕ} {k n : ℕ} (s : Chained q e k n) where
 
         pub behind-asks : {t : ℕ} → count (conjunctsAt q k) ≡ t → (count (conjunctsAt q next) < t) × Chained q e′ next (n + 4)
         behind-asks h =
-            let r = s .room in
             (omega (arith, pair-records), record { reads = rw en (first .next); room = omega (arith, pair-records, pairs-same) })
 
         pub behind-paired : {e″ : List ℕ} {r : ℕ} → Paired (conjunctsAt q next) (n + 4) e′ e″ r → Paired (conjunctsAt q k) n e e″ r
@@ -179,7 +176,6 @@ module _ {q e : List ℕ} {k n : ℕ} (s : Chained q e k n) where
 
       pub next-asks : {t : ℕ} → count (conjunctsAt q k) ≡ t → (count (conjunctsAt q next) < t) × Chained q e next n
       next-asks h =
-          let r = s .room in
           (omega (arith, rest .1), record { reads = rw en (first .next); room = omega (arith, rest .1) })
 
       pub next-paired : {e″ : List ℕ} {r : ℕ} → Paired (conjunctsAt q next) n e e″ r → Paired (conjunctsAt q k) n e e″ r

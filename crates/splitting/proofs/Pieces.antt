@@ -52,18 +52,18 @@ module _ (E : List ℕ) (f h : ℕ) where
         up e i k = go (ltb h e) refl
           where
             go : (b : Bool) → ltb h e ≡ b → y ≤ e
-            go true m = let n = ltb-true h e m in let o = g .0 in omega arith
+            go true m = let n = ltb-true h e m in omega arith
             go false m = among e (any-cases (k (ltb-false h e m)))
 
     later : All (λ e. x < e → e ≤ h → e ∈ y ∷ l) E → All (λ e. y < e → e ≤ h → e ∈ l) E
-    later a = all-mono (λ e k i j. let m = r .0 in out e i (any-cases (k (omega arith) j))) a
+    later a = all-mono (λ e k i j. out e i (any-cases (k (omega arith) j))) a
       where
         out : (e : ℕ) → y < e → (e ≡ y) ⊎ (e ∈ l) → e ∈ l
         out e i (inl j) = absurd (omega arith)
         out e i (inr j) = j
 
     top-later : (h ≡ x) ⊎ (h ∈ y ∷ l) → (h ≡ y) ⊎ (h ∈ l)
-    top-later (inl i) = let j = g .0 in let k = r .0 in absurd (omega arith)
+    top-later (inl i) = absurd (omega arith)
     top-later (inr i) = any-cases i
 
     next-run : All (λ e. x < e → y ≤ e) E → Run E f h (only f y) (restOf f y l) → Run E f h (only f x) (gap f x y ++ (only f y ∷ restOf f y l))
@@ -81,8 +81,6 @@ module _ (E : List ℕ) (f h : ℕ) where
             (omega arith, ap (intervalOf f (suc x)) (sym u), (omega arith, ap₂ (intervalOf f) (sym z) (sym v), k))
         go false e =
             let q = ltb-false (suc x) y e in
-            let j = r .0 in
-            let i = g .0 in
             let z : y ≡ suc x = omega arith in
             let u : upper E h x ≡ y = upper-is E h x y y (least-is E x h y (r .0) (g .0) (g .1) a) (near-up x y z) in
             (omega arith, ap₂ (intervalOf f) z (sym u), k)
@@ -105,7 +103,7 @@ module _ (E : List ℕ) (f h : ℕ) where
   run-last : {p : Constraint} (s : Constraint) (l : List Constraint) {d : ℕ} → Run E f h s l → At p (s ∷ l) d → h ≤ p .hi → suc d ≡ length (s ∷ l)
   run-last s [] r (atHere e) b = refl
   run-last s [] r (atThere a) b = absurd (omega (arith, at-lt a))
-  run-last s (t ∷ l) r (atHere e) b = let k = r .0 in absurd (omega (arith, ap (λ (x : Constraint). x .hi) e))
+  run-last s (t ∷ l) r (atHere e) b = absurd (omega (arith, ap (λ (x : Constraint). x .hi) e))
   run-last s (t ∷ l) r (atThere a) b = ap suc (run-last t l (r .2) a b)
 
 -- ---- X, and so the pieces

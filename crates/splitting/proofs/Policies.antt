@@ -54,7 +54,7 @@ collecting-starts {q} s h = record {
   left = policyOf q;
   same = refl;
   reads = rw h (s .reads);
-  room = let a = s .few in let b = s .room in omega arith;
+  room = omega arith;
   words = refl;
 }
 
@@ -62,13 +62,13 @@ module _ {q e₀ e : List ℕ} {n k : ℕ} (s : Collecting q e₀ e n k) where
   pub collecting-ends : k ≡ 0 → Collected (policyOf q) e₀ e n
   collecting-ends z = record {
     same = s .same;
-    within = let a = s .room in omega arith;
+    within = omega arith;
     ends = subst (Ends (policyOf q)) (sym (all (s .left) (s .reads) (s .words))) (pairs-ends (policyOf q));
   }
     where
       all : (P : Policy) → ReadsTerms q k P → take n e ++ pairsIn P ≡ pairsIn (policyOf q) → take n e ≡ pairsIn (policyOf q)
       all P (reads-none e) h = sym (append-nil _) ∙ h
-      all P (reads-term h e r t) w = let i = h .inside in absurd (omega arith)
+      all P (reads-term h e r t) w = absurd (omega arith)
 
   module _ (z : k ≡ 0 → ⊥) where
     here : Term q k (s .left)
@@ -79,14 +79,14 @@ module _ {q e₀ e : List ℕ} {n k : ℕ} (s : Collecting q e₀ e n k) where
 
     module _ {child : ℕ} (ec : child ≡ childOf q k) where
       pub collecting-child : Chained q e child n
-      collecting-child = rw ec (record { reads = here .reads; room = let a = s .room in omega (arith, ap total (here .whole)) })
+      collecting-child = rw ec (record { reads = here .reads; room = omega (arith, ap total (here .whole)) })
 
       pub collecting-on : {e′ : List ℕ} {m next : ℕ} → Paired (conjunctsAt q child) n e e′ m → next ≡ nextOf q k → Collecting q e₀ e′ m next
       collecting-on p en = record {
         left = here .rest;
         same = p .same ∙ s .same;
         reads = rw en (here .later);
-        room = let a = s .room in omega (arith, ap total whole, p .long, p .same, pairs-few (conjunctsAt q child));
+        room = omega (arith, ap total whole, p .long, p .same, pairs-few (conjunctsAt q child));
         words = ap (λ (l : List ℕ). l ++ pairsIn (here .rest)) (p .words)
             ∙ (append-assoc (take n e) (pairsOf (conjunctsAt q child)) (pairsIn (here .rest))
             ∙ (ap (λ (P : Policy). take n e ++ pairsIn P) (sym whole) ∙ s .words));

@@ -94,8 +94,6 @@ upper-above l h p r a e = go (least l p h) (least-above l p h a) e
     at y false q k e =
         let n = eqb-false y (suc p) q in
         let m : r ≡ pred y = e in
-        let i = k .0 in
-        let j = k .1 in
         (lt-of-le-ne (omega arith) (λ z. n (omega arith)), omega arith)
 
     go : (y : ℕ) → (p < y) × (y ≤ h) → r ≡ upTo p y → (p < r) × (r ≤ h)

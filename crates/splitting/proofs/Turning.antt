@@ -92,7 +92,7 @@ module _ {e u w : List ℕ} {n i m : ℕ} (split : Splittable u n) (t : Turning 
   now-at = rw last at t
 
   inside : m < n
-  inside = let f = t .few in omega arith
+  inside = omega arith
 
   nonempty : NonEmpty (constraintAt w m .lo) (constraintAt w m .hi)
   nonempty = full-here split (t .only) m inside

@@ -16,5 +16,4 @@ module _ {K : Vocabulary} {u : Form} {w : List ℕ} {t : Tables} (d : Combined K
   -- the rows end after all that is below the first individual
   pub root-tells : (q : List ℕ) (k : ℕ) {b : Bool} → DecidesAll q w t k 1 b → b ≡ subsumed K (conjunctsAt q k) (u .node) (u .successors)
   root-tells q k f =
-      let e = d .count in
       f .answers K 0 (u .node) (u .successors) refl (d .root) (record { below = d .below; fits = omega arith; ends = λ h. absurd (omega arith) })

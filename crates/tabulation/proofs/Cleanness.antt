@@ -167,7 +167,7 @@ module _ (K : Vocabulary) (w : List ℕ) (r : Tables) {a : Bool} (ea : a ≡ all
 
       fit : all (λ j. agree K (setAt w j)) (counting 0 (r .individuals)) ≡ compatibleAll K w (successor 0 (t .node) (t .successors) none)
       fit =
-          let e : r .individuals ≡ 1 + size (t .successors) + 0 = let c = s .count in omega arith in
+          let e : r .individuals ≡ 1 + size (t .successors) + 0 = omega arith in
           ap (λ (n : ℕ). all (λ j. agree K (setAt w j)) (counting 0 n)) e ∙ agree-rows K w (successor 0 (t .node) (t .successors) none) 0 0 (s .rows)
 
   pub clean-not : a ≡ false → (t : Form) → Tabled K t w r → a ≡ cleanForm K t

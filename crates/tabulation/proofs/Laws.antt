@@ -46,7 +46,7 @@ module _ {f : Functional} {d : Chain} {w w′ : List ℕ} {r : Tables} (long : t
     never = bar;
     clean = λ v e. rw (sym (n .bottom) ∙ out e);
     nonEmpty = fill;
-    standing = let s = n .only .size in record { long = omega arith; individuals = n .most .0; constraints = n .most .1 };
+    standing = record { long = omega arith; individuals = n .most .0; constraints = n .most .1 };
     only = n .only;
   }
 
@@ -83,4 +83,4 @@ module _ {f : Functional} {d : Chain} {w w′ : List ℕ} {r : Tables} (n : Shap
 -- what is asked of the slice when the term at record k comes
 pub term-ready : {T : ℕ → Policy → Type 0} {v p w₀ w : List ℕ} {f : Functional} {s k : ℕ} → Prepared v w₀ f → tablesEnd ≤ length w₀ → Only InTables w₀ w →
     Asking T v p s k → (k ≡ 0 → ⊥) → Fit p w k × (pairCount w ≤ mostPairs)
-term-ready g long o a n = let s = o .size in (term-fits (asking-term a n) n (g .accepted) (omega arith), prepared-kept o g .paired .few)
+term-ready g long o a n = (term-fits (asking-term a n) n (g .accepted) (omega arith), prepared-kept o g .paired .few)

@@ -64,15 +64,12 @@ counted Q F = count-combinations Q F
 -- ---- the loop
 
 askable-kept : {q w w′ : List ℕ} {t : Tables} {n : ℕ} → Only (Pieces n) w w′ → Askable q w t → Askable q w′ t
-askable-kept k a =
-    let s = k .size in
-    let l = a .standing .long in
-    record {
-      standing = record { long = omega arith; individuals = a .standing .individuals; constraints = a .standing .constraints };
-      some = a .some;
-      vocabulary = a .vocabulary;
-      accepted = a .accepted;
-    }
+askable-kept k a = record {
+  standing = record { long = omega arith; individuals = a .standing .individuals; constraints = a .standing .constraints };
+  some = a .some;
+  vocabulary = a .vocabulary;
+  accepted = a .accepted;
+}
 
 -- the tables stand at combination c, counted from 1; at 0 nothing is left
 abbrev pub StandsAt : Policy → List ℕ → ℕ → ℕ → Type 0
@@ -127,7 +124,7 @@ module _ {q e w₀ : List ℕ} {t : Tables} (r : Triable q e w₀ t) where
     here K F h = stands-combination Q F w n k (constraints-now y K F h) (y .standing)
 
     below : k < mostCombinations
-    below = let l = stands-lt Q w n k (y .standing) in let f = r .few in omega (arith, ap (product Q) (constraints-kept (y .only) n))
+    below = let l = stands-lt Q w n k (y .standing) in omega (arith, ap (product Q) (constraints-kept (y .only) n))
 
     fails-here : ((K : Vocabulary) (u : Form) → Combined K u w t → passes K Q u ≡ false) → Tried Q w₀ w t (suc k)
     fails-here p = record {
@@ -161,7 +158,7 @@ module _ {q e w₀ : List ℕ} {t : Tables} (r : Triable q e w₀ t) where
         where
           go : (d : ℕ) → Turned Q n w w′ (suc k) d → left d < left (suc k)
           go zero m = omega arith
-          go (suc j) m = let l = below in let x = m .0 in omega arith
+          go (suc j) m = let l = below in omega arith
 
   -- the same for a counter that is not 0
   module _ {w : List ℕ} {c : ℕ} (y : Trying q w₀ w t c) (z : c ≡ 0 → ⊥) where

@@ -2,29 +2,24 @@
 use Prim.Native.Nat.{_%_, _+_, _/_, _<_, _^_, _≤_, suc, zero, ℕ}
 use lib.Bits.{bitOr, or-zero-r}
 use lib.Count.{onesIn}
-use lib.Dec.{eqb, eqb·suc-suc, eqb·suc-zero, eqb·zero-suc, ltb}
+use lib.Dec.{eqb, eqb·suc-suc, eqb·suc-zero, eqb·zero-suc}
 use lib.ListN.{List·getD-eq-default, getD, length, length-set, replicate, set, take}
 use lib.Seq.{getD-set-other, getD-set-same, set-out}
 use mathlib.Core.Bool.{Bool, _&&_, _||_, cond, false, true, true≢false}
 use mathlib.Core.List.{List, [], _∷_}
-use mathlib.Core.Logic.{_⊎_, inl, inr, ⊎-elim}
+use mathlib.Core.Logic.{⊎-elim}
 use mathlib.Core.Path.{_∙_, _≡_, ap, ap₂, refl, sym}
 use native.Mathlib.Omega.{arith}
-use borrow.Author.Tests.{eq-eqb, eqb-false, eqb-true, le-leb, lt-leb, ltb-false, ltb-true, ne-eqb}
+use borrow.Author.Tests.{eq-eqb, eqb-false, eqb-true, le-leb, lt-leb, ne-eqb}
+use Rattle.meaning.proofs.Counting.{in-counting}
+use Rattle.meaning.proofs.Rules.{order}
 use Rattle.meaning.specs.Lists.{_∈_, counting, filter}
 use Rattle.meaning.specs.Records.{isName}
 use Rattle.words.proofs.Bits.{bit-none, bit-or, bit-pow}
-use Rattle.words.proofs.Lists.{Rising, filter-in, filter-within, in-counting, in-filter, rising-counting, rising-filter}
+use Rattle.words.proofs.Lists.{Rising, filter-in, filter-within, in-filter, rising-counting, rising-filter}
 use Rattle.words.proofs.Lists.{tally-add, tally-most, tally-ones, tally-shift}
 use Rattle.words.specs.Members.{members, setBits}
 use Rattle.words.specs.Sets.{capacity, inSet, including, testBit, unionOf}
-
-pub lt-or-ge : (i n : ℕ) → (i < n) ⊎ (n ≤ i)
-lt-or-ge i n = go (ltb i n) refl
-  where
-    go : (b : Bool) → ltb i n ≡ b → (i < n) ⊎ (n ≤ i)
-    go true e = inl (ltb-true i n e)
-    go false e = inr (ltb-false i n e)
 
 pub named-within : (n x : ℕ) → 0 < x → x ≤ n → isName n x ≡ true
 named-within n x p h = rw (le-leb 1 x p, le-leb x n h)
@@ -108,7 +103,7 @@ module _ (ws : List ℕ) (i k : ℕ) where
       (λ e. let q = eqb-true k i e in in-past ws (suc k) (omega arith) ∙ sym (named-past (capacity ws) (suc k) (omega arith)))
 
   after-bit : AfterBit ws i k
-  after-bit = ⊎-elim (λ h. go h (eqb (k / 32) (i / 32)) refl) no-word (lt-or-ge (i / 32) (length ws))
+  after-bit = ⊎-elim (λ h. go h (eqb (k / 32) (i / 32)) refl) no-word (order (i / 32) (length ws))
     where
       go : i / 32 < length ws → (b : Bool) → eqb (k / 32) (i / 32) ≡ b → AfterBit ws i k
       go h true e = same-word h (eqb-true (k / 32) (i / 32) e)
@@ -161,7 +156,7 @@ unfolding inSet
 in-within ws zero t = absurd (true≢false (sym t))
 in-within ws (suc i) t = (
   omega arith,
-  ⊎-elim (λ h. absurd (true≢false (sym t ∙ in-past ws (suc i) h))) (λ h. h) (lt-or-ge (capacity ws) (suc i)),
+  ⊎-elim (λ h. absurd (true≢false (sym t ∙ in-past ws (suc i) h))) (λ h. h) (order (capacity ws) (suc i)),
 )
 
 -- what is in the set is listed
@@ -178,19 +173,6 @@ unfolding members
 members-are ws p n l h =
     filter-within (inSet ws) p 1 n (capacity ws) l
     (λ x k m. h x ∙ rw (named-within n x k (omega arith))) (λ x k. h x ∙ rw (named-past n x (omega arith)))
-
--- two sets with the same members, in as many words, list them alike
-pub members-same : (ws vs : List ℕ) → length ws ≡ length vs → ((d : ℕ) → inSet ws d ≡ inSet vs d) → members ws ≡ members vs
-unfolding members
-members-same ws vs l h =
-    filter-within (inSet ws) (inSet vs) 1 (capacity vs) (capacity ws) (omega arith) (λ x k m. h x) (λ x k. in-past ws x (omega arith))
-
--- the empty set lists none
-pub members-none : (n : ℕ) → members (replicate n 0) ≡ []
-unfolding members
-members-none n =
-    filter-within (inSet (replicate n 0)) (λ x. false) 1 0 (capacity (replicate n 0)) (omega arith)
-    (λ x k m. in-zeros n x) (λ x k. in-zeros n x)
 
 -- ---- how many
 

@@ -1,20 +1,21 @@
 -- The members in rising order, each from the one before: what `next` says, and how it is found. Assumes nothing.
 use Prim.Native.Nat.{_%_, _*_, _+_, _-_, _/_, _<_, _^_, _≤_, suc, zero, ℕ}
 use lib.Count.{trailingZeros}
-use lib.Dec.{eqb, ltb}
-use lib.ListN.{getD, length}
+use lib.Dec.{ltb}
+use lib.ListN.{getD}
 use lib.Pow.{shr-le}
-use mathlib.Core.Bool.{Bool, cond, false, true, true≢false}
+use mathlib.Core.Bool.{false, true, true≢false}
 use mathlib.Core.List.{List, [], _∷_}
 use mathlib.Core.Logic.{⊎-elim}
 use mathlib.Core.Path.{_∙_, _≡_, ap, ap₂, refl, sym}
 use native.Mathlib.Omega.{arith}
-use borrow.Author.Tests.{eqb-false, eqb-true, le-ltb, lt-ltb}
-use Rattle.meaning.specs.Lists.{counting, here}
+use borrow.Author.Tests.{le-ltb, lt-ltb}
+use Rattle.meaning.proofs.Rules.{order}
+use Rattle.meaning.specs.Lists.{counting}
 use Rattle.words.proofs.Bits.{below-lowest, bit-none, bit-past, bit-shift, lowest-set}
-use Rattle.words.proofs.Laws.{in-listed, in-past, listed-in, lt-or-ge, members-rising}
-use Rattle.words.proofs.Lists.{above-all, above-first, above-least, above-rest, filter-from, filter-none, filter-same}
-use Rattle.words.specs.Members.{listing, members, membersAbove, membersFrom, nextMember}
+use Rattle.words.proofs.Laws.{in-listed, in-past, members-rising}
+use Rattle.words.proofs.Lists.{above-all, above-first, above-least, above-rest, filter-none, filter-same}
+use Rattle.words.specs.Members.{members, membersAbove, membersFrom, nextMember}
 use Rattle.words.specs.Sets.{capacity, inSet, testBit}
 
 -- ---- what it is
@@ -41,14 +42,6 @@ module _ (ws : List ℕ) (c : ℕ) where
       go : (l : List ℕ) → membersAbove ws c ≡ l → (getD l 0 0 ≡ 0 → ⊥) → l ≡ getD l 0 0 ∷ membersAbove ws (getD l 0 0)
       go [] e n = absurd (n refl)
       go (x ∷ m) e n = ap (λ (t : List ℕ). x ∷ t) (above-rest c 0 (members ws) x m (members-rising ws) e)
-
-  pub next-above : (nextMember ws c ≡ 0 → ⊥) → c < nextMember ws c
-  unfolding membersAbove
-  next-above n = above-first c (members ws) (nextMember ws c) (membersAbove ws (nextMember ws c)) (next-some n)
-
-  pub next-in : (nextMember ws c ≡ 0 → ⊥) → inSet ws (nextMember ws c) ≡ true
-  unfolding membersAbove
-  next-in n = listed-in ws (nextMember ws c) (filter-from (ltb c) (nextMember ws c) (members ws) (rw (next-some n) (here refl)))
 
   -- no member is between
   pub next-least : (z : ℕ) → inSet ws z ≡ true → c < z → (c < nextMember ws c) × (nextMember ws c ≤ z)
@@ -80,28 +73,6 @@ pub from-end : (ws : List ℕ) (c : ℕ) → c ≡ 0 → membersFrom ws c ≡ []
 unfolding membersFrom
 from-end ws c e = rw e
 
-pub listing-above : (most : ℕ) (ws : List ℕ) (c : ℕ) → length (membersAbove ws c) ≤ most → listing most ws c ≡ membersAbove ws c
-unfolding listing
-listing-above zero ws c h = go (membersAbove ws c) h
-  where
-    go : (l : List ℕ) → length l ≤ 0 → [] ≡ l
-    go [] h = refl
-    go (x ∷ l) h = absurd (omega arith)
-listing-above (suc most) ws c h = go (eqb (nextMember ws c) 0) refl (λ l. listing-above most ws (nextMember ws c) l)
-  where
-    go : (b : Bool) → eqb (nextMember ws c) 0 ≡ b
-        → (length (membersAbove ws (nextMember ws c)) ≤ most → listing most ws (nextMember ws c) ≡ membersAbove ws (nextMember ws c))
-        → cond b [] (nextMember ws c ∷ listing most ws (nextMember ws c)) ≡ membersAbove ws c
-    go true e ih = sym (next-none ws c (eqb-true (nextMember ws c) 0 e))
-    go false e ih =
-        let s = next-some ws c (eqb-false (nextMember ws c) 0 e) in
-        let fewer = ap length s in
-        ap (λ (l : List ℕ). nextMember ws c ∷ l) (ih (omega arith)) ∙ sym s
-
--- asked from 0 on, the next member visits exactly the members, rising
-pub listing-all : (most : ℕ) (ws : List ℕ) → length (members ws) ≤ most → listing most ws 0 ≡ members ws
-listing-all most ws h = listing-above most ws 0 (rw (above-zero ws) h) ∙ above-zero ws
-
 -- ---- how it is found
 
 -- no member from i + 1 to j
@@ -110,18 +81,18 @@ unfolding members membersAbove
 above-skip ws i j l none = filter-same (inSet ws) (ltb i) (ltb j) both (counting 1 (capacity ws))
   where
     later : (x : ℕ) → inSet ws x ≡ true → i < x → j < x
-    later x t h = ⊎-elim (λ g. g) (λ g. absurd (true≢false (sym t ∙ none x h g))) (lt-or-ge j x)
+    later x t h = ⊎-elim (λ g. g) (λ g. absurd (true≢false (sym t ∙ none x h g))) (order j x)
 
     both : (x : ℕ) → inSet ws x ≡ true → ltb i x ≡ ltb j x
     both x t =
-        ⊎-elim (λ h. lt-ltb i x h ∙ sym (lt-ltb j x (later x t h))) (λ h. le-ltb i x h ∙ sym (le-ltb j x (omega arith))) (lt-or-ge i x)
+        ⊎-elim (λ h. lt-ltb i x h ∙ sym (lt-ltb j x (later x t h))) (λ h. le-ltb i x h ∙ sym (le-ltb j x (omega arith))) (order i x)
 
 pub above-past : (ws : List ℕ) (i : ℕ) → capacity ws ≤ i → membersAbove ws i ≡ []
 unfolding members membersAbove
 above-past ws i l = filter-none (inSet ws) (ltb i) none (counting 1 (capacity ws))
   where
     none : (x : ℕ) → inSet ws x ≡ true → ltb i x ≡ false
-    none x t = ⊎-elim (λ h. absurd (true≢false (sym t ∙ in-past ws x (omega arith)))) (le-ltb i x) (lt-or-ge i x)
+    none x t = ⊎-elim (λ h. absurd (true≢false (sym t ∙ in-past ws x (omega arith)))) (le-ltb i x) (order i x)
 
 -- the bits of i's word from i on, and the place of the lowest that is set
 abbrev pub restOf : List ℕ → ℕ → ℕ
@@ -151,7 +122,7 @@ module _ (ws : List ℕ) (i : ℕ) where
 
     -- the lowest that is set is of the same word
     pub rest-within : i % 32 + lowestOf ws i < 32
-    rest-within = ⊎-elim (λ l. l) (λ l. absurd (true≢false (sym rest-set ∙ unset l))) (lt-or-ge (i % 32 + lowestOf ws i) 32)
+    rest-within = ⊎-elim (λ l. l) (λ l. absurd (true≢false (sym rest-set ∙ unset l))) (order (i % 32 + lowestOf ws i) 32)
       where
         unset : 32 ≤ i % 32 + lowestOf ws i → testBit (restOf ws i) (lowestOf ws i) ≡ false
         unset l = bit-shift (getD ws (i / 32) 0) (i % 32) (lowestOf ws i) ∙ bit-past (getD ws (i / 32) 0) 32 (i % 32 + lowestOf ws i) h l

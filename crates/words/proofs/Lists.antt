@@ -75,14 +75,6 @@ module _ (p : ℕ → Bool) (z : ℕ) where
       go true i = there i
       go false i = i
 
-pub in-counting : (k n z : ℕ) → k ≤ z → z < k + n → z ∈ counting k n
-in-counting k zero z l h = absurd (omega arith)
-in-counting k (suc n) z l h = go (eqb z k) refl (λ g. in-counting (suc k) n z g (omega arith))
-  where
-    go : (b : Bool) → eqb z k ≡ b → (k < z → z ∈ counting (suc k) n) → z ∈ k ∷ counting (suc k) n
-    go true e ih = here (eqb-true z k e)
-    go false e ih = let n = eqb-false z k e in there (ih (omega arith))
-
 -- ---- how many of a count pass a test
 
 module _ (p : ℕ → Bool) where

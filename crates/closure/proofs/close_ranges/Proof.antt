@@ -23,7 +23,6 @@ empty-ranges-requires : tie.Need-empty-ranges-requires Inv-loop μ-loop
 empty-ranges-requires c κs =
     let s = c .before .before .before .before in
     let n = accepted-counts (s .args .v .now) (s .pre .0) in
-    let e = c .role-count .ensures in
     (omega (arith, n .1), omega (arith, s .pre .1 .1))
 
 widen-requires : tie.Need-widen-requires Inv-loop μ-loop

@@ -33,7 +33,6 @@ tabulate-requires : tie.Need-tabulate-requires Inv-loop μ-loop
 tabulate-requires c κs =
     let i = c .before .before .loop .inv in
     let r = c .before .before .before .before .before .before .before .before .before .pre .0 in
-    let f = r .1 .ready .full in
     term-ready (r .1 .ready .prepared) (omega arith) (i .1) (i .0 (r .0) (r .1)) (c .before .loop-test .taken)
 
 failure-of-requires : tie.Need-failure-of-requires Inv-loop μ-loop

@@ -21,9 +21,7 @@ abbrev μ-loop : tie.MeasureT-loop
 loop-again : tie.Need-loop-again Inv-loop μ-loop
 loop-again c =
     let loop = c .before .before .before .before .before .loop in
-    let put = c .before .before .put .ensures in
-    let s = loop .inv .2 .size in
-    let n = c .before .before .before .before .before .before .before .before .before .pre .0 .individuals in (
+    let put = c .before .before .put .ensures in (
       search needs,
       everyone-more (loop .work) (loop .i) (omega arith) (omega arith) (loop .inv .1) put,
       put-inside individualWords (loop .work) setsAt (loop .i + 1) (omega arith) (omega arith) (omega arith) put (loop .inv .2),
@@ -38,7 +36,7 @@ include-all-spec =
     (λ c κs. search needs)
     (λ c. (search needs, λ d a b. absurd (omega arith), only-none))
     (λ c. search needs)
-    (λ c κs. let s = c .before .before .loop .inv .2 .size in omega arith)
+    (λ c κs. omega arith)
     (λ c. search needs)
     (λ c. search needs)
     loop-again

@@ -16,9 +16,6 @@ abbrev μ-loop : tie.MeasureT-loop
 mark-member-requires : tie.Need-mark-member-requires Inv-loop μ-loop
 mark-member-requires c κs =
     let pre = c .before .before .before .before .before .before .before .pre in
-    let s = c .before .before .loop .inv .holds .only .size in
-    let l = pre .0 .interpreted .long in
-    let n = pre .0 .interpreted .readable .individuals in
     ((omega arith, omega arith), pre .1 .linked, omega arith)
 
 loop-again : tie.Need-loop-again Inv-loop μ-loop
@@ -26,7 +23,6 @@ loop-again c =
     let pre = c .before .before .before .before .before .before .before .before .before .before .pre in
     let args = c .before .before .before .before .before .before .before .before .before .before .args in
     let loop = c .before .before .before .before .before .loop in
-    let e = c .before .before .before .before .before .before .individual-count .ensures in
     counting-on (loop .inv) (c .before .before .before .before .loop-test .taken)
     (telling-on (args .p .now) (args .m .now) (args .k) (pre .1 .linked) (ready-kept (args .k) (loop .inv .holds .only) (pre .1 .linked .conjunct) (pre .0)) (omega arith) (c .before .before .mark-member .ensures))
 

@@ -17,7 +17,6 @@ mark-shown-requires : tie.Need-mark-shown-requires Inv-loop μ-loop
 mark-shown-requires c κs =
     let pre = c .before .before .before .before .before .before .before .pre in
     let o = c .before .before .loop .inv .walk .holds .only in
-    let s = o .size in
     (scanning-stated (c .before .before .loop .inv) (c .before .loop-test .taken), placed-kept (c .before .before .before .before .before .before .before .args .k) o (pre .1), omega arith)
 
 loop-again : tie.Need-loop-again Inv-loop μ-loop
@@ -26,7 +25,6 @@ loop-again c =
     let args = c .before .before .before .before .before .before .before .before .before .before .before .args in
     let loop = c .before .before .before .before .before .before .loop in
     let taken = c .before .before .before .before .before .loop-test .taken in
-    let s = loop .inv .walk .holds .only .size in
     scanning-on (loop .inv) taken (c .fact-next .ensures)
     (showing-on (args .p .now) (args .m .now) (args .k) (pre .0 .interpreted .readable) (pre .1 .linked) (omega arith) (scanning-stated (loop .inv) taken) (c .before .before .before .mark-shown .ensures))
 

@@ -28,7 +28,7 @@ clear-spec =
     (λ c. (search needs, cleared-none (omega arith)))
     (λ c. search needs)
     (λ c. search needs)
-    (λ c. let s = c .before .loop .inv .1 .only .size in omega arith)
+    (λ c. omega arith)
     (λ c. search needs)
     (λ c. search needs)
     (λ c. (search needs, cleared-more (omega arith) (c .before .loop .inv .1)))

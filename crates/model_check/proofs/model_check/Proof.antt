@@ -9,7 +9,6 @@ use Rattle.model_check.proofs.model_check.Tie as tie
 
 clear-requires : tie.Need-clear-requires
 clear-requires c κs =
-    let s = c .before .before .before .does-refute .ensures .1 .size in
     let l = none-full (c .before .before .before .before .before .before .before .before .tables-refusal .result) (length (c .before .before .before .before .before .before .before .before .before .before .before .before .before .before .args .work .now)) (sym (c .before .before .before .before .before .before .work-refusal .ensures) ∙ c .before .before .before .before .before .if1 .left) in
     omega arith
 

@@ -71,7 +71,7 @@ pub +gather-spec : {M : Type 1} → statement M
     -- gather-returns-3
     (λ c. let a = c .before .before .before .before .before .before .before .before .before .before .before .before .before .before .before .before .args in take-done (inSet (a .f .roles)) (inSet (a .f .features)) (a .p .now) (a .x) (a .r .0) (a .j) (a .stop) (a .first) (a .work .now) (a .g) (c .before .before .before .before .before .before .before .before .before .before .before .before .before .before .before .before .pre .1) (c .before .before .before .before .before .before .before .before .before .before .before .before .before .if1 .left) refl (c .before .before .before .before .before .before .before .before .before .before .before .if2 .left) (sym (c .before .before .before .before .before .before .before .before .before .before .does-join .ensures) ∙ c .before .before .before .before .before .before .before .before .before .if3 .taken) (c .before .before .before .before .before .before .before .child-of .ensures) refl (c .before .before .before .before .before .before .chain .ensures) (c .before .before .gather2 .ensures))
     -- gather-add-gather-3
-    (λ c. let q = c .before .before .before .before .before .before .before .before .pre .1 in let u = q .1 in let v = q .4 .pending in let w = q .4 .long in omega arith)
+    (λ c. let q = c .before .before .before .before .before .before .before .before .pre .1 in let u = q .1 in let v = q .4 in omega arith)
     -- gather-gather-requires-3
     (λ c κs. let a = c .before .before .before .before .before .before .before .before .args in (omega (arith, c .before .before .before .before .before .before .before .before .pre .0, c .before .before .before .before .before .before .before .before .pre .1 .0), pass-can (inSet (a .f .roles)) (inSet (a .f .features)) (a .p .now) (a .x) (a .r .0) (a .j) (a .stop) (a .first) (a .work .now) (a .g) (c .before .before .before .before .before .before .before .before .pre .1) (c .before .before .before .before .before .if1 .left) refl (c .before .before .before .if2 .left) (sym (c .before .before .does-join .ensures) ∙ c .before .if3 .left)))
     -- gather-same-length-3

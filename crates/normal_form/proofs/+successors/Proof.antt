@@ -53,7 +53,7 @@ pub +successors-spec : {M : Type 1} → statement M
     -- successors-successors-requires-2
     (λ c κs. let a = c .before .before .before .before .before .before .before .before .before .before .before .args in (child-falls (a .f) (a .p .now) (a .work .now) (a .j) (a .stop) (a .parent) (a .t) (c .before .before .before .before .before .before .before .before .before .before .before .pre .1) (c .before .before .before .before .before .before .before .before .if1 .left) refl (c .before .before .before .before .before .before .if2 .left) (c .before .before .before .before .node .ensures) (c .before .before .before .before .before .before .before .before .before .before .before .pre .0), child-room (a .f) (a .p .now) (a .work .now) (a .j) (a .stop) (a .parent) (a .t) (c .before .before .before .before .before .before .before .before .before .before .before .pre .1) (c .before .before .before .before .before .before .before .before .if1 .left) refl (c .before .before .before .before .before .before .if2 .left) (c .before .before .before .before .node .ensures)))
     -- successors-add-successors-2
-    (λ c. let q = c .before .before .before .before .before .before .before .before .before .before .before .before .before .before .before .pre .1 in let u = q .order in let v = q .pending in let w = q .long in omega arith)
+    (λ c. let q = c .before .before .before .before .before .before .before .before .before .before .before .before .before .before .before .pre .1 in let u = q in omega arith)
     -- successors-successors-requires-3
     (λ c κs. let a = c .before .before .before .before .before .before .before .before .before .before .before .before .before .before .before .args in (next-falls (a .f) (a .p .now) (a .work .now) (a .j) (a .stop) (a .parent) (a .t) (c .before .before .before .before .before .before .before .before .before .before .before .before .before .before .before .pre .1) (c .before .before .before .before .before .before .before .before .before .before .before .before .if1 .left) refl (c .before .before .before .before .before .before .before .before .before .before .if2 .left) (c .before .before .before .before .before .before .before .before .node .ensures) refl (c .before .before .before .successors2 .ensures) (c .before .before .before .before .before .before .before .before .before .before .before .before .before .before .before .pre .0), next-room (a .f) (a .p .now) (a .work .now) (a .j) (a .stop) (a .parent) (a .t) (c .before .before .before .before .before .before .before .before .before .before .before .before .before .before .before .pre .1) (c .before .before .before .before .before .before .before .before .before .before .before .before .if1 .left) refl (c .before .before .before .before .before .before .before .before .before .before .if2 .left) (c .before .before .before .before .before .before .before .before .node .ensures) refl (c .before .before .before .successors2 .ensures)))
     -- successors-same-length-2

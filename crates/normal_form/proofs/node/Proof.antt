@@ -12,7 +12,6 @@ start-classes-requires c κs =
     let a = c .before .before .before .before .before .before .args in
     let q = c .before .before .before .before .before .before .pre in
     let r = role-small (inSet (a .f .roles)) (inSet (a .f .features)) (a .p .now) (a .work .now) (a .j) (a .stop) (a .t .individuals) (a .t .constraints) (a .k) (q .0) (q .1) (q .2) (q .3) in
-    let e = c .before .before .before .name-of .ensures in
     (omega arith, q .3 .long)
 
 chain-requires : tie.Need-chain-requires

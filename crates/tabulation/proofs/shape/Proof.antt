@@ -6,8 +6,6 @@ use Rattle.tabulation.proofs.shape.Tie as tie
 are-nonempty-requires : tie.Need-are-nonempty-requires
 are-nonempty-requires c κs =
     let n = c .before .before .before .before .normalise .ensures in
-    let s = n .only .size in
-    let f = c .before .before .before .before .before .before .before .before .pre .long in
     (n .most .1, omega arith)
 
 pub shape-spec : {M : Type 1} → statement M
