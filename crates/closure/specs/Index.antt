@@ -10,6 +10,7 @@ use Rattle.meaning.specs.Lists.{_∈_}
 use Rattle.meaning.specs.Records.{Name}
 use Rattle.meaning.specs.Vocabulary.{Axiom, axiomAt, axiomFits, axiomKind, classCount, vocabularyOf, vocabularyRefusal}
 use Rattle.words.specs.Rows.{classWords}
+use Rattle.words.specs.Sets.{wordSum}
 
 -- how many records a vocabulary may have, its header among them
 abbrev pub records : ℕ
@@ -37,6 +38,14 @@ pub record Heads (v h : List ℕ) (b : ℕ) : Type 0 where
 -- each record's next is before it
 pub record Nexts (v n : List ℕ) : Type 0 where
   pub at : (k : ℕ) → Entry v k (getD n k 0)
+
+-- what there is of the index, of the records before k, when the walk meets record k
+abbrev pub Enterable : List ℕ → List ℕ → List ℕ → ℕ → Type 0
+Enterable v h n k = (classCount v ≤ mostClasses) × Met v k × Heads v h k × Nexts v n
+
+-- no head is new, and some may be taken
+abbrev pub HeadsTaken : List ℕ → List ℕ → List ℕ → Type 0
+HeadsTaken v h h′ = Heads v h′ records × (wordSum h′ ≤ wordSum h)
 
 -- what there is of the index, with the rows of w, when class c is raised
 pub record Raisable (v w h n : List ℕ) (c : ℕ) : Type 0 where

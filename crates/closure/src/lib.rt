@@ -19,14 +19,13 @@ ghost use mathlib.Core.Bool.{true};
 ghost use mathlib.Core.List.{foldl};
 ghost use mathlib.Core.Path.{_≡_};
 ghost use lib.ListN.{length};
-ghost use Rattle.closure.specs.Index.{Heads, Met, Nexts, Raisable, Raised, records};
+ghost use Rattle.closure.specs.Index.{Enterable, Heads, HeadsTaken, Nexts, Raisable, Raised, records};
 ghost use Rattle.closure.specs.Rows.{Closed, ClosedRows, ContainsAbove, ContainsRanged, Grown, Ranged, RoleRoom, begun, emptied};
 ghost use Rattle.closure.specs.Rows.{joined, lifted, rowOf, widened};
 ghost use Rattle.layout.specs.Places.{roleRow};
-ghost use Rattle.meaning.specs.Limits.{mostClasses, mostRoles};
+ghost use Rattle.meaning.specs.Limits.{mostRoles};
 ghost use Rattle.meaning.specs.Vocabulary.{axiomAt, axiomFits, classCount, roleCount, vocabularyOf, vocabularyRefusal};
 ghost use Rattle.words.specs.Rows.{classWords};
-ghost use Rattle.words.specs.Sets.{wordSum};
 
 fn row(work: &[u32], i: u32) -> ClassSet
     requires { ⌜ (1 ≤ i) × (i * classWords ≤ length (now work)) ⌝ }
@@ -100,8 +99,7 @@ const NEXTS: usize = MOST_AXIOMS + 1;
 
 // Record k becomes the head of its class, where it says that the class is below another.
 fn enter(v: &[u32], heads: &mut [u32; HEADS], next: &mut [u32; NEXTS], k: u32)
-    requires { ⌜ (classCount (now v) ≤ mostClasses) × Met (now v) k
-        × Heads (now v) (now heads) k × Nexts (now v) (now next) ⌝ }
+    requires { ⌜ Enterable (now v) (now heads) (now next) k ⌝ }
     ensures { λ _. ⌜ Heads (now (v .entry)) (now (heads .exit)) (k + 1) × Nexts (now (v .entry)) (now (next .exit)) ⌝ }
 {
     if axiom_kind(v, k) != 1 {
@@ -130,8 +128,7 @@ fn index(v: &[u32], heads: &mut [u32; HEADS], next: &mut [u32; NEXTS])
 fn raise(v: &[u32], work: &mut [u32], heads: &mut [u32; HEADS], next: &[u32; NEXTS], c: u32)
     requires { ⌜ Raisable (now v) (now work) (now heads) (now next) c ⌝ }
     ensures { λ _. ⌜ Raised (now (v .entry)) (now (work .entry)) (now (work .exit)) ⌝ }
-    ensures { λ _. ⌜ Heads (now (v .entry)) (now (heads .exit)) records
-        × (wordSum (now (heads .exit)) ≤ wordSum (now (heads .entry))) ⌝ }
+    ensures { λ _. ⌜ HeadsTaken (now (v .entry)) (now (heads .entry)) (now (heads .exit)) ⌝ }
 {
     let at = place(c);
     let mut k = heads[at];

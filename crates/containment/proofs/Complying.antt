@@ -7,7 +7,7 @@ use lib.Dec.{leb}
 use lib.ListN.{length}
 use native.Mathlib.Omega.{arith}
 use Rattle.containment.specs.Verdicts.{CompliancePost, VerdictTested, settled}
-use Rattle.decision.proofs.Deciding.{taken}
+use Rattle.decision.proofs.Policies.{taken}
 use Rattle.decision.specs.Decisions.{Delivers, PreparedPair, decision}
 use Rattle.frames.proofs.Work.{Done, outputs-none}
 use Rattle.frames.specs.Frames.{Only, Span}

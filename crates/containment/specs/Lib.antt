@@ -1,1 +1,2 @@
+-- What Possible and Compliance leave behind.
 pub mod Verdicts

@@ -1,3 +1,4 @@
+-- The laws that the functions' proofs cite.
 pub mod Output
 pub mod Keys
 pub mod Before

@@ -1,14 +1,14 @@
 -- The records of the canonical model, as the tables alone give them: row by row, each row's classes, pairs and edges.
-use Prim.Native.Nat.{_+_, _-_, _≤_, suc, zero, ℕ}
+use Prim.Native.Nat.{_*_, _+_, _-_, _≤_, suc, zero, ℕ}
 use mathlib.Core.Bool.{Bool, _&&_, _||_, cond}
 use mathlib.Core.List.{List, [], _++_, _∷_, map}
 use mathlib.Core.Path.{_≡_}
 use lib.Dec.{eqb, leb, ltb}
 use lib.ListN.{length}
 use Rattle.layout.specs.Combination.{Combined, piecesOf}
-use Rattle.layout.specs.Tables.{holderAt, parentAt, pieceAt, roleAt, setAt}
+use Rattle.layout.specs.Tables.{Standing, holderAt, parentAt, pieceAt, roleAt, setAt}
 use Rattle.layout.specs.declared.Tables.{Tables}
-use Rattle.meaning.specs.Countermodel.{countermodel, pairBefore, pairs}
+use Rattle.meaning.specs.Countermodel.{canonicalModel, countermodel, pairBefore, pairs}
 use Rattle.meaning.specs.Intervals.{Constraint, valueOf}
 use Rattle.meaning.specs.Limits.{mostClasses}
 use Rattle.meaning.specs.Lists.{filter}
@@ -26,6 +26,10 @@ pub record Modelled (K : Vocabulary) (u : Form) (w : List ℕ) (t : Tables) : Ty
   pub bounded : Bounded K
   pub normal : Normal (Name (K .classes)) K u
   pub combined : Combined K u w t
+
+-- r counts the records of the model of the combination that the tables hold
+abbrev pub CountsModel : List ℕ → Tables → ℕ → Type 0
+CountsModel w t r = (K : Vocabulary) (u : Form) → Modelled K u w t → r ≡ length (canonicalModel K u)
 
 -- the output o became o′: the countermodel of the combination that the tables hold, and behind it what stood there
 abbrev pub ModelWritten : List ℕ → Tables → List ℕ → List ℕ → Type 0
@@ -59,6 +63,10 @@ pairsAbove w n x m = filter (isAbove w n m) (pairs (piecesOf w n x))
 unfoldable pub valuesFrom : List ℕ → ℕ → ℕ → ℕ → List Fact
 valuesFrom w n x m = let here = valueFact x (pieceAt w m) ∷ map (valueFact x) (pairsAbove w n x m) in cond (ltb m n) here []
 
+-- constraint r has the least pair above constraint m's; none where r is the end of the constraints
+abbrev pub NextPair : List ℕ → ℕ → ℕ → ℕ → ℕ → Type 0
+NextPair w n x m r = (r ≤ n) × (valuesFrom w n x r ≡ map (valueFact x) (pairsAbove w n x m))
+
 -- ---- "edges by target", of individual x
 
 -- the edges of individual x among so many rows from j on; a smaller parent's row stands after all that is below x
@@ -87,3 +95,7 @@ tableFacts w t = factsFrom w t (t .individuals) 0
 
 abbrev pub recordCount : List ℕ → Tables → ℕ
 recordCount w t = length (tableFacts w t)
+
+-- the tables stand, there are so many records, and the output has room for them and the header
+abbrev pub Writable : List ℕ → Tables → ℕ → List ℕ → Type 0
+Writable w t records o = Standing w t × (records ≡ recordCount w t) × (5 * (records + 1) ≤ length o)

@@ -22,6 +22,10 @@ pub record RoomFor (last k : ℕ) (F : List Fact) (o : List ℕ) : Type 0 where
 abbrev pub linkAt : ℕ → ℕ → ℕ
 linkAt last k = cond (eqb k last) 0 (k + 1)
 
+-- record k of the output o′ has these words, and all else is as it was in o
+abbrev pub RecordPut : ℕ → ℕ → ℕ → ℕ → ℕ → ℕ → List ℕ → List ℕ → Type 0
+RecordPut last k kind name x other o o′ = o′ ≡ putAt o (5 * k) (kind ∷ (name ∷ (x ∷ (other ∷ (linkAt last k ∷ [])))))
+
 abbrev pub linkedWords : ℕ → ℕ → List Fact → List ℕ
 linkedWords last k [] = []
 linkedWords last k (x ∷ F) = factWords x (linkAt last k) ++ linkedWords last (suc k) F

@@ -8,20 +8,14 @@ use layout::piece_hi;
 use layout::role_of;
 use meaning::ClassNo;
 use words::place;
-ghost use mathlib.Core.List.{[], _∷_, map};
 ghost use mathlib.Core.Path.{_≡_};
-ghost use Prim.Native.Nat.{_*_, _+_, _<_, _^_, _≤_};
+ghost use Prim.Native.Nat.{_<_, _^_, _≤_};
 ghost use lib.ListN.{length};
-ghost use Rattle.countermodel.specs.Facts.{ModelWritten, Modelled, edgeFacts, factsAt, isAbove, isBetter, memberFacts, pairsAbove};
-ghost use Rattle.countermodel.specs.Facts.{recordCount, tableFacts, valueFact, valueFacts, valuesFrom};
-ghost use Rattle.countermodel.specs.Written.{Room, RoomFor, Written, linkAt, recorded};
-ghost use Rattle.frames.specs.Rows.{putAt};
-ghost use Rattle.layout.specs.Places.{tablesEnd};
-ghost use Rattle.layout.specs.Tables.{HasEntry, Standing, pieceAt};
-ghost use Rattle.meaning.specs.Countermodel.{canonicalModel, pairBefore};
-ghost use Rattle.meaning.specs.Limits.{mostRecords};
-ghost use Rattle.meaning.specs.NormalForm.{Form};
-ghost use Rattle.meaning.specs.Vocabulary.{Vocabulary};
+ghost use Rattle.countermodel.specs.Facts.{CountsModel, ModelWritten, NextPair, Writable, edgeFacts, factsAt, isAbove, isBetter, memberFacts};
+ghost use Rattle.countermodel.specs.Facts.{recordCount, tableFacts, valueFacts};
+ghost use Rattle.countermodel.specs.Written.{RecordPut, Room, RoomFor, Written, linkAt, recorded};
+ghost use Rattle.layout.specs.Tables.{HasEntries, HasEntry, Standing, pieceAt};
+ghost use Rattle.meaning.specs.Countermodel.{pairBefore};
 
 // ---- the pairs of an individual, rising
 
@@ -40,7 +34,7 @@ fn is_before(work: &[u32], a: usize, b: usize) -> bool
 
 // Whether constraint i's pair stands above constraint m's, or m is n and no constraint.
 fn is_above(work: &[u32], n: usize, m: usize, i: usize) -> bool
-    requires { ⌜ (i < n) × (n ≤ mostRecords) × (tablesEnd ≤ length (now work)) ⌝ }
+    requires { ⌜ (i < n) × HasEntries n (now work) ⌝ }
     ensures { λ r. ⌜ r ≡ isAbove (now (work .entry)) n m (pieceAt (now (work .entry)) i) ⌝ }
 {
     if m < n {
@@ -51,7 +45,7 @@ fn is_above(work: &[u32], n: usize, m: usize, i: usize) -> bool
 
 // Whether constraint i is individual x's and its pair stands above constraint m's and before that of the best so far.
 fn is_better(work: &[u32], n: usize, x: u32, m: usize, best: usize, i: usize) -> bool
-    requires { ⌜ (i < n) × (n ≤ mostRecords) × (tablesEnd ≤ length (now work)) ⌝ }
+    requires { ⌜ (i < n) × HasEntries n (now work) ⌝ }
     ensures { λ r. ⌜ r ≡ isBetter (now (work .entry)) n x m best i ⌝ }
 {
     if holder_of(work, i) != x {
@@ -68,9 +62,8 @@ fn is_better(work: &[u32], n: usize, x: u32, m: usize, best: usize, i: usize) ->
 
 // Of n constraints, one of individual x whose pair is the least above constraint m's, or n; from n on, the least of all.
 fn next_pair(work: &[u32], n: usize, x: u32, m: usize) -> usize
-    requires { ⌜ (n ≤ mostRecords) × (tablesEnd ≤ length (now work)) ⌝ }
-    ensures { λ r. ⌜ (r ≤ n)
-        × (valuesFrom (now (work .entry)) n x r ≡ map (valueFact x) (pairsAbove (now (work .entry)) n x m)) ⌝ }
+    requires { ⌜ HasEntries n (now work) ⌝ }
+    ensures { λ r. ⌜ NextPair (now (work .entry)) n x m r ⌝ }
 {
     let mut best = n;
     for i in 0..n {
@@ -84,7 +77,7 @@ fn next_pair(work: &[u32], n: usize, x: u32, m: usize) -> usize
 // ---- how many records
 
 fn count_values(work: &[u32], n: usize, x: u32) -> usize
-    requires { ⌜ (n ≤ mostRecords) × (tablesEnd ≤ length (now work)) ⌝ }
+    requires { ⌜ HasEntries n (now work) ⌝ }
     ensures { λ r. ⌜ r ≡ length (valueFacts (now (work .entry)) n x) ⌝ }
 {
     let mut found = 0;
@@ -97,7 +90,7 @@ fn count_values(work: &[u32], n: usize, x: u32) -> usize
 }
 
 fn count_edges(work: &[u32], n: usize, x: u32) -> usize
-    requires { ⌜ (x ≤ n) × (n ≤ mostRecords) × (tablesEnd ≤ length (now work)) ⌝ }
+    requires { ⌜ (x ≤ n) × HasEntries n (now work) ⌝ }
     ensures { λ r. ⌜ r ≡ length (edgeFacts (now (work .entry)) n x) ⌝ }
 {
     let mut found = 0;
@@ -124,8 +117,7 @@ fn count_row(work: &[u32], t: Tables, i: u32) -> usize
 pub fn size(work: &[u32], t: Tables) -> usize
     requires { ⌜ Standing (now work) t ⌝ }
     ensures { λ r. ⌜ r ≡ recordCount (now (work .entry)) t ⌝ }
-    ensures { λ r. ⌜ ((K : Vocabulary) (u : Form) → Modelled K u (now (work .entry)) t →
-        r ≡ length (canonicalModel K u)) ⌝ }
+    ensures { λ r. ⌜ CountsModel (now (work .entry)) t r ⌝ }
 {
     let n = t.individuals;
     let mut records = 0;
@@ -148,8 +140,7 @@ fn link(k: usize, last: usize) -> u32
 // Record k: kind, name, individual, other, next.
 fn put(out: &mut [u32], k: usize, last: usize, kind: u32, name: u32, x: u32, other: u32)
     requires { ⌜ (k ≤ last) × Room last (now out) ⌝ }
-    ensures { λ _. ⌜ now (out .exit)
-        ≡ putAt (now (out .entry)) (5 * k) (kind ∷ (name ∷ (x ∷ (other ∷ (linkAt last k ∷ []))))) ⌝ }
+    ensures { λ _. ⌜ RecordPut last k kind name x other (now (out .entry)) (now (out .exit)) ⌝ }
 {
     let at = 5 * k;
     out[at] = kind;
@@ -177,8 +168,7 @@ fn write_classes(work: &[u32], i: u32, out: &mut [u32], k: usize, last: usize) -
 
 // The pairs of individual x, rising.
 fn write_values(work: &[u32], n: usize, x: u32, out: &mut [u32], k: usize, last: usize) -> usize
-    requires { ⌜ (n ≤ mostRecords) × (tablesEnd ≤ length (now work))
-        × RoomFor last k (valueFacts (now work) n x) (now out) ⌝ }
+    requires { ⌜ HasEntries n (now work) × RoomFor last k (valueFacts (now work) n x) (now out) ⌝ }
     ensures { λ r. ⌜ Written last k (valueFacts (now (work .entry)) n x) (now (out .entry)) (now (out .exit)) r ⌝ }
 {
     let mut at = k;
@@ -195,8 +185,7 @@ fn write_values(work: &[u32], n: usize, x: u32, out: &mut [u32], k: usize, last:
 
 // The edges of individual x, by target.
 fn write_edges(work: &[u32], n: usize, x: u32, out: &mut [u32], k: usize, last: usize) -> usize
-    requires { ⌜ (x ≤ n) × (n ≤ mostRecords) × (tablesEnd ≤ length (now work))
-        × RoomFor last k (edgeFacts (now work) n x) (now out) ⌝ }
+    requires { ⌜ (x ≤ n) × HasEntries n (now work) × RoomFor last k (edgeFacts (now work) n x) (now out) ⌝ }
     ensures { λ r. ⌜ Written last k (edgeFacts (now (work .entry)) n x) (now (out .entry)) (now (out .exit)) r ⌝ }
 {
     let mut at = k;
@@ -234,7 +223,7 @@ fn write_rows(work: &[u32], t: Tables, last: usize, out: &mut [u32])
 
 // Writes the model: the header, and as many records as `size` tells.
 pub fn write(work: &[u32], t: Tables, records: usize, out: &mut [u32])
-    requires { ⌜ Standing (now work) t × (records ≡ recordCount (now work) t) × (5 * (records + 1) ≤ length (now out)) ⌝ }
+    requires { ⌜ Writable (now work) t records (now out) ⌝ }
     ensures { λ _. ⌜ length (now (out .exit)) ≡ length (now (out .entry)) ⌝ }
     ensures { λ _. ⌜ ModelWritten (now (work .entry)) t (now (out .entry)) (now (out .exit)) ⌝ }
 {

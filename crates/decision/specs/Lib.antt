@@ -1,1 +1,2 @@
+-- What a decision asks, and what it tells of a policy.
 pub mod Decisions

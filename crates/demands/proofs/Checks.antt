@@ -6,7 +6,7 @@ use mathlib.Core.Path.{_∙_, _≡_, ap, refl, sym}
 use lib.ListN.{length, take}
 use native.Mathlib.Omega.{arith}
 use Rattle.containment.specs.Verdicts.{CompliancePost}
-use Rattle.decision.proofs.Deciding.{taken}
+use Rattle.decision.proofs.Policies.{taken}
 use Rattle.demands.proofs.Afterwards.{comparison-written, verdict-written}
 use Rattle.equality.specs.Comparisons.{EqualityPost}
 use Rattle.meaning.proofs.Checking.{check-right}

@@ -8,10 +8,11 @@ use input::part;
 use meaning::Verdict;
 use text::put_verdict;
 ghost use mathlib.Core.Path.{_≡_};
-ghost use Prim.Native.Nat.{_*_, _/_, _≤_};
+ghost use Prim.Native.Nat.{_/_, _≤_};
 ghost use lib.ListN.{length, take};
+ghost use Rattle.desk.specs.Buffers.{Buffers};
 ghost use Rattle.input.specs.Input.{decided, decidedWords};
-ghost use Rattle.meaning.specs.Limits.{mostBytes, outputSize, workSize};
+ghost use Rattle.meaning.specs.Limits.{outputSize, workSize};
 ghost use Rattle.meaning.specs.Program.{program};
 ghost use Rattle.text.specs.Text.{Shows, textSize};
 
@@ -30,7 +31,7 @@ fn decide_words(bytes: usize, words: &[u32], work: &mut [u32], out: &mut [u32]) 
 
 // The verdict on an input; one that is too long is not read.
 fn decide_input(input: &[u8], words: &mut [u32], work: &mut [u32], out: &mut [u32]) -> Verdict
-    requires { ⌜ (mostBytes ≤ 4 * length (now words)) × (length (now work) ≡ workSize) × (length (now out) ≡ outputSize) ⌝ }
+    requires { ⌜ Buffers (now words) (now work) (now out) ⌝ }
     ensures { λ r. ⌜ Shows r (now (out .exit)) (decided (now (input .entry))) ⌝ }
 {
     if !is_short(input.len()) {
@@ -49,8 +50,7 @@ pub fn answer(
     out: &mut [u32],
     text: &mut [u8],
 ) -> usize
-    requires { ⌜ (mostBytes ≤ 4 * length (now words)) × (length (now work) ≡ workSize)
-        × (length (now out) ≡ outputSize) × (textSize ≤ length (now text)) ⌝ }
+    requires { ⌜ Buffers (now words) (now work) (now out) × (textSize ≤ length (now text)) ⌝ }
     ensures { λ r. ⌜ (r ≤ length (now (text .exit))) × (take r (now (text .exit)) ≡ program (now (input .entry))) ⌝ }
 {
     let verdict = decide_input(input, words, work, out);

@@ -8,7 +8,7 @@ use lib.Dec.{leb}
 use lib.ListN.{length}
 use native.Mathlib.Omega.{arith}
 use Rattle.containment.proofs.Complying.{ready-back, ready-still}
-use Rattle.decision.proofs.Deciding.{taken}
+use Rattle.decision.proofs.Policies.{taken}
 use Rattle.decision.specs.Decisions.{Countable, Delivers, PreparedPair, decision}
 use Rattle.equality.specs.Comparisons.{Comparable, Compares, ComparisonTested, EqualityPost, compared, difference, reverse}
 use Rattle.equality.specs.Comparisons.{sidedAnswer}

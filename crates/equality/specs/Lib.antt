@@ -1,1 +1,2 @@
+-- What Equality leaves behind.
 pub mod Comparisons

@@ -1,1 +1,2 @@
+-- The numbers that stand for answers in C.
 pub mod Codes

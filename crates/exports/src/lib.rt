@@ -15,7 +15,7 @@ use vocabulary::read_vocabulary;
 ghost use Rattle.exports.specs.Codes.{Coded, CodedComparison, CodedVerdict, ComplianceCoded, EqualityCoded, ModelCheckCoded};
 ghost use Rattle.exports.specs.Codes.{PossibleCoded, checkCode, possibilityCode, readingCode};
 ghost use Rattle.meaning.specs.Answers.{checkedAnswer, comparisonAnswer, possibilityAnswer, readingAnswer, verdictAnswer};
-ghost use Rattle.meaning.specs.Operations.{compliance, equality, possibility, readPolicy, readSecondPolicy, readVocabulary};
+ghost use Rattle.meaning.specs.Operations.{readPolicy, readSecondPolicy, readVocabulary};
 
 fn reading(r: Reading, number: &mut u32) -> u32
     ensures { λ k. ⌜ Coded (readingCode (readingAnswer r)) k (now (number .exit)) ⌝ }

@@ -1,1 +1,2 @@
+-- The parts of an input.
 pub mod Input

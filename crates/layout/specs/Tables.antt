@@ -25,6 +25,10 @@ use Rattle.words.specs.Sets.{inSet}
 abbrev pub HasEntry : ℕ → List ℕ → Type 0
 HasEntry n w = (n < mostRecords) × (tablesEnd ≤ length w)
 
+-- the slice has the first n entries of the tables
+abbrev pub HasEntries : ℕ → List ℕ → Type 0
+HasEntries n w = (n ≤ mostRecords) × (tablesEnd ≤ length w)
+
 -- the parent, the role and the set of row n, which is individual n + 1's
 abbrev pub parentAt : List ℕ → ℕ → ℕ
 parentAt w n = getD w (individualPlace n) 0

@@ -22,12 +22,10 @@ use words::ClassSet;
 use words::place;
 ghost use mathlib.Core.Path.{_≡_};
 ghost use Prim.Native.Nat.{_-_, _≤_};
-ghost use lib.ListN.{length};
 ghost use Rattle.layout.specs.Combination.{nextSuccessor};
-ghost use Rattle.layout.specs.Places.{pairPlace, rowPlace, tablesEnd};
-ghost use Rattle.layout.specs.Tables.{ConstraintPut, HasEntry, IndividualPut, PiecePut, holderAt, parentAt, roleAt, setAt};
+ghost use Rattle.layout.specs.Places.{pairPlace, rowPlace};
+ghost use Rattle.layout.specs.Tables.{ConstraintPut, HasEntries, HasEntry, IndividualPut, PiecePut, holderAt, parentAt, roleAt, setAt};
 ghost use Rattle.layout.specs.Tables.{constraintAt, pieceAt};
-ghost use Rattle.meaning.specs.Limits.{mostRecords};
 ghost use Rattle.words.specs.Sets.{inSet};
 
 // ---- where the tables stand
@@ -115,7 +113,7 @@ pub fn put_individual(work: &mut [u32], n: usize, parent: u32, r: RoleNo, classe
 // From row j on, the next successor of individual x, or n, the number of rows. What is below x stands together, after x, and a
 // smaller parent's row ends it.
 pub fn next_successor(work: &[u32], n: usize, x: u32, j: usize) -> usize
-    requires { ⌜ (j ≤ n) × (n ≤ mostRecords) × (tablesEnd ≤ length (now work)) ⌝ }
+    requires { ⌜ (j ≤ n) × HasEntries n (now work) ⌝ }
     ensures { λ r. ⌜ r ≡ nextSuccessor (now (work .entry)) x (n - j) j ⌝ }
 {
     let mut i = j;

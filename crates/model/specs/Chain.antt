@@ -2,10 +2,15 @@
 use Prim.Native.Nat.{ℕ}
 use mathlib.Core.List.{List}
 use mathlib.Core.Path.{_≡_}
+use lib.ListN.{length}
 use Rattle.meaning.specs.Limits.{mostClasses, mostIndividuals}
-use Rattle.meaning.specs.Model.{Fact, factAt, factKind, factName, factNext, factOther, factOwner, factsOf, firstFact, individualCount}
+use Rattle.meaning.specs.Model.{Fact, factAt, factKind, factName, factNext, factOther, factOwner, factsOf, factsRefusal, firstFact, individualCount}
 use Rattle.meaning.specs.Records.{Name, lastOf}
 use Rattle.records.specs.Chains.{Along, Links}
+
+-- 33, or 0, of the records along the chain
+abbrev pub chainRefusal : List ℕ → List ℕ → ℕ
+chainRefusal v m = factsRefusal (length m) v m (firstFact m)
 
 -- record k's kind is one of the three, its individuals are the header's, and its class is one that a vocabulary may count
 pub record Stated (m : List ℕ) (k : ℕ) : Type 0 where

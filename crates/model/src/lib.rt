@@ -13,9 +13,10 @@ use vocabulary::is_role;
 ghost use mathlib.Core.Path.{_≡_};
 ghost use Prim.Native.Nat.{_≤_};
 ghost use lib.ListN.{length};
-ghost use Rattle.meaning.specs.Model.{factFits, factKind, factName, factNext, factOther, factOwner, factsRefusal, firstFact};
+ghost use Rattle.meaning.specs.Model.{factFits, factKind, factName, factNext, factOther, factOwner, firstFact};
 ghost use Rattle.meaning.specs.Model.{headedModel, individualCount, modelRefusal, soundFact};
 ghost use Rattle.meaning.specs.Records.{lastOf};
+ghost use Rattle.model.specs.Chain.{chainRefusal};
 
 pub fn fact_kind(m: &[u32], k: u32) -> u32
     ensures { λ r. ⌜ r ≡ factKind (now (m .entry)) k ⌝ }
@@ -95,8 +96,7 @@ fn is_sound(v: &[u32], m: &[u32], k: u32) -> bool
 // The first refusal along the chain, which ends: a link that does not rise is refused before it is followed.
 fn facts_refusal(v: &[u32], m: &[u32]) -> u32
     requires { ⌜ (5 ≤ length (now m)) × (firstFact (now m) ≤ lastOf 5 (now m)) ⌝ }
-    ensures { λ r. ⌜ r ≡ factsRefusal (length (now (m .entry))) (now (v .entry)) (now (m .entry))
-        (firstFact (now (m .entry))) ⌝ }
+    ensures { λ r. ⌜ r ≡ chainRefusal (now (v .entry)) (now (m .entry)) ⌝ }
 {
     let mut k = first_fact(m);
     while k != 0 {

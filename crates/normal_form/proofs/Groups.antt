@@ -1,12 +1,12 @@
 -- A normal form by groups: the first arm of a functional role takes those that join it, the others stand after it. The numbers, names
 -- and impossible concepts of a group, and its classes.
-use Prim.Native.Nat.{_+_, _<_, _≤_, suc, ℕ}
+use Prim.Native.Nat.{_+_, _≤_, suc, ℕ}
 use mathlib.Core.Bool.{Bool, _||_, cond, false, not, or-assoc, true}
 use mathlib.Core.List.{List, [], _++_, _∷_}
 use mathlib.Core.Path.{_∙_, _≡_, ap, refl, sym}
 use native.Mathlib.Omega.{arith}
 use lib.Dec.{eqb}
-use lib.ListN.{getD, length, length-append}
+use lib.ListN.{length, length-append}
 use borrow.Author.Tests.{eqb-false, eqb-true, ne-eqb}
 use Rattle.closure.specs.Rows.{rowOf}
 use Rattle.functional.specs.declared.Functional.{Functional}

@@ -17,9 +17,10 @@ use Rattle.meaning.proofs.Rules.{head, tail}
 use Rattle.meaning.specs.Intervals.{Constraint}
 use Rattle.meaning.specs.Lists.{cons, filter}
 use Rattle.meaning.specs.Policy.{Chain, childOf}
-use Rattle.normal_form.proofs.Chains.{add-none, adds-then}
+use Rattle.normal_form.proofs.Adding.{add-none, adds-then}
 use Rattle.normal_form.proofs.Laws.{fresh-in, front-kept, none-struck, word-same, words-eq, words-kept, words-next}
-use Rattle.normal_form.specs.Parts.{Arm, armAt, bottomHere, chainAt, classesIn, intervalCount, intervalsIn, joins, live, parts}
+use Rattle.normal_form.specs.Parts.{Arm, armAt, bottomHere, classesIn, intervalCount, intervalsIn, joins, live, parts}
+use Rattle.policy.specs.Terms.{conjunctsAt}
 use Rattle.normal_form.specs.Parts.{roles, rolesAll, wordsAt}
 use Rattle.normal_form.specs.Steps.{Adding, Adds, Entry, Gathering, Good, HasRoomFor, HasRoomForAll, Struck, Sure, front, restAt}
 use Rattle.normal_form.specs.Steps.{struck}
@@ -136,7 +137,7 @@ module _ (one two : ℕ → Bool) (p : List ℕ) (x r j stop m : ℕ) (w : List 
         module _ (no : joins one r (armAt p k) ≡ false) where
           pub pass-can : Can (j + 1) w g
           pass-can =
-              let e = length-append (roles (chainAt p (childOf p k))) (rolesAll (restAt p w (j + 1) stop)) in
+              let e = length-append (roles (conjunctsAt p (childOf p k))) (rolesAll (restAt p w (j + 1) stop)) in
               let a = room .pending in
               let b = room .constraints in (
                 let a = less in omega arith,
@@ -172,17 +173,17 @@ module _ (one two : ℕ → Bool) (p : List ℕ) (x r j stop m : ℕ) (w : List 
           u-tables : Only InTables w u
           u-tables = let t = less in only-span u-only (omega arith) (omega arith)
 
-          pub take-chain : Good p y × HasRoomFor u m g (chainAt p y)
+          pub take-chain : Good p y × HasRoomFor u m g (conjunctsAt p y)
           take-chain =
-              let e = length-append (roles (chainAt p (childOf p k))) (rolesAll (restAt p w (j + 1) stop)) in
+              let e = length-append (roles (conjunctsAt p (childOf p k))) (rolesAll (restAt p w (j + 1) stop)) in
               let z = u-only .size in
               let a = room in
               rw ey (entry .good, record { long = omega arith; low = room .low; pending = omega arith; first = room .first; constraints = omega arith })
 
           -- v is the words after its chain, h what it has given
-          module _ {v : List ℕ} {h : Draft} (c : Adding two p x m (chainAt p y) u v g h) where
-            c′ : Adding two p x m (chainAt p (childOf p k)) u v g h
-            c′ = subst (λ (i : ℕ). Adding two p x m (chainAt p i) u v g h) ey c
+          module _ {v : List ℕ} {h : Draft} (c : Adding two p x m (conjunctsAt p y) u v g h) where
+            c′ : Adding two p x m (conjunctsAt p (childOf p k)) u v g h
+            c′ = subst (λ (i : ℕ). Adding two p x m (conjunctsAt p i) u v g h) ey c
 
             end-low : stop ≤ g .pending
             end-low = can .1
@@ -202,7 +203,7 @@ module _ (one two : ℕ → Bool) (p : List ℕ) (x r j stop m : ℕ) (w : List 
 
             pub take-can : Can (j + 1) v h
             take-can =
-                let e = length-append (roles (chainAt p (childOf p k))) (rolesAll (restAt p w (j + 1) stop)) in
+                let e = length-append (roles (conjunctsAt p (childOf p k))) (rolesAll (restAt p w (j + 1) stop)) in
                 let z = u-only .size in
                 let a = room in
                 let l = room .long in
@@ -220,7 +221,7 @@ module _ (one two : ℕ → Bool) (p : List ℕ) (x r j stop m : ℕ) (w : List 
             u-front = front-kept u-tables
 
             abbrev given : Chain
-            given = chainAt p (childOf p k)
+            given = conjunctsAt p (childOf p k)
 
             struck-chain : Adds p x j stop m (classesIn given) (roles given) (intervalsIn two given) (intervalCount given) (bottomHere given) w v g h
             struck-chain = record {

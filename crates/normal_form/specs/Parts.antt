@@ -3,23 +3,15 @@ use Prim.Native.Nat.{_+_, suc, zero, ℕ}
 use mathlib.Core.Bool.{Bool, _&&_, _||_, cond, false, not, true}
 use mathlib.Core.List.{List, [], _++_, _∷_}
 use lib.Dec.{eqb}
-use lib.ListN.{getD, length}
+use lib.ListN.{getD}
 use Rattle.meaning.specs.Accepted.{count}
 use Rattle.meaning.specs.Intervals.{Constraint}
 use Rattle.meaning.specs.Lists.{any}
 use Rattle.meaning.specs.NormalForm.{Successors, add, bare, hasBottom, none, placeConstraint, placeSuccessor}
-use Rattle.meaning.specs.Policy.{Chain, chainFrom, childOf, class, conjunctAt, end, impossible, interval, nameOf, some}
+use Rattle.meaning.specs.Policy.{Chain, childOf, class, end, impossible, interval, nameOf, some}
 use Rattle.meaning.specs.Stated.{isFunctionalRole, ranges}
 use Rattle.meaning.specs.Vocabulary.{Vocabulary}
-
--- ---- the words of a policy
-
--- the chain from record k on, and record k alone
-unfoldable pub chainAt : List ℕ → ℕ → Chain
-chainAt p k = chainFrom (length p) p k
-
-unfoldable pub headAt : List ℕ → ℕ → Chain
-headAt p k = conjunctAt p k (chainAt p (childOf p k)) end
+use Rattle.policy.specs.Terms.{conjunctsAt}
 
 -- ---- the parts of a chain; `one` tells the functional names
 
@@ -124,7 +116,7 @@ wordsAt w b zero = []
 wordsAt w b (suc n) = getD w b 0 ∷ wordsAt w (suc b) n
 
 abbrev pub armAt : List ℕ → ℕ → Arm
-armAt p k = record { role = nameOf p k; child = chainAt p (childOf p k) }
+armAt p k = record { role = nameOf p k; child = conjunctsAt p (childOf p k) }
 
 -- the arms that pending words stand for; 0 is struck out
 abbrev pub live : List ℕ → List ℕ → List Arm

@@ -1,5 +1,5 @@
 -- What each function of the crate asks, and what it does to the tables.
-use Prim.Native.Nat.{_+_, _-_, _≤_, ℕ}
+use Prim.Native.Nat.{_+_, _-_, _<_, _≤_, ℕ}
 use mathlib.Core.Bool.{Bool, _||_, cond}
 use mathlib.Core.List.{List, [], _∷_}
 use mathlib.Core.Logic.{_⊎_}
@@ -22,7 +22,8 @@ use Rattle.meaning.specs.NormalForm.{Successors, placeConstraint}
 use Rattle.meaning.specs.Policy.{Chain, childOf, nameOf}
 use Rattle.meaning.specs.Splitting.{constraintsBelow}
 use Rattle.meaning.specs.Vocabulary.{Vocabulary, roleCount, vocabularyOf}
-use Rattle.normal_form.specs.Parts.{Arm, armAt, bottomHere, bottomHereAll, chainAt, classesAll, classesIn, countAll, hasBottomAll}
+use Rattle.normal_form.specs.Parts.{Arm, armAt, bottomHere, bottomHereAll, classesAll, classesIn, countAll, hasBottomAll}
+use Rattle.policy.specs.Terms.{conjunctsAt}
 use Rattle.normal_form.specs.Parts.{intervalCount, intervalsAll, intervalsIn, joins, live, parts, roles, rolesAll, successorsOf}
 use Rattle.normal_form.specs.Parts.{weigh, wordsAt}
 use Rattle.normal_form.specs.declared.Draft.{Draft}
@@ -34,8 +35,8 @@ use Rattle.words.specs.Sets.{inSet}
 
 -- the words from record k on are a chain whose names have rows
 pub record Good (p : List ℕ) (k : ℕ) : Type 0 where
-  pub reads : Reads p k (chainAt p k)
-  pub named : NamedChain mostClasses mostRoles mostFeatures (chainAt p k)
+  pub reads : Reads p k (conjunctsAt p k)
+  pub named : NamedChain mostClasses mostRoles mostFeatures (conjunctsAt p k)
 
 -- a pending record
 pub record Entry (p : List ℕ) (k : ℕ) : Type 0 where
@@ -167,6 +168,10 @@ everyAt one p w j stop k = armAt p k ∷ filter (joins one (nameOf p k)) (restAt
 
 abbrev pub othersAt : (ℕ → Bool) → List ℕ → List ℕ → ℕ → ℕ → ℕ → List Arm
 othersAt one p w j stop k = filter (parts one (nameOf p k)) (restAt p w (j + 1) stop)
+
+-- record k is pending at j, before stop, and there is room for its individual and for all that are below it or pending after it
+abbrev pub Waiting : List ℕ → List ℕ → ℕ → ℕ → ℕ → Tables → Type 0
+Waiting p w j k stop t = (j < stop) × (k ≡ getD w j 0) × (k ≡ 0 → ⊥) × Room p w j stop (t .individuals) (t .constraints)
 
 -- the individual of record k, pending at j, has been made, after what t counts
 abbrev pub NodedFrom : Functional → List ℕ → ℕ → ℕ → ℕ → ℕ → Tables → List ℕ → List ℕ → Draft → Type 0

@@ -20,16 +20,16 @@ use words::ClassSet;
 use words::place;
 ghost use mathlib.Core.Bool.{_&&_};
 ghost use mathlib.Core.Path.{_≡_};
-ghost use Prim.Native.Nat.{_+_, _<_, _≤_, max, min};
+ghost use Prim.Native.Nat.{_≤_, max, min};
 ghost use lib.Dec.{eqb};
-ghost use lib.ListN.{getD, length};
+ghost use lib.ListN.{length};
 ghost use Rattle.layout.specs.Places.{tablesEnd};
 ghost use Rattle.layout.specs.Tables.{HasEntry};
 ghost use Rattle.meaning.specs.Limits.{mostRoles};
-ghost use Rattle.meaning.specs.Lists.{all};
 ghost use Rattle.meaning.specs.Policy.{termAt};
-ghost use Rattle.normal_form.specs.Parts.{armAt, chainAt, headAt, joins};
-ghost use Rattle.normal_form.specs.Steps.{Adding, BuiltFrom, Gatherable, Gathered, Good, HasRoomFor, NodedFrom, Placed, Room, front};
+ghost use Rattle.normal_form.specs.Parts.{armAt, joins};
+ghost use Rattle.policy.specs.Terms.{conjunctOf, conjunctsAt};
+ghost use Rattle.normal_form.specs.Steps.{Adding, BuiltFrom, Gatherable, Gathered, Good, HasRoomFor, NodedFrom, Placed, Room, Waiting, front};
 ghost use Rattle.normal_form.specs.Steps.{startOf};
 ghost use Rattle.normal_form.specs.Tables.{Fit, Normalised};
 ghost use Rattle.words.specs.Sets.{inSet};
@@ -111,8 +111,8 @@ fn conjunct(
     first: usize,
     g: Draft,
 ) -> Draft
-    requires { ⌜ (k ≡ 0 → ⊥) × Good (now p) k × HasRoomFor (now work) first g (chainAt (now p) k) ⌝ }
-    ensures { λ r. ⌜ Adding (inSet (f .features)) (now (p .entry)) x first (headAt (now (p .entry)) k)
+    requires { ⌜ (k ≡ 0 → ⊥) × Good (now p) k × HasRoomFor (now work) first g (conjunctsAt (now p) k) ⌝ }
+    ensures { λ r. ⌜ Adding (inSet (f .features)) (now (p .entry)) x first (conjunctOf (now (p .entry)) k)
         (now (work .entry)) (now (work .exit)) g r ⌝ }
 {
     let kind = kind_of(p, k);
@@ -177,8 +177,8 @@ fn chain(
     first: usize,
     g: Draft,
 ) -> Draft
-    requires { ⌜ Good (now p) k × HasRoomFor (now work) first g (chainAt (now p) k) ⌝ }
-    ensures { λ r. ⌜ Adding (inSet (f .features)) (now (p .entry)) x first (chainAt (now (p .entry)) k)
+    requires { ⌜ Good (now p) k × HasRoomFor (now work) first g (conjunctsAt (now p) k) ⌝ }
+    ensures { λ r. ⌜ Adding (inSet (f .features)) (now (p .entry)) x first (conjunctsAt (now (p .entry)) k)
         (now (work .entry)) (now (work .exit)) g r ⌝ }
 {
     if k == 0 {
@@ -238,8 +238,7 @@ fn node(
     parent: u32,
     t: Tables,
 ) -> Draft
-    requires { ⌜ (j < stop) × (k ≡ getD (now work) j 0) × (k ≡ 0 → ⊥)
-        × Room (now p) (now work) j stop (t .individuals) (t .constraints) ⌝ }
+    requires { ⌜ Waiting (now p) (now work) j k stop t ⌝ }
     ensures { λ g. ⌜ NodedFrom f (now (p .entry)) j k stop parent t (now (work .entry)) (now (work .exit)) g ⌝ }
 {
     let r = RoleNo(name_of(p, k));

@@ -27,6 +27,10 @@ levels = suc mostDepth
 abbrev pub depthAt : ℕ → ℕ
 depthAt left = levels - left
 
+-- the policy has a header and no more records than it may, and record first is one of them, or 0
+abbrev pub Walkable : List ℕ → ℕ → ℕ → Type 0
+Walkable p left first = (6 ≤ length p) × (lastOf 6 p ≤ mostRecords) × (first ≤ lastOf 6 p) × (left ≤ levels)
+
 -- the words' bits are the records of the list
 pub record Marks (words seen : List ℕ) : Type 0 where
   pub whole : length words ≡ trailWords

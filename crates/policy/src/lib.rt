@@ -15,19 +15,17 @@ use vocabulary::vocabulary_refusal;
 use words::has;
 use words::insert;
 ghost use mathlib.Core.Path.{_≡_};
-ghost use mathlib.Core.Bool.{cond, not};
+ghost use mathlib.Core.Bool.{cond, false, not};
 ghost use Prim.Native.Nat.{_≤_};
 ghost use lib.Dec.{eqb};
 ghost use lib.ListN.{length};
 ghost use Rattle.meaning.specs.Answers.{readingAnswer};
-ghost use Rattle.meaning.specs.Limits.{mostRecords};
 ghost use Rattle.meaning.specs.Operations.{inputRefusal, readPolicy, readSecondPolicy};
 ghost use Rattle.meaning.specs.Policy.{childOf, firstTerm, headedPolicy, hiOf, kindOf, loOf, nameOf, nextOf, policyRefusal};
 ghost use Rattle.meaning.specs.Policy.{recordFits, secondRefusal, soundRecord};
-ghost use Rattle.meaning.specs.Records.{lastOf, orElse};
-ghost use Rattle.meaning.specs.Vocabulary.{vocabularyRefusal};
-ghost use Rattle.policy.specs.Numbers.{numbered};
-ghost use Rattle.policy.specs.Trails.{Follows, depthAt, faultAt, levels};
+ghost use Rattle.meaning.specs.Records.{lastOf};
+ghost use Rattle.policy.specs.Numbers.{refusalOf};
+ghost use Rattle.policy.specs.Trails.{Follows, Walkable, depthAt, faultAt, levels};
 
 pub fn kind_of(p: &[u32], k: u32) -> u32
     ensures { λ r. ⌜ r ≡ kindOf (now (p .entry)) k ⌝ }
@@ -142,7 +140,7 @@ fn fault_at(v: &[u32], p: &[u32], left: u32, k: u32, seen: &[u32]) -> u32
 // The first fault of the walk from record first on, 0 for none; the records reached are marked. It ends, since levels fall into a child
 // chain and links rise along a chain. Only the former is a call: the stack does not grow with a chain's length.
 fn walk_from(v: &[u32], p: &[u32], left: u32, first: u32, seen: &mut [u32]) -> u32
-    requires { ⌜ (6 ≤ length (now p)) × (lastOf 6 (now p) ≤ mostRecords) × (first ≤ lastOf 6 (now p)) × (left ≤ levels) ⌝ }
+    requires { ⌜ Walkable (now p) left first ⌝ }
     ensures { λ r. ⌜ Follows (now (v .entry)) (now (p .entry)) left first (now (seen .entry)) (now (seen .exit)) r ⌝ }
 {
     let mut k = first;
@@ -196,8 +194,7 @@ fn second_refusal(refusal: u32) -> u32
 
 // The vocabulary's first refusal, then that of a policy, which may be the latter of two.
 fn refusal_of(v: &[u32], p: &[u32], latter: bool) -> u32
-    ensures { λ r. ⌜ r ≡ orElse (vocabularyRefusal (now (v .entry)))
-        (numbered latter (policyRefusal (now (v .entry)) (now (p .entry)))) ⌝ }
+    ensures { λ r. ⌜ r ≡ refusalOf latter (now (v .entry)) (now (p .entry)) ⌝ }
 {
     let refusal = vocabulary_refusal(v);
     if refusal != 0 {
@@ -209,7 +206,7 @@ fn refusal_of(v: &[u32], p: &[u32], latter: bool) -> u32
 
 // The first refusal of an operation on one policy: the vocabulary, then the policy.
 pub fn first_refusal(v: &[u32], p: &[u32]) -> u32
-    ensures { λ r. ⌜ r ≡ orElse (vocabularyRefusal (now (v .entry))) (policyRefusal (now (v .entry)) (now (p .entry))) ⌝ }
+    ensures { λ r. ⌜ r ≡ refusalOf false (now (v .entry)) (now (p .entry)) ⌝ }
 {
     refusal_of(v, p, false)
 }

@@ -1,3 +1,4 @@
+-- The laws that the functions' proofs cite; trial cites Callers.
 pub mod Pieces
 pub mod Conjuncts
 pub mod Walks

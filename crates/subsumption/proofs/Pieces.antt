@@ -11,24 +11,22 @@ use Rattle.layout.specs.Tables.{constraintAt, holderAt, pieceAt}
 use Rattle.meaning.specs.Intervals.{isInside}
 use Rattle.meaning.specs.Lists.{any}
 use Rattle.meaning.specs.Subsumption.{includes}
+use Rattle.subsumption.specs.Tests.{isPieceInside}
 
 -- ---- one constraint
 
 module _ (w : List ℕ) (x f lo hi : ℕ) where
-  abbrev pub isPieceInside : ℕ → Bool
-  isPieceInside m = eqb (holderAt w m) x && includes f lo hi (pieceAt w m)
-
   module _ (m : ℕ) {y : ℕ} (ey : y ≡ holderAt w m) where
-    pub of-another : (y ≡ x → ⊥) → false ≡ isPieceInside m
+    pub of-another : (y ≡ x → ⊥) → false ≡ isPieceInside w x f lo hi m
     of-another h = rw (ne-eqb (holderAt w m) x (λ e. h (ey ∙ e)))
 
     module _ (own : y ≡ x) {g : ℕ} (eg : g ≡ constraintAt w m .feature) where
-      pub other-feature : (g ≡ f → ⊥) → false ≡ isPieceInside m
+      pub other-feature : (g ≡ f → ⊥) → false ≡ isPieceInside w x f lo hi m
       unfolding constraintAt pieceAt
       other-feature h = rw (eq-eqb (holderAt w m) x (sym ey ∙ own), ne-eqb f (constraintAt w m .feature) (λ e. h (eg ∙ sym e)))
 
       pub by-ends : g ≡ f → {low high : ℕ} {t : Bool} → low ≡ pieceAt w m .lo → high ≡ pieceAt w m .hi → t ≡ isInside lo hi low high →
-          t ≡ isPieceInside m
+          t ≡ isPieceInside w x f lo hi m
       unfolding constraintAt pieceAt
       by-ends e el eh h = h ∙ rw (eq-eqb (holderAt w m) x (sym ey ∙ own), eq-eqb f (constraintAt w m .feature) (sym e ∙ eg), el, eh)
 
@@ -42,7 +40,7 @@ module _ (w : List ℕ) (x f lo hi : ℕ) where
   some-starts n = let e : n - 0 ≡ n = omega arith in rw e
 
   module _ (n m : ℕ) where
-    some-step : m < n → someFrom (n - m) m ≡ isPieceInside m || someFrom (n - (m + 1)) (m + 1)
+    some-step : m < n → someFrom (n - m) m ≡ isPieceInside w x f lo hi m || someFrom (n - (m + 1)) (m + 1)
     unfolding piecesFrom
     some-step h =
         let e : n - m ≡ suc (n - (m + 1)) = omega arith in
@@ -59,7 +57,7 @@ module _ (w : List ℕ) (x f lo hi : ℕ) where
       unfolding piecesFrom
       some-ends h = let e : n - m ≡ 0 = omega arith in sym (so ∙ rw e)
 
-      module _ {b : Bool} (more : m < n) (told : b ≡ isPieceInside m) where
+      module _ {b : Bool} (more : m < n) (told : b ≡ isPieceInside w x f lo hi m) where
         pub some-found : b ≡ true → true ≡ any (includes f lo hi) (piecesOf w n x)
         some-found h = sym (so ∙ some-step more ∙ rw (sym told ∙ h))
 

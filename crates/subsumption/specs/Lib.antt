@@ -1,1 +1,2 @@
+-- What the structural test asks and tells.
 pub mod Tests

@@ -1,17 +1,22 @@
 -- What the structural test asks of its caller, and tells of every combination that the tables hold.
 use Prim.Native.Nat.{_≤_, suc, ℕ}
-use mathlib.Core.Bool.{Bool}
+use mathlib.Core.Bool.{Bool, _&&_}
 use mathlib.Core.List.{List}
 use mathlib.Core.Path.{_≡_}
+use lib.Dec.{eqb}
 use Rattle.layout.specs.Combination.{Individual, Kin}
-use Rattle.layout.specs.Tables.{Standing}
+use Rattle.layout.specs.Tables.{Standing, holderAt, pieceAt}
 use Rattle.layout.specs.declared.Tables.{Tables}
 use Rattle.meaning.specs.Accepted.{Reads, depth}
 use Rattle.meaning.specs.NormalForm.{Node, Successors}
 use Rattle.meaning.specs.Policy.{Chain}
-use Rattle.meaning.specs.Subsumption.{anySuccessor, subsumed}
+use Rattle.meaning.specs.Subsumption.{anySuccessor, includes, subsumed}
 use Rattle.meaning.specs.Vocabulary.{Vocabulary}
 use Rattle.policy.specs.Terms.{conjunctOf, conjunctsAt}
+
+-- constraint m is of individual x and feature f, and its piece lies from lo to hi
+abbrev pub isPieceInside : List ℕ → ℕ → ℕ → ℕ → ℕ → ℕ → Bool
+isPieceInside w x f lo hi m = eqb (holderAt w m) x && includes f lo hi (pieceAt w m)
 
 -- the tables fit, and the records from k on are a chain of no more levels than are left
 pub record Testable (q w : List ℕ) (t : Tables) (left k : ℕ) : Type 0 where

@@ -18,24 +18,18 @@ use policy::lo_of;
 use policy::name_of;
 use policy::next_of;
 use words::place;
-ghost use mathlib.Core.Bool.{_&&_};
 ghost use mathlib.Core.Path.{_≡_};
 ghost use Prim.Native.Nat.{_-_, _≤_};
-ghost use lib.Dec.{eqb};
-ghost use lib.ListN.{length};
 ghost use Rattle.layout.specs.Combination.{piecesOf};
-ghost use Rattle.layout.specs.Places.{tablesEnd};
-ghost use Rattle.layout.specs.Tables.{HasEntry, holderAt, pieceAt};
-ghost use Rattle.meaning.specs.Limits.{mostRecords};
+ghost use Rattle.layout.specs.Tables.{HasEntries, HasEntry};
 ghost use Rattle.meaning.specs.Lists.{any};
 ghost use Rattle.meaning.specs.Subsumption.{includes};
-ghost use Rattle.subsumption.specs.Tests.{DecidesAll, DecidesOne, DecidesSome, Testable};
+ghost use Rattle.subsumption.specs.Tests.{DecidesAll, DecidesOne, DecidesSome, Testable, isPieceInside};
 
 // Whether constraint m is of individual x and feature f and its piece lies from lo to hi.
 fn is_piece_inside(work: &[u32], m: usize, x: u32, f: FeatureNo, lo: u32, hi: u32) -> bool
     requires { ⌜ HasEntry m (now work) ⌝ }
-    ensures { λ r. ⌜ r ≡ (eqb (holderAt (now (work .entry)) m) x
-        && includes (f .0) lo hi (pieceAt (now (work .entry)) m)) ⌝ }
+    ensures { λ r. ⌜ r ≡ isPieceInside (now (work .entry)) x (f .0) lo hi m ⌝ }
 {
     if holder_of(work, m) != x {
         return false;
@@ -49,7 +43,7 @@ fn is_piece_inside(work: &[u32], m: usize, x: u32, f: FeatureNo, lo: u32, hi: u3
 
 // Line 4: some piece of individual x, of n constraints.
 fn has_piece(work: &[u32], n: usize, x: u32, f: FeatureNo, lo: u32, hi: u32) -> bool
-    requires { ⌜ (n ≤ mostRecords) × (tablesEnd ≤ length (now work)) ⌝ }
+    requires { ⌜ HasEntries n (now work) ⌝ }
     ensures { λ r. ⌜ r ≡ any (includes (f .0) lo hi) (piecesOf (now (work .entry)) n x) ⌝ }
 {
     for m in 0..n {

@@ -9,12 +9,9 @@ use normal_form::normalise;
 use pairs::is_compatible;
 use words::place;
 ghost use Prim.Native.Nat.{_≤_};
-ghost use mathlib.Core.Bool.{_&&_};
 ghost use mathlib.Core.Path.{_≡_};
-ghost use lib.ListN.{length};
-ghost use Rattle.layout.specs.Places.{mostPairs, tablesEnd};
-ghost use Rattle.layout.specs.Tables.{Standing, setAt};
-ghost use Rattle.meaning.specs.Limits.{mostRecords};
+ghost use Rattle.layout.specs.Places.{mostPairs};
+ghost use Rattle.layout.specs.Tables.{HasEntries, Standing, setAt};
 ghost use Rattle.meaning.specs.Lists.{all, counting};
 ghost use Rattle.meaning.specs.Policy.{termAt};
 ghost use Rattle.normal_form.specs.Tables.{Fit};
@@ -24,7 +21,7 @@ ghost use Rattle.tabulation.specs.Tabulation.{Shaped, Tabulated};
 
 // Rule 7 at each of the first n individuals.
 fn are_compatible(work: &[u32], n: u32) -> bool
-    requires { ⌜ (pairCount (now work) ≤ mostPairs) × (n ≤ mostRecords) × (tablesEnd ≤ length (now work)) ⌝ }
+    requires { ⌜ (pairCount (now work) ≤ mostPairs) × HasEntries n (now work) ⌝ }
     ensures { λ r. ⌜ r ≡ all (λ i. agreeIn (now (work .entry)) (setAt (now (work .entry)) i)) (counting 0 n) ⌝ }
 {
     for i in 0..n {
@@ -38,7 +35,7 @@ fn are_compatible(work: &[u32], n: u32) -> bool
 
 // Rule 3 at each of the first n constraints.
 pub fn are_nonempty(work: &[u32], n: usize) -> bool
-    requires { ⌜ (n ≤ mostRecords) × (tablesEnd ≤ length (now work)) ⌝ }
+    requires { ⌜ HasEntries n (now work) ⌝ }
     ensures { λ r. ⌜ r ≡ all (nonEmptyAt (now (work .entry))) (counting 0 n) ⌝ }
 {
     for i in 0..n {

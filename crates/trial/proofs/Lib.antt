@@ -1,3 +1,4 @@
+-- The laws that the functions' proofs cite.
 pub mod Passing
 pub mod Whole
 pub mod Trying

@@ -1,1 +1,2 @@
+-- What a trial asks and tells.
 pub mod Trials

@@ -3,16 +3,13 @@
 use meaning::ClassNo;
 use meaning::limits::MOST_CLASSES;
 ghost use mathlib.Core.Path.{_≡_};
-ghost use mathlib.Core.Bool.{_||_, cond, false, true};
+ghost use mathlib.Core.Bool.{_||_, false, true};
 ghost use mathlib.Core.Logic.{_↔_};
 ghost use Prim.Native.Nat.{_+_, _<_, _^_, _≤_, ℕ};
-ghost use lib.Dec.{eqb};
 ghost use lib.ListN.{length, replicate};
 ghost use Rattle.frames.specs.Rows.{putAt, rowAt};
-ghost use Rattle.meaning.specs.Limits.{mostClasses};
-ghost use Rattle.meaning.specs.Records.{isName};
 ghost use Rattle.words.specs.Members.{members, nextMember};
-ghost use Rattle.words.specs.Rows.{classWords};
+ghost use Rattle.words.specs.Rows.{ContainsAlso, classWords};
 ghost use Rattle.words.specs.Sets.{capacity, inSet, including, unionOf};
 
 // A number as a place in a slice: a cast of an element read asks that the element fits, and this call does not.
@@ -109,7 +106,7 @@ impl ClassSet {
     // The set with class c.
     pub fn with(self, c: ClassNo) -> Self
         ensures { λ r. ⌜ r .words ≡ including (self .words) (c .0) ⌝ }
-        ensures { λ r. ⌜ ((d : ℕ) → inSet (r .words) d ≡ cond (eqb d (c .0)) (isName mostClasses d) (inSet (self .words) d)) ⌝ }
+        ensures { λ r. ⌜ ContainsAlso (self .words) (c .0) (r .words) ⌝ }
     {
         let mut words = self.words;
         insert(&mut words, c.0);

@@ -24,20 +24,20 @@ put-requires : tie.Need-put-requires Inv-loop μ-loop
 put-requires c κs =
     let s = c .before .before .before .before .before .before .before .before in
     let l = c .before .before .before .loop in
-    turn-room (l .inv) (s .pre .3) _ _ (edges-more (s .args .work .now) (s .args .x) (s .args .n) (l .j) _ (c .before .before .loop-test .taken) refl)
+    turn-room (l .inv) (s .pre .2) _ _ (edges-more (s .args .work .now) (s .args .x) (s .args .n) (l .j) _ (c .before .before .loop-test .taken) refl)
 
 loop-less : tie.Need-loop-less Inv-loop μ-loop
 loop-less c =
     let s = c .before .before .before .before .before .before .before .before .before .before .before .before in
     let l = c .before .before .before .before .before .before .before .loop in
-    turn-less (l .inv) (s .pre .3) _ _
+    turn-less (l .inv) (s .pre .2) _ _
     (edges-more (s .args .work .now) (s .args .x) (s .args .n) (l .j) _ (c .before .before .before .before .before .before .loop-test .taken) (c .next-successor2 .ensures))
 
 loop-again : tie.Need-loop-again Inv-loop μ-loop
 loop-again c =
     let s = c .before .before .before .before .before .before .before .before .before .before .before .before in
     let l = c .before .before .before .before .before .before .before .loop in
-    turn-more (l .inv) (s .pre .3) _ _
+    turn-more (l .inv) (s .pre .2) _ _
     (edges-more (s .args .work .now) (s .args .x) (s .args .n) (l .j) _ (c .before .before .before .before .before .before .loop-test .taken) (c .next-successor2 .ensures))
     _ (rw (c .before .before .before .before .before .role-of .ensures) at (c .before .before .before .put .ensures))
 

@@ -18,7 +18,6 @@ write-values-requires c κs =
     let s = c .before .before .before .before .before .before .before in
     let a = c .before .before .before .write-classes .ensures in (
       search needs,
-      search needs,
       record {
         room = room-same (a .same) (s .pre .2 .room);
         within = omega (arith, a .count, s .pre .2 .within, row-length (s .args .work .now) (s .args .t) (s .args .i));
@@ -31,7 +30,6 @@ write-edges-requires c κs =
     let a = c .before .before .before .before .before .before .before .before .write-classes .ensures in
     let b = c .before .before .before .before .write-values .ensures in
     rw (c .before .place .ensures) (
-      search needs,
       search needs,
       search needs,
       record {

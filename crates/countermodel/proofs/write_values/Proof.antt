@@ -25,13 +25,13 @@ put-requires : tie.Need-put-requires Inv-loop μ-loop
 put-requires c κs =
     let s = c .before .before .before .before .before .before .before .before in
     let l = c .before .before .before .before .loop in
-    turn-room (l .inv) (s .pre .2) _ _ (values-here (s .args .work .now) (s .args .n) (s .args .x) (l .m) (c .before .before .before .loop-test .taken))
+    turn-room (l .inv) (s .pre .1) _ _ (values-here (s .args .work .now) (s .args .n) (s .args .x) (l .m) (c .before .before .before .loop-test .taken))
 
 loop-less : tie.Need-loop-less Inv-loop μ-loop
 loop-less c =
     let s = c .before .before .before .before .before .before .before .before .before .before .before .before in
     let l = c .before .before .before .before .before .before .before .before .loop in
-    turn-less (l .inv) (s .pre .2) _ _
+    turn-less (l .inv) (s .pre .1) _ _
     (values-more (s .args .work .now) (s .args .n) (s .args .x) (l .m) _ (c .before .before .before .before .before .before .before .loop-test .taken) (c .next-pair2 .ensures .1))
 
 loop-again : tie.Need-loop-again Inv-loop μ-loop
@@ -39,7 +39,7 @@ unfolding constraintAt pieceAt valueOf
 loop-again c =
     let s = c .before .before .before .before .before .before .before .before .before .before .before .before in
     let l = c .before .before .before .before .before .before .before .before .loop in
-    turn-more (l .inv) (s .pre .2) _ _
+    turn-more (l .inv) (s .pre .1) _ _
     (values-more (s .args .work .now) (s .args .n) (s .args .x) (l .m) _ (c .before .before .before .before .before .before .before .loop-test .taken) (c .next-pair2 .ensures .1))
     _ (let v = c .before .before .before .before .before in rw (v .before .feature-of .ensures, v .piece-hi .ensures) at (c .before .before .before .put .ensures))
 

@@ -6,8 +6,9 @@ use mathlib.Core.Path.{_∙_, _≡_, ap, refl}
 use lib.ListN.{length}
 use native.Mathlib.Omega.{arith}
 use borrow.Author.Needs.{needs}
-use Rattle.decision.proofs.Deciding.{Undecided, delivers-compliant, term-fails, term-few, term-only, term-passes, term-standing}
-use Rattle.decision.proofs.Deciding.{term-triable, undecided-starts}
+use Rattle.decision.proofs.Policies.{Undecided, delivers-compliant, term-fails, term-few, term-only, term-passes, term-standing}
+use Rattle.decision.proofs.Policies.{undecided-starts}
+use Rattle.decision.proofs.Terms.{term-triable}
 use Rattle.decision.proofs.decide.Statement.{statement}
 use Rattle.decision.specs.Decisions.{Countable}
 use Rattle.frames.proofs.Frames.{only-none, only-then}

@@ -1,4 +1,4 @@
-use Rattle.decision.proofs.Deciding.{failed-impossible, failed-tried}
+use Rattle.decision.proofs.Terms.{failed-impossible, failed-tried}
 use Rattle.decision.proofs.failure_of.Statement.{statement}
 use Rattle.decision.proofs.failure_of.Tie as tie
 

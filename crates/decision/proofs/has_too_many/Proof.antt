@@ -5,7 +5,7 @@ use mathlib.Core.List.{List}
 use mathlib.Core.Path.{_∙_}
 use native.Mathlib.Omega.{arith}
 use borrow.Author.Needs.{needs}
-use Rattle.decision.proofs.Deciding.{Uncounted, uncounted-ends, uncounted-found, uncounted-on, uncounted-starts}
+use Rattle.decision.proofs.Terms.{Uncounted, uncounted-ends, uncounted-found, uncounted-on, uncounted-starts}
 use Rattle.decision.proofs.has_too_many.Statement.{statement}
 use Rattle.frames.proofs.Frames.{only-none, only-then}
 use Rattle.frames.specs.Frames.{Only}

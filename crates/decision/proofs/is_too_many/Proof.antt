@@ -1,7 +1,7 @@
 use native.Mathlib.Omega.{arith}
 use borrow.Author.Needs.{needs}
 use borrow.Author.Tests.{not-true}
-use Rattle.decision.proofs.Deciding.{shape-few, shape-impossible, shape-many, shape-splittable, shape-within}
+use Rattle.decision.proofs.Terms.{shape-few, shape-impossible, shape-many, shape-splittable, shape-within}
 use Rattle.decision.proofs.is_too_many.Statement.{statement}
 use Rattle.tabulation.proofs.Laws.{pairs-still}
 use Rattle.decision.proofs.is_too_many.Tie as tie

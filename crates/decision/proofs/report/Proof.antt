@@ -1,7 +1,7 @@
 use mathlib.Core.Path.{refl}
 use native.Mathlib.Omega.{arith}
 use Rattle.countermodel.proofs.Sizes.{records-most}
-use Rattle.decision.proofs.Deciding.{countermodel-length, reports-23, reports-words}
+use Rattle.decision.proofs.Policies.{countermodel-length, reports-23, reports-words}
 use Rattle.decision.proofs.report.Statement.{statement}
 use Rattle.meaning.specs.Countermodel.{countermodel}
 use Rattle.decision.proofs.report.Tie as tie

@@ -5,8 +5,9 @@ use borrow.Fn.Kinds.{In}
 use borrow.Fn.PlainCycle.{Measures, and, falls, is}
 use Rattle.normal_form.proofs.+chain.{statement}
 use Rattle.normal_form.proofs.+chain.Tie.{close}
-use Rattle.normal_form.proofs.Chains.{chain-done, chain-step, next-falls, next-good, next-ready}
-use Rattle.normal_form.specs.Parts.{chainAt, conjuncts}
+use Rattle.normal_form.proofs.Conjuncts.{chain-done, chain-step, next-falls, next-good, next-ready}
+use Rattle.normal_form.specs.Parts.{conjuncts}
+use Rattle.policy.specs.Terms.{conjunctsAt}
 use Rattle.words.specs.Sets.{inSet}
 use Rattle.normal_form.proofs.chain.Reads as chain
 use Rattle.normal_form.proofs.chain.Kinds as chain-kinds
@@ -15,7 +16,7 @@ use Rattle.normal_form.proofs.conjunct.Reads as conjunct-reads
 use Rattle.policy.proofs.next_of.Reads as next-of-reads
 
 abbrev μ-chain : Measures 2 chain-kinds.ps ℕ
-μ-chain κs a = conjuncts (chainAt (a .0 .now) (a .1 .1 .1 .0))
+μ-chain κs a = conjuncts (conjunctsAt (a .0 .now) (a .1 .1 .1 .0))
 
 abbrev chain-at : ℕ → In 2 chain-kinds.ps
 chain-at t = and 2 chain-kinds.ps (is 2 chain-kinds.ps μ-chain t) chain.Pre

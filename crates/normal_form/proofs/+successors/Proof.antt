@@ -5,8 +5,8 @@ use borrow.Fn.Kinds.{In}
 use borrow.Fn.PlainCycle.{Measures, and, falls, is}
 use Rattle.normal_form.proofs.+successors.{statement}
 use Rattle.normal_form.proofs.+successors.Tie.{close}
-use Rattle.normal_form.proofs.Nodes.{built-end, child-falls, child-room, few, less, next-falls, next-room, node-built}
-use Rattle.normal_form.proofs.Nodes.{skip-built, skip-falls, skip-room, undone}
+use Rattle.normal_form.proofs.Building.{built-end, child-falls, child-room, few, less, next-falls, next-room, node-built}
+use Rattle.normal_form.proofs.Building.{skip-built, skip-falls, skip-room, undone}
 use Rattle.normal_form.proofs.successors.Reads as successors
 use Rattle.normal_form.proofs.successors.Kinds as successors-kinds
 use Rattle.normal_form.proofs.+successors.Lts-successors as successors-lts

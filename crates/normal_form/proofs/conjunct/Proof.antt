@@ -1,7 +1,7 @@
 use borrow.Author.Needs.{needs}
 use mathlib.Core.Path.{refl}
 use native.Mathlib.Omega.{arith}
-use Rattle.normal_form.proofs.Chains.{class-place, conj-bar, conj-class, conj-interval, conj-role, interval-room, role-room}
+use Rattle.normal_form.proofs.Conjuncts.{class-place, conj-bar, conj-class, conj-interval, conj-role, interval-room, role-room}
 use Rattle.normal_form.proofs.conjunct.Statement.{statement}
 use Rattle.words.specs.Sets.{inSet}
 use Rattle.normal_form.proofs.conjunct.Tie as tie

@@ -1,5 +1,5 @@
 use borrow.Author.Needs.{needs}
-use Rattle.normal_form.proofs.Chains.{join-told}
+use Rattle.normal_form.proofs.Conjuncts.{join-told}
 use Rattle.normal_form.proofs.does_join.Statement.{statement}
 use Rattle.words.specs.Sets.{inSet}
 use Rattle.normal_form.proofs.does_join.Tie as tie

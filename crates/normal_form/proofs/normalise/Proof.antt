@@ -1,7 +1,7 @@
 use borrow.Author.Needs.{needs}
 use mathlib.Core.Path.{_∙_}
 use lib.ListN.{length-set}
-use Rattle.normal_form.proofs.Nodes.{normalised, root-room}
+use Rattle.normal_form.proofs.Forms.{normalised, root-room}
 use Rattle.normal_form.proofs.normalise.Statement.{statement}
 use Rattle.normal_form.proofs.normalise.Tie as tie
 

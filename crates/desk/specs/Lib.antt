@@ -1,0 +1,2 @@
+-- What the program lends.
+pub mod Buffers
