@@ -8,11 +8,13 @@ use lib.ListN.{length, set}
 use native.Mathlib.Omega.{arith}
 use Rattle.closure.specs.Rows.{rowOf}
 use Rattle.layout.specs.Places.{individualsAt}
+use Rattle.meaning.proofs.Links.{falls}
 use Rattle.meaning.proofs.Terms.{chain-at}
 use Rattle.meaning.specs.Accepted.{Reads, reads-class, reads-end, reads-impossible, reads-interval, reads-some}
 use Rattle.meaning.specs.Limits.{mostRecords}
-use Rattle.meaning.specs.Policy.{Chain, end, hiOf, impossible, kindOf, loOf, nameOf, nextOf, some}
-use Rattle.normal_form.specs.Parts.{armAt, bottomHere, classesIn, conjuncts, intervalCount, intervalsIn, joins}
+use Rattle.meaning.specs.Policy.{Chain, end, hiOf, kindOf, loOf, nameOf, nextOf, some}
+use Rattle.meaning.specs.Records.{falling, lastOf}
+use Rattle.normal_form.specs.Parts.{armAt, bottomHere, classesIn, intervalCount, intervalsIn, joins}
 use Rattle.policy.specs.Terms.{conjunctOf, conjunctsAt}
 use Rattle.normal_form.specs.Parts.{roles}
 use Rattle.normal_form.specs.Steps.{Adding, Adds, Good, HasRoomFor, Placed}
@@ -20,7 +22,7 @@ use Rattle.normal_form.specs.declared.Draft.{Draft}
 use Rattle.words.specs.Rows.{classWords}
 use Rattle.words.specs.Sets.{inSet}
 use Rattle.normal_form.proofs.Adding.{add-bar, add-class, add-interval, add-none, add-role, adds-then}
-use Rattle.normal_form.proofs.Chains.{Cut, chain-end, cut, head-class, head-impossible, head-interval, head-some}
+use Rattle.normal_form.proofs.Chains.{Cut, cut, head-class, head-impossible, head-interval, head-some}
 
 -- ---- one conjunct
 
@@ -80,42 +82,51 @@ module _ (one : ℕ → Bool) (p : List ℕ) (x m k : ℕ) (w : List ℕ) (g : D
 
 -- ---- the conjuncts, one after another
 
-pub chain-done : (one : ℕ → Bool) (p : List ℕ) (x m k : ℕ) (w : List ℕ) (g : Draft) → k ≡ 0 → Adding one p x m (conjunctsAt p k) w w g g
-chain-done one p x m k w g e = subst (λ (y : Chain). Adding one p x m y w w g g) (sym (chain-end p k e)) (add-none p x m w g 0 0)
+-- those before record k have been added: what is added from there on is added from record first on
+pub record Going (one : ℕ → Bool) (p : List ℕ) (x m first : ℕ) (w₀ : List ℕ) (g₀ : Draft) (k : ℕ) (w : List ℕ) (g : Draft) : Type 0 where
+  pub good : Good p k
+  pub room : HasRoomFor w m g (conjunctsAt p k)
+  pub size : length w ≡ length w₀
+  pub whole : {w′ : List ℕ} {g′ : Draft} → Adding one p x m (conjunctsAt p k) w w′ g g′ → Adding one p x m (conjunctsAt p first) w₀ w′ g₀ g′
 
--- a record, and then its next, which is y
-module _ (one : ℕ → Bool) (p : List ℕ) (x m k : ℕ) (w : List ℕ) (g : Draft) (z : k ≡ 0 → ⊥) (r : Good p k) {y : ℕ} (e : y ≡ nextOf p k) where
-  pub next-good : Good p y
-  next-good = rw e (cut p k z (r .reads) (r .named) .next)
+pub chain-starts : {one : ℕ → Bool} {p : List ℕ} {x m k : ℕ} {w : List ℕ} {g : Draft} → Good p k → HasRoomFor w m g (conjunctsAt p k) → Going one p x m k w g k w g
+chain-starts r d = record { good = r; room = d; size = refl; whole = λ a. a }
 
-  pub next-falls : {t : ℕ} → conjuncts (conjunctsAt p k) ≡ t → conjuncts (conjunctsAt p y) < t
-  next-falls q = rw (e, ← q) (cut p k z (r .reads) (r .named) .less)
+module _ {one : ℕ → Bool} {p : List ℕ} {x m first : ℕ} {w₀ : List ℕ} {g₀ : Draft} {k : ℕ} {w : List ℕ} {g : Draft} (s : Going one p x m first w₀ g₀ k w g) where
+  pub chain-ends : k ≡ 0 → Adding one p x m (conjunctsAt p first) w₀ w g₀ g
+  chain-ends e = let r : Reads p k end = reads-end e in s .whole (rw (chain-at r) (add-none p x m w g 0 0))
 
-  module _ {w′ : List ℕ} {g′ : Draft} (s : Adding one p x m (conjunctOf p k) w w′ g g′) where
-    pub next-ready : HasRoomFor w m g (conjunctsAt p k) → HasRoomFor w′ m g′ (conjunctsAt p y)
-    next-ready d = rw e (go (cut p k z (r .reads) (r .named)))
-      where
-        go : Cut p k (conjunctsAt p k) → HasRoomFor w′ m g′ (conjunctsAt p (nextOf p k))
-        go u =
-            record { long = omega arith; low = omega arith; pending = omega arith; first = omega arith; constraints = omega arith }
+  module _ (z : k ≡ 0 → ⊥) {y : ℕ} (e : y ≡ nextOf p k) where
+    here : Cut p k (conjunctsAt p k)
+    here = cut p k z (s .good .reads) (s .good .named)
 
-    pub chain-step : {w″ : List ℕ} {g″ : Draft} → Adding one p x m (conjunctsAt p y) w′ w″ g′ g″ → Adding one p x m (conjunctsAt p k) w w″ g g″
-    chain-step {w″} {g″} t = go (r .reads)
-      where
-        t′ : Adding one p x m (conjunctsAt p (nextOf p k)) w′ w″ g′ g″
-        t′ = subst (λ (i : ℕ). Adding one p x m (conjunctsAt p i) w′ w″ g′ g″) e t
+    pub chain-falls : falling (lastOf 6 p) y < falling (lastOf 6 p) k
+    chain-falls = let h = here .here in rw e (falls (lastOf 6 p) k (nextOf p k) (h .inside) (h .next))
 
-        join : (h d : Chain) → conjunctOf p k ≡ h → conjunctsAt p (nextOf p k) ≡ d → (n : ℕ) (c : Bool) → n ≡ intervalCount h + intervalCount d → c ≡ bottomHere h || bottomHere d →
-            Adds p x 0 0 m (λ cs. classesIn d (classesIn h cs)) (roles h ++ roles d) (λ l. intervalsIn one d (intervalsIn one h l)) n c w w″ g g″
-        join h d eh ed n c en ec =
-            adds-then p x 0 0 m n c en ec (omega arith) (subst (λ (y : Chain). Adding one p x m y w w′ g g′) eh s) (subst (λ (y : Chain). Adding one p x m y w′ w″ g′ g″) ed t′)
+    -- record k's has been added
+    module _ {w′ : List ℕ} {g′ : Draft} (a : Adding one p x m (conjunctOf p k) w w′ g g′) where
+      then : {w″ : List ℕ} {g″ : Draft} → Adding one p x m (conjunctsAt p (nextOf p k)) w′ w″ g′ g″ → Adding one p x m (conjunctsAt p k) w w″ g g″
+      then {w″} {g″} t = go (s .good .reads)
+        where
+          join : (h d : Chain) → conjunctOf p k ≡ h → conjunctsAt p (nextOf p k) ≡ d → (n : ℕ) (c : Bool) → n ≡ intervalCount h + intervalCount d → c ≡ bottomHere h || bottomHere d →
+              Adds p x 0 0 m (λ cs. classesIn d (classesIn h cs)) (roles h ++ roles d) (λ l. intervalsIn one d (intervalsIn one h l)) n c w w″ g g″
+          join h d eh ed n c en ec =
+              adds-then p x 0 0 m n c en ec (omega arith) (subst (λ (y : Chain). Adding one p x m y w w′ g g′) eh a) (subst (λ (y : Chain). Adding one p x m y w′ w″ g′ g″) ed t)
 
-        go : {c : Chain} → Reads p k c → Adding one p x m c w w″ g g″
-        go (reads-end i) = absurd (z i)
-        go (reads-class h i n) = join _ _ (head-class p k i) (chain-at n) _ _ (omega arith) refl
-        go (reads-impossible h i n) = join _ _ (head-impossible p k i) (chain-at n) _ _ (omega arith) refl
-        go (reads-some h i q n) = join _ _ (head-some p k i ∙ ap (λ (y : Chain). some (nameOf p k) y end) (chain-at q)) (chain-at n) _ _ (omega arith) refl
-        go (reads-interval h i n) = join _ _ (head-interval p k i) (chain-at n) _ _ (omega arith) refl
+          go : {c : Chain} → Reads p k c → Adding one p x m c w w″ g g″
+          go (reads-end i) = absurd (z i)
+          go (reads-class h i n) = join _ _ (head-class p k i) (chain-at n) _ _ (omega arith) refl
+          go (reads-impossible h i n) = join _ _ (head-impossible p k i) (chain-at n) _ _ (omega arith) refl
+          go (reads-some h i q n) = join _ _ (head-some p k i ∙ ap (λ (y : Chain). some (nameOf p k) y end) (chain-at q)) (chain-at n) _ _ (omega arith) refl
+          go (reads-interval h i n) = join _ _ (head-interval p k i) (chain-at n) _ _ (omega arith) refl
+
+      pub chain-on : Going one p x m first w₀ g₀ y w′ g′
+      chain-on = let u = here in let d = s .room in rw e (record {
+        good = u .next;
+        room = record { long = omega arith; low = omega arith; pending = omega arith; first = omega arith; constraints = omega arith };
+        size = a .only .size ∙ s .size;
+        whole = λ t. s .whole (then t);
+      })
 
 -- ---- whether a record joins a role
 

@@ -49,20 +49,13 @@ bottomHere (impossible next) = true
 bottomHere (some r child next) = bottomHere next
 bottomHere (interval f lo hi next) = bottomHere next
 
--- how many constraints, and how many conjuncts
+-- how many constraints
 abbrev pub intervalCount : Chain → ℕ
 intervalCount end = 0
 intervalCount (class a next) = intervalCount next
 intervalCount (impossible next) = intervalCount next
 intervalCount (some r child next) = intervalCount next
 intervalCount (interval f lo hi next) = suc (intervalCount next)
-
-abbrev pub conjuncts : Chain → ℕ
-conjuncts end = 0
-conjuncts (class a next) = suc (conjuncts next)
-conjuncts (impossible next) = suc (conjuncts next)
-conjuncts (some r child next) = suc (conjuncts next)
-conjuncts (interval f lo hi next) = suc (conjuncts next)
 
 -- the classes, constraints, roles and numbers of the arms that go to one individual
 abbrev pub classesAll : List Arm → List ℕ → List ℕ

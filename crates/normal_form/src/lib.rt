@@ -181,11 +181,13 @@ fn chain(
     ensures { λ r. ⌜ Adding (inSet (f .features)) (now (p .entry)) x first (conjunctsAt (now (p .entry)) k)
         (now (work .entry)) (now (work .exit)) g r ⌝ }
 {
-    if k == 0 {
-        return g;
+    let mut at = k;
+    let mut h = g;
+    while at != 0 {
+        h = conjunct(p, work, f, at, x, first, h);
+        at = next_of(p, at);
     }
-    let h = conjunct(p, work, f, k, x, first, g);
-    chain(p, work, f, next_of(p, k), x, first, h)
+    h
 }
 
 // Whether record k's role is r and functional: then it reaches the individual that another record of r has made.
