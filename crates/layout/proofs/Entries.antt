@@ -185,10 +185,6 @@ tabled-kept K t w w′ r most same f g s =
       held = constraints-same w w′ 0 (heldIn t) (λ n p q. g n (omega arith)) (s .held);
     }
 
--- where the row's number was computed
-pub put-at : {y n i r : ℕ} {s w w′ : List ℕ} → y ≡ n → IndividualPut y i r s w w′ → IndividualPut n i r s w w′
-put-at {i = i} {r = r} {s = s} {w = w} {w′ = w′} e u = subst (λ (k : ℕ). IndividualPut k i r s w w′) e u
-
 -- ---- a piece that a change leaves
 
 pub piece-same : (w w′ : List ℕ) (m : ℕ) → Same w w′ (constraintPlace m) (constraintPlace (suc m)) → pieceAt w′ m ≡ pieceAt w m

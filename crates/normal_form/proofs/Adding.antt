@@ -15,16 +15,15 @@ use Rattle.layout.specs.Places.{individualsAt, pendingAt, rowPlace, tablesEnd}
 use Rattle.layout.specs.Tables.{heldBy, intervalOf}
 use Rattle.meaning.proofs.Rules.{all-append}
 use Rattle.meaning.specs.Intervals.{Constraint}
-use Rattle.meaning.specs.Limits.{mostClasses}
+use Rattle.meaning.specs.Limits.{mostClasses, mostRecords}
 use Rattle.meaning.specs.Lists.{any, cons, nil}
 use Rattle.meaning.specs.NormalForm.{placeConstraint}
-use Rattle.meaning.specs.Policy.{impossible}
 use Rattle.meaning.specs.Records.{Name}
-use Rattle.normal_form.proofs.Laws.{fresh-in, front-kept, front-row, in-tables, live-append, none-struck, word-same, words-append}
+use Rattle.normal_form.proofs.Laws.{fresh-in, front-kept, front-row, in-tables, live-append, word-same, words-append}
 use Rattle.normal_form.proofs.Laws.{words-eq, words-kept}
 use Rattle.normal_form.specs.Parts.{Arm, armAt}
 use Rattle.normal_form.specs.Parts.{live, wordsAt}
-use Rattle.normal_form.specs.Steps.{Adds, Entry, Placed, Sure, Told, constrained, front, pended}
+use Rattle.normal_form.specs.Steps.{Adds, Entry, Fresh, Placed, Sure, Told, constrained, front, pended}
 use Rattle.normal_form.specs.declared.Draft.{Draft}
 use Rattle.words.specs.Sets.{inSet}
 
@@ -161,9 +160,9 @@ module _ (p : List ℕ) (x j e m : ℕ) {fc fd : List ℕ → List ℕ} {rs qs :
           ∙ ap (λ (l : List ℕ). wordsAt w′ (g .pending) (length rs) ++ l) (words-eq w″ {n = length qs} (sym (s .pending)) refl)
 
 -- as an addition that keeps less
-pub adds-less : (p : List ℕ) (x j e m : ℕ) {fc : List ℕ → List ℕ} {rs : List Arm} {fs : List Constraint → List Constraint} {ns : ℕ} {b : Bool} {w w′ : List ℕ} {g g′ : Draft} →
-    j ≤ g .pending → Adds p x 0 0 m fc rs fs ns b w w′ g g′ → Adds p x j e m fc rs fs ns b w w′ g g′
-adds-less p x j e m h s = record {
+pub adds-wider : {p : List ℕ} {x j e j′ e′ m : ℕ} {fc : List ℕ → List ℕ} {rs : List Arm} {fs : List Constraint → List Constraint} {ns : ℕ} {b : Bool} {w w′ : List ℕ} {g g′ : Draft} →
+    ((i : ℕ) → Fresh j e (g .pending) mostRecords m i → Fresh j′ e′ (g .pending) mostRecords m i) → Adds p x j e m fc rs fs ns b w w′ g g′ → Adds p x j′ e′ m fc rs fs ns b w w′ g g′
+adds-wider f s = record {
   classes = s .classes;
   pending = s .pending;
   arms = s .arms;
@@ -173,5 +172,5 @@ adds-less p x j e m h s = record {
   few = s .few;
   first = s .first;
   bottom = s .bottom;
-  only = only-wider (none-struck (omega arith) (omega arith) (omega arith)) (s .only);
+  only = only-wider f (s .only);
 }

@@ -4,7 +4,7 @@ use mathlib.Core.Bool.{false, or-false}
 use mathlib.Core.List.{List, [], _++_, _∷_, append-nil}
 use mathlib.Core.Logic.{inr}
 use mathlib.Core.Path.{_∙_, _≡_, ap, refl, subst, sym}
-use lib.ListN.{getD, length, length-append, length-set, set}
+use lib.ListN.{getD, length-append, length-set, set}
 use lib.Seq.{getD-set-same}
 use native.Mathlib.Omega.{arith}
 use Rattle.frames.proofs.Frames.{only-none, only-set, only-then}
@@ -19,12 +19,12 @@ use Rattle.meaning.specs.NormalForm.{Successors, hasBottom, none, normalForm, s
 use Rattle.meaning.specs.Policy.{Chain, childOf, termAt}
 use Rattle.meaning.specs.Splitting.{constraintsBelow}
 use Rattle.meaning.specs.Vocabulary.{vocabularyOf}
-use Rattle.normal_form.proofs.Groups.{successors-root, unranged}
+use Rattle.normal_form.proofs.Groups.{alike, successors-root, unranged}
 use Rattle.normal_form.proofs.Joining.{rest-arm, rest-none, sure-cons}
 use Rattle.normal_form.proofs.Laws.{in-tables}
 use Rattle.normal_form.specs.Parts.{Arm, armAt}
 use Rattle.policy.specs.Terms.{conjunctsAt}
-use Rattle.normal_form.specs.Parts.{successorsOf, weigh}
+use Rattle.normal_form.specs.Parts.{successorsOf}
 use Rattle.normal_form.specs.Steps.{Built, Entry, Grown, Room}
 use Rattle.normal_form.specs.Steps.{restAt}
 use Rattle.normal_form.specs.Tables.{Fit, Normalised}
@@ -47,8 +47,7 @@ module _ (p w : List ℕ) (s : ℕ) (fit : Fit p w s) where
 
   pub root-room : Room p (set w pendingAt s) pendingAt (pendingAt + 1) 0 0
   root-room =
-      let e : weigh (restAt p (set w pendingAt s) pendingAt (pendingAt + 1)) ≡ weigh (armAt p s ∷ []) = ap weigh one-rest in
-      let f : length (restAt p (set w pendingAt s) pendingAt (pendingAt + 1)) ≡ 1 = ap length one-rest in
+      let e = alike one-rest in
       let d : count (conjunctsAt p (childOf p s)) ≡ count (termAt p s) = ap count term in
       let a = fit .few in
       let b = length-set w pendingAt s in

@@ -106,6 +106,14 @@ successors-root K c e = ap (λ (cs : List ℕ). graft 0 (add K c (bare cs)) none
 
 -- ---- numbers
 
+-- equal arms have equal numbers
+pub record Alike (l m : List Arm) : Type 0 where
+  pub long : length l ≡ length m
+  pub heavy : weigh l ≡ weigh m
+
+pub alike : {l m : List Arm} → l ≡ m → Alike l m
+alike e = record { long = ap length e; heavy = ap weigh e }
+
 module _ (p : Arm → Bool) where
   pub filter-length : (l : List Arm) → length (filter p l) + length (filter (λ a. not (p a)) l) ≡ length l
   filter-length [] = refl

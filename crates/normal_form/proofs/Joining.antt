@@ -1,30 +1,32 @@
 -- The pending roles that join one: the ways of `gather`.
 use Prim.Native.Nat.{_+_, _-_, _<_, _≤_, ℕ}
-use mathlib.Core.Bool.{Bool, false, true}
+use mathlib.Core.Bool.{Bool, cond, false, not, true}
 use mathlib.Core.List.{List, [], _∷_}
 use mathlib.Core.Logic.{_⊎_, inl, inr}
 use mathlib.Core.Path.{_∙_, _≡_, ap, refl, subst, sym}
-use lib.ListN.{getD, length-append, set}
+use lib.Dec.{eqb}
+use lib.ListN.{getD, length, length-append, set}
 use lib.Seq.{getD-set-same}
 use native.Mathlib.Omega.{arith}
-use borrow.Author.Tests.{eq-eqb, ne-eqb}
+use borrow.Author.Tests.{eq-eqb, eqb-false, ne-eqb, not-false, not-true}
 use Rattle.frames.proofs.Frames.{only-behind, only-none, only-set, only-span, only-then, only-wider}
 use Rattle.frames.specs.Frames.{Only, Span}
+use Rattle.functional.specs.declared.Functional.{Functional}
 use Rattle.layout.proofs.Entries.{constraints-kept}
-use Rattle.layout.specs.Places.{InTables, pendingAt}
 use Rattle.layout.specs.Tables.{ConstraintsStand, heldBy}
 use Rattle.meaning.proofs.Rules.{head, tail}
 use Rattle.meaning.specs.Intervals.{Constraint}
 use Rattle.meaning.specs.Lists.{cons, filter}
 use Rattle.meaning.specs.Policy.{Chain, childOf}
-use Rattle.normal_form.proofs.Adding.{add-none, adds-then}
+use Rattle.normal_form.proofs.Adding.{add-none, adds-then, adds-wider}
 use Rattle.normal_form.proofs.Laws.{fresh-in, front-kept, none-struck, word-same, words-eq, words-kept, words-next}
 use Rattle.normal_form.specs.Parts.{Arm, armAt, bottomHere, classesIn, intervalCount, intervalsIn, joins, live, parts}
 use Rattle.policy.specs.Terms.{conjunctsAt}
 use Rattle.normal_form.specs.Parts.{roles, rolesAll, wordsAt}
-use Rattle.normal_form.specs.Steps.{Adding, Adds, Entry, Gathering, Good, HasRoomFor, HasRoomForAll, Struck, Sure, front, restAt}
+use Rattle.normal_form.specs.Steps.{Adding, Adds, Entry, Gathering, Good, HasRoomFor, HasRoomForAll, Gathered, Gatherable, Sure, front, restAt}
 use Rattle.normal_form.specs.Steps.{struck}
 use Rattle.normal_form.specs.declared.Draft.{Draft}
+use Rattle.words.specs.Sets.{inSet}
 
 -- ---- the pending words
 
@@ -60,214 +62,191 @@ words-same w w′ j stop f = words-kept w w′ j (stop - j) (λ i a b. f i a (om
 
 -- ---- those of them that join role r
 
-abbrev pub picks : (ℕ → Bool) → List ℕ → List ℕ → ℕ → ℕ → ℕ → List Arm
-picks one p w r j stop = filter (joins one r) (restAt p w j stop)
-
 lower : {p : List ℕ} {x j e m : ℕ} {fc : List ℕ → List ℕ} {rs : List Arm} {fs : List Constraint → List Constraint} {ns : ℕ} {b : Bool} {u u′ : List ℕ} {h h′ : Draft} →
     Adds p x (j + 1) e m fc rs fs ns b u u′ h h′ → Adds p x j e m fc rs fs ns b u u′ h h′
-lower s = record {
-  classes = s .classes;
-  pending = s .pending;
-  arms = s .arms;
-  sure = s .sure;
-  top = s .top;
-  constraints = s .constraints;
-  few = s .few;
-  first = s .first;
-  bottom = s .bottom;
-  only = only-wider (fresh-in (λ i z. inl (record { low = omega (arith, z .low); high = z .high })) (omega arith) (omega arith) (omega arith)) (s .only);
-}
+lower s = adds-wider (fresh-in (λ i z. inl (record { low = omega (arith, z .low); high = z .high })) (omega arith) (omega arith) (omega arith)) s
 
--- `one` tells the functional roles, `two` the functional features
-module _ (one two : ℕ → Bool) (p : List ℕ) (x r j stop m : ℕ) (w : List ℕ) (g : Draft) where
-  -- what `gather` asks
-  abbrev Can : ℕ → List ℕ → Draft → Type 0
-  Can i u h = (i ≤ stop) × (stop ≤ h .pending) × (pendingAt ≤ i) × Sure p (wordsAt u i (stop - i)) × HasRoomForAll u m h (restAt p u i stop)
+-- a word that is struck out, as b tells, or whose arm is not of the role stays as it is
+module _ (one : ℕ → Bool) (r : ℕ) (a : Arm) (l : List Arm) where
+  passed : (b : Bool) → (b ≡ false → joins one r a ≡ false) → filter (joins one r) (cond b l (a ∷ l)) ≡ filter (joins one r) l
+  passed true n = refl
+  passed false n = rw (n refl)
 
-  -- what it gives
-  abbrev Done : ℕ → List ℕ → List ℕ → Draft → Draft → Type 0
-  Done i u u′ h h′ = Gathering two p x i stop m (picks one p u r i stop) u u′ h h′ × Struck one p r i stop u u′
+  kept : (b : Bool) → (b ≡ false → joins one r a ≡ false) →
+      cond b (filter (parts one r) l) (a ∷ filter (parts one r) l) ≡ filter (parts one r) (cond b l (a ∷ l))
+  kept true n = refl
+  kept false n = rw (n refl)
 
-  module _ (can : Can j w g) where
-    pub gather-end : j ≡ stop → Done j w w g g
-    gather-end e = (
-      subst (λ (l : List Arm). Gathering two p x j stop m (filter (joins one r) l) w w g g) (sym (rest-none p w j stop e)) (add-none p x m w g j stop),
-      record { left = rest-none p w j stop e ∙ sym (ap (filter (parts one r)) (rest-none p w j stop e)); sure = can .3 },
-    )
+  lighter : (b : Bool) {m : ℕ} {w : List ℕ} {g : Draft} → HasRoomForAll w m g (cond b l (a ∷ l)) → HasRoomForAll w m g l
+  lighter true d = d
+  lighter false d =
+      let e = length-append (roles (a .child)) (rolesAll l) in
+      let n = d .pending in
+      let c = d .constraints in
+      record { long = d .long; low = d .low; pending = omega arith; first = d .first; constraints = omega arith }
 
-    module _ (ne : j ≡ stop → ⊥) where
-      pub less : j < stop
-      less = omega arith
+-- those before i have been gathered: what is gathered from there on is gathered from j on
+pub record Going (f : Functional) (p : List ℕ) (r j stop x m : ℕ) (w₀ : List ℕ) (g₀ : Draft) (w : List ℕ) (g : Draft) (i : ℕ) : Type 0 where
+  pub can : Gatherable p w i stop m g
+  pub size : length w ≡ length w₀
+  pub whole : {w′ : List ℕ} {g′ : Draft} → Gathered f p r i stop x m w w′ g g′ → Gathered f p r j stop x m w₀ w′ g₀ g′
 
-      -- struck out already
-      module _ (z : getD w j 0 ≡ 0) where
-        pub skip-can : Can (j + 1) w g
-        skip-can = (
-          let a = less in omega arith,
-          can .1,
-          omega arith,
-          sure-tail p w j stop less (can .3),
-          rw (rest-zero p w j stop less z) at (can .4),
-        )
+pub gather-starts : {f : Functional} {p : List ℕ} {r j stop x m : ℕ} {w : List ℕ} {g : Draft} → Gatherable p w j stop m g → Going f p r j stop x m w g w g j
+gather-starts h = record { can = h; size = refl; whole = λ t. t }
 
-        pub skip-done : {w′ : List ℕ} {g′ : Draft} → Done (j + 1) w w′ g g′ → Done j w w′ g g′
-        skip-done {w′} {g′} s = (
-          subst (λ (l : List Arm). Gathering two p x j stop m (filter (joins one r) l) w w′ g g′) (sym (rest-zero p w j stop less z)) (lower (s .0)),
-          record {
-            left = rest-zero p w′ j stop less zero′ ∙ s .1 .left ∙ ap (filter (parts one r)) (sym (rest-zero p w j stop less z));
-            sure = sure-cons p w′ j stop less (inl zero′) (s .1 .sure);
-          },
-        )
-          where
-            zero′ : getD w′ j 0 ≡ 0
-            zero′ = word-same (s .0 .only) j (inl (omega arith)) (let a = less in omega arith) ∙ z
+module _ {f : Functional} {p : List ℕ} {r j stop x m : ℕ} {w₀ : List ℕ} {g₀ : Draft} {w : List ℕ} {g : Draft} {i : ℕ} (s : Going f p r j stop x m w₀ g₀ w g i) where
+  -- the functional roles, and the functional features
+  abbrev one : ℕ → Bool
+  one = inSet (f .roles)
 
-      module _ {k : ℕ} (ek : k ≡ getD w j 0) (nk : k ≡ 0 → ⊥) where
-        pub entry : Entry p k
-        entry = sure-entry p w j stop less (can .3) k nk ek
+  abbrev two : ℕ → Bool
+  two = inSet (f .features)
 
-        rest : restAt p w j stop ≡ armAt p k ∷ restAt p w (j + 1) stop
-        rest = rest-arm p w j stop less k nk ek
+  abbrev can : Gatherable p w i stop m g
+  can = s .can
+
+  pub gather-ends : stop ≤ i → Gathered f p r j stop x m w₀ w g₀ g
+  gather-ends h =
+      let e : i ≡ stop = omega (arith, can .order) in
+      let n = rest-none p w i stop e in
+      s .whole (record {
+        added = subst (λ (l : List Arm). Gathering two p x i stop m (filter (joins one r) l) w w g g) (sym n) (add-none p x m w g i stop);
+        left = n ∙ sym (ap (filter (parts one r)) n);
+        sure = can .sure;
+      })
+
+  -- the word at i
+  module _ (less : i < stop) where
+    abbrev k : ℕ
+    k = getD w i 0
+
+    rest : (u : List ℕ) → getD u i 0 ≡ k → restAt p u i stop ≡ cond (eqb k 0) (restAt p u (i + 1) stop) (armAt p k ∷ restAt p u (i + 1) stop)
+    rest u e = ap (live p) (words-next u i stop less) ∙ rw e
+
+    stay : (eqb k 0 ≡ false → joins one r (armAt p k) ≡ false) → Going f p r j stop x m w₀ g₀ w g (i + 1)
+    stay n = record {
+      can = record {
+        order = omega arith;
+        high = can .high;
+        low = omega (arith, can .low);
+        sure = sure-tail p w i stop less (can .sure);
+        room = lighter one r (armAt p k) (restAt p w (i + 1) stop) (eqb k 0) (rw (rest w refl) at (can .room));
+      };
+      size = s .size;
+      whole = λ t. s .whole (go t);
+    }
+      where
+        go : {w′ : List ℕ} {g′ : Draft} → Gathered f p r (i + 1) stop x m w w′ g g′ → Gathered f p r i stop x m w w′ g g′
+        go {w′} {g′} t =
+            let e : getD w′ i 0 ≡ k = word-same (t .added .only) i (inl (omega arith)) (omega (arith, can .high)) in
+            record {
+              added = subst (λ (l : List Arm). Gathering two p x i stop m l w w′ g g′)
+                  (sym (ap (filter (joins one r)) (rest w refl) ∙ passed one r (armAt p k) (restAt p w (i + 1) stop) (eqb k 0) n)) (lower (t .added));
+              left = rest w′ e ∙ rw (t .left) (kept one r (armAt p k) (restAt p w (i + 1) stop) (eqb k 0) n) ∙ sym (ap (filter (parts one r)) (rest w refl));
+              sure = sure-cons p w′ i stop less (rw e (head (sure-split p w i stop less (can .sure)))) (t .sure);
+            }
+
+    pub gather-skip : k ≡ 0 → Going f p r j stop x m w₀ g₀ w g (i + 1)
+    gather-skip z = stay (λ e. absurd (eqb-false k 0 e z))
+
+    module _ {b : Bool} (eb : b ≡ joins one r (armAt p k)) where
+      pub gather-pass : not b ≡ true → Going f p r j stop x m w₀ g₀ w g (i + 1)
+      gather-pass n = stay (λ e. sym eb ∙ not-true b n)
+
+      -- of the role: u is the words with it struck out
+      module _ (nk : k ≡ 0 → ⊥) (yes : not b ≡ false) {y : ℕ} (ey : y ≡ childOf p k) where
+        abbrev u : List ℕ
+        u = set w i 0
+
+        joined : joins one r (armAt p k) ≡ true
+        joined = sym eb ∙ not-false b yes
+
+        arm : restAt p w i stop ≡ armAt p k ∷ restAt p w (i + 1) stop
+        arm = rest-arm p w i stop less k nk refl
 
         -- room for record k's chain and for the others
-        room : HasRoomForAll w m g (armAt p k ∷ restAt p w (j + 1) stop)
-        room = rw rest at (can .4)
+        room : HasRoomForAll w m g (armAt p k ∷ restAt p w (i + 1) stop)
+        room = rw arm at (can .room)
 
-        -- not of the role
-        module _ (no : joins one r (armAt p k) ≡ false) where
-          pub pass-can : Can (j + 1) w g
-          pass-can =
-              let e = length-append (roles (conjunctsAt p (childOf p k))) (rolesAll (restAt p w (j + 1) stop)) in
-              let a = room .pending in
-              let b = room .constraints in (
-                let a = less in omega arith,
-                can .1,
-                omega arith,
-                sure-tail p w j stop less (can .3),
-                record { long = room .long; low = room .low; pending = omega arith; first = room .first; constraints = omega arith },
-              )
+        entry : Entry p k
+        entry = sure-entry p w i stop less (can .sure) k nk refl
 
-          pub pass-done : {w′ : List ℕ} {g′ : Draft} → Done (j + 1) w w′ g g′ → Done j w w′ g g′
-          pass-done {w′} {g′} s = (
-            subst (λ (l : List Arm). Gathering two p x j stop m l w w′ g g′) (sym passed) (lower (s .0)),
-            record {
-              left = rest-arm p w′ j stop less k nk ek′ ∙ ap (λ (l : List Arm). armAt p k ∷ l) (s .1 .left) ∙ kept-arm ∙ ap (filter (parts one r)) (sym rest);
-              sure = sure-cons p w′ j stop less (inr (subst (λ (y : ℕ). Entry p y) ek′ entry)) (s .1 .sure);
-            },
-          )
-            where
-              ek′ : k ≡ getD w′ j 0
-              ek′ = ek ∙ sym (word-same (s .0 .only) j (inl (omega arith)) (let a = less in omega arith))
+        pub take-good : Good p y
+        take-good = rw ey (entry .good)
 
-              passed : picks one p w r j stop ≡ picks one p w r (j + 1) stop
-              passed = ap (filter (joins one r)) rest ∙ rw no
+        pub take-room : {v : List ℕ} → length v ≡ length w → HasRoomFor v m g (conjunctsAt p y)
+        take-room n =
+            let e = length-append (roles (conjunctsAt p (childOf p k))) (rolesAll (restAt p w (i + 1) stop)) in
+            let a = room in
+            rw ey (record { long = omega arith; low = room .low; pending = omega arith; first = room .first; constraints = omega arith })
 
-              kept-arm : armAt p k ∷ filter (parts one r) (restAt p w (j + 1) stop) ≡ filter (parts one r) (armAt p k ∷ restAt p w (j + 1) stop)
-              kept-arm = rw no
+        u-only : Only (Span i (i + 1)) w u
+        u-only = only-set i 0 (record { low = omega arith; high = omega arith }) only-none
 
-        -- of the role: u is the words with it struck out
-        module _ (yes : joins one r (armAt p k) ≡ true) {y : ℕ} (ey : y ≡ childOf p k) {u : List ℕ} (eu : u ≡ set w j 0) where
-          u-only : Only (Span j (j + 1)) w u
-          u-only = rw eu (only-set j 0 (record { low = omega arith; high = omega arith }) only-none)
+        -- v is the words after its chain, h what it has given
+        module _ {v : List ℕ} {h : Draft} (c : Adding two p x m (conjunctsAt p y) u v g h) where
+          c′ : Adding two p x m (conjunctsAt p (childOf p k)) u v g h
+          c′ = subst (λ (i : ℕ). Adding two p x m (conjunctsAt p i) u v g h) ey c
 
-          u-tables : Only InTables w u
-          u-tables = let t = less in only-span u-only (omega arith) (omega arith)
+          v-words : wordsAt v (i + 1) (stop - (i + 1)) ≡ wordsAt w (i + 1) (stop - (i + 1))
+          v-words = let q = can .high in words-same w v (i + 1) stop (λ j a b. word-same (c .only) j (inr (omega arith)) (omega arith) ∙ only-behind u-only j (omega arith))
 
-          pub take-chain : Good p y × HasRoomFor u m g (conjunctsAt p y)
-          take-chain =
-              let e = length-append (roles (conjunctsAt p (childOf p k))) (rolesAll (restAt p w (j + 1) stop)) in
+          v-rest : restAt p v (i + 1) stop ≡ restAt p w (i + 1) stop
+          v-rest = ap (live p) v-words
+
+          abbrev given : Chain
+          given = conjunctsAt p (childOf p k)
+
+          struck-chain : Adds p x i stop m (classesIn given) (roles given) (intervalsIn two given) (intervalCount given) (bottomHere given) w v g h
+          struck-chain =
+              let n = room .pending in
+              let z : front u ≡ front w = front-kept (only-span u-only (omega arith) (omega arith)) in
+              let onto : (l : List Constraint) → ConstraintsStand w m (heldBy x l) → ConstraintsStand u m (heldBy x l) =
+              (λ l t. constraints-kept w u m (heldBy x l) (λ j a b. only-behind u-only j (omega arith)) t) in
+              record {
+                classes = λ t cs q. rw z at (c′ .classes t cs (rw z q));
+                pending = c′ .pending;
+                arms = c′ .arms;
+                sure = c′ .sure;
+                top = λ l q t. c′ .top l q (onto l t);
+                constraints = λ l q t. c′ .constraints l q (onto l t);
+                few = c′ .few;
+                first = c′ .first;
+                bottom = c′ .bottom;
+                only = only-then
+                    (only-wider (λ j z. struck (record { low = omega (arith, z .low); high = omega (arith, z .high) }) (record { low = z .low; high = omega (arith, z .high) })) u-only)
+                    (only-wider (none-struck (omega arith) (omega arith) (omega arith)) (c′ .only));
+              }
+
+          go : {w′ : List ℕ} {g′ : Draft} → Gathered f p r (i + 1) stop x m v w′ h g′ → Gathered f p r i stop x m w w′ g g′
+          go {w′} {g′} t =
+              let o = can .high in
+              let l = room .long in
+              let e : getD w′ i 0 ≡ 0 =
+              word-same (t .added .only) i (inl (omega arith)) (omega arith) ∙ word-same (c .only) i (inr (omega arith)) (omega arith) ∙ getD-set-same w i 0 0 (omega arith) in
+              let n = ap (filter (joins one r)) arm in
+              let d = ap (filter (parts one r)) arm in
+              record {
+                added = subst (λ (l : List Arm). Gathering two p x i stop m l w w′ g g′) (sym (rw joined at n)) (adds-then p x i stop m _ _ refl refl o struck-chain
+                    (subst (λ (l : List Arm). Gathering two p x i stop m (filter (joins one r) l) v w′ h g′) v-rest (lower (t .added))));
+                left = rest-zero p w′ i stop less e ∙ t .left ∙ ap (filter (parts one r)) v-rest ∙ sym (rw joined at d);
+                sure = sure-cons p w′ i stop less (inl e) (t .sure);
+              }
+
+          pub gather-take : Going f p r j stop x m w₀ g₀ v h (i + 1)
+          gather-take =
+              let e = length-append (roles (conjunctsAt p (childOf p k))) (rolesAll (restAt p w (i + 1) stop)) in
               let z = u-only .size in
               let a = room in
-              rw ey (entry .good, record { long = omega arith; low = room .low; pending = omega arith; first = room .first; constraints = omega arith })
-
-          -- v is the words after its chain, h what it has given
-          module _ {v : List ℕ} {h : Draft} (c : Adding two p x m (conjunctsAt p y) u v g h) where
-            c′ : Adding two p x m (conjunctsAt p (childOf p k)) u v g h
-            c′ = subst (λ (i : ℕ). Adding two p x m (conjunctsAt p i) u v g h) ey c
-
-            end-low : stop ≤ g .pending
-            end-low = can .1
-
-            v-zero : getD v j 0 ≡ 0
-            v-zero =
-                let o = less in
-                let q = end-low in
-                let l = room .long in
-                word-same (c .only) j (inr (omega arith)) (omega arith) ∙ ap (λ (l : List ℕ). getD l j 0) eu ∙ getD-set-same w j 0 0 (omega arith)
-
-            v-words : wordsAt v (j + 1) (stop - (j + 1)) ≡ wordsAt w (j + 1) (stop - (j + 1))
-            v-words = words-same w v (j + 1) stop (λ i a b. word-same (c .only) i (inr (omega arith)) (let q = end-low in omega arith) ∙ only-behind u-only i (omega arith))
-
-            v-rest : restAt p v (j + 1) stop ≡ restAt p w (j + 1) stop
-            v-rest = ap (live p) v-words
-
-            pub take-can : Can (j + 1) v h
-            take-can =
-                let e = length-append (roles (conjunctsAt p (childOf p k))) (rolesAll (restAt p w (j + 1) stop)) in
-                let z = u-only .size in
-                let a = room in
-                let l = room .long in
-                let c1 = c′ in
-                let q = end-low in
-                let t = less in (
-                  omega arith,
-                  omega arith,
-                  omega arith,
-                  subst (λ (l : List ℕ). Sure p l) (sym v-words) (sure-tail p w j stop less (can .3)),
-                  rw v-rest (record { long = omega arith; low = omega arith; pending = omega arith; first = omega arith; constraints = omega arith }),
-                )
-
-            u-front : front u ≡ front w
-            u-front = front-kept u-tables
-
-            abbrev given : Chain
-            given = conjunctsAt p (childOf p k)
-
-            struck-chain : Adds p x j stop m (classesIn given) (roles given) (intervalsIn two given) (intervalCount given) (bottomHere given) w v g h
-            struck-chain = record {
-              classes = λ s cs q. rw u-front at (c′ .classes s cs (rw u-front q));
-              pending = c′ .pending;
-              arms = c′ .arms;
-              sure = c′ .sure;
-              top = λ l q s. c′ .top l q (onto-u l s);
-              constraints = λ l q s. c′ .constraints l q (onto-u l s);
-              few = c′ .few;
-              first = c′ .first;
-              bottom = c′ .bottom;
-              only =
-                  let t = less in
-                  let q = end-low in
-                  let r = room .pending in
-                  only-then
-                  (only-wider (λ i z. struck (record { low = omega (arith, z .low); high = omega (arith, z .high) }) (record { low = z .low; high = omega (arith, z .high) })) u-only)
-                  (only-wider (none-struck (omega arith) (omega arith) (omega arith)) (c′ .only));
-            }
-              where
-                onto-u : (l : List Constraint) → ConstraintsStand w m (heldBy x l) → ConstraintsStand u m (heldBy x l)
-                onto-u l s =
-                    let t = less in let q = end-low in constraints-kept w u m (heldBy x l) (λ i a b. only-behind u-only i (omega arith)) s
-
-            module _ {w′ : List ℕ} {g′ : Draft} (s : Done (j + 1) v w′ h g′) where
-              taken : picks one p w r j stop ≡ armAt p k ∷ picks one p w r (j + 1) stop
-              taken = ap (filter (joins one r)) rest ∙ rw yes
-
-              more : Gathering two p x j stop m (picks one p w r (j + 1) stop) v w′ h g′
-              more = subst (λ (l : List Arm). Gathering two p x j stop m (filter (joins one r) l) v w′ h g′) v-rest (lower (s .0))
-
-              zero′ : getD w′ j 0 ≡ 0
-              zero′ =
-                  let a = less in
-                  let b = end-low in
-                  word-same (s .0 .only) j (inl (omega arith)) (omega arith) ∙ v-zero
-
-              gone : filter (parts one r) (restAt p w (j + 1) stop) ≡ filter (parts one r) (armAt p k ∷ restAt p w (j + 1) stop)
-              gone = rw yes
-
-              pub take-done : Done j w w′ g g′
-              take-done = (
-                subst (λ (l : List Arm). Gathering two p x j stop m l w w′ g g′) (sym taken) (adds-then p x j stop m _ _ refl refl end-low struck-chain more),
-                record {
-                  left = rest-zero p w′ j stop less zero′ ∙ s .1 .left ∙ ap (filter (parts one r)) v-rest ∙ gone ∙ ap (filter (parts one r)) (sym rest);
-                  sure = sure-cons p w′ j stop less (inl zero′) (s .1 .sure);
-                },
-              )
+              let d = c′ in
+              record {
+                can = record {
+                  order = omega arith;
+                  high = omega arith;
+                  low = omega arith;
+                  sure = subst (λ (l : List ℕ). Sure p l) (sym v-words) (sure-tail p w i stop less (can .sure));
+                  room = rw v-rest (record { long = omega arith; low = omega arith; pending = omega arith; first = omega arith; constraints = omega arith });
+                };
+                size = c .only .size ∙ z ∙ s .size;
+                whole = λ t. s .whole (go t);
+              }

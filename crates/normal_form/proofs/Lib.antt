@@ -6,6 +6,7 @@ pub mod Conjuncts
 pub mod Joining
 pub mod Groups
 pub mod Nodes
+pub mod Growing
 pub mod Building
 pub mod Forms
 pub mod Callers

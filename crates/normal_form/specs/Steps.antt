@@ -120,21 +120,19 @@ HasRoomFor w m g c = HasRoom w m g (length (roles c)) (intervalCount c)
 abbrev pub HasRoomForAll : List ℕ → ℕ → Draft → List Arm → Type 0
 HasRoomForAll w m g l = HasRoom w m g (length (rolesAll l)) (countAll l)
 
--- of the arms pending from j on, those that join role r have been struck out
-pub record Struck (one : ℕ → Bool) (p : List ℕ) (r j stop : ℕ) (w w′ : List ℕ) : Type 0 where
-  pub left : restAt p w′ j stop ≡ filter (parts one r) (restAt p w j stop)
-  pub sure : Sure p (wordsAt w′ j (stop - j))
-
 -- arms pending from j to stop, with room for all that they hold
-abbrev pub Gatherable : List ℕ → List ℕ → ℕ → ℕ → ℕ → Draft → Type 0
-Gatherable p w j stop m g =
-    (j ≤ stop) × (stop ≤ g .pending) × (pendingAt ≤ j) × Sure p (wordsAt w j (stop - j)) × HasRoomForAll w m g (restAt p w j stop)
+pub record Gatherable (p w : List ℕ) (j stop m : ℕ) (g : Draft) : Type 0 where
+  pub order : j ≤ stop
+  pub high : stop ≤ g .pending
+  pub low : pendingAt ≤ j
+  pub sure : Sure p (wordsAt w j (stop - j))
+  pub room : HasRoomForAll w m g (restAt p w j stop)
 
 -- of the arms pending from j to stop, those that join role r have gone to individual x, and are struck out
-abbrev pub Gathered : Functional → List ℕ → ℕ → ℕ → ℕ → ℕ → ℕ → List ℕ → List ℕ → Draft → Draft → Type 0
-Gathered f p r j stop x m w w′ g g′ =
-    Gathering (inSet (f .features)) p x j stop m (filter (joins (inSet (f .roles)) r) (restAt p w j stop)) w w′ g g′
-    × Struck (inSet (f .roles)) p r j stop w w′
+pub record Gathered (f : Functional) (p : List ℕ) (r j stop x m : ℕ) (w w′ : List ℕ) (g g′ : Draft) : Type 0 where
+  pub added : Gathering (inSet (f .features)) p x j stop m (filter (joins (inSet (f .roles)) r) (restAt p w j stop)) w w′ g g′
+  pub left : restAt p w′ j stop ≡ filter (parts (inSet (f .roles)) r) (restAt p w j stop)
+  pub sure : Sure p (wordsAt w′ j (stop - j))
 
 -- arms pending from j to stop, and room for what lies below them, after n individuals and m constraints
 pub record Room (p w : List ℕ) (j stop n m : ℕ) : Type 0 where
@@ -147,12 +145,12 @@ pub record Room (p w : List ℕ) (j stop n m : ℕ) : Type 0 where
   pub constraints : m + weigh (restAt p w j stop) ≤ mostRecords
 
 -- the individual of the arms `every`, number n + 1, has its row, its constraints and its own arms pending; `others` are pending still
-pub record Noded (one : ℕ → Bool) (p : List ℕ) (every others : List Arm) (r j stop i n m : ℕ) (b : Bool) (w w′ : List ℕ) (g : Draft) : Type 0 where
+pub record Noded (f : Functional) (p : List ℕ) (every others : List Arm) (r j stop i n m : ℕ) (b : Bool) (w w′ : List ℕ) (g : Draft) : Type 0 where
   pub parent : getD w′ (individualPlace n) 0 ≡ i
   pub role : getD w′ (individualPlace n + 1) 0 ≡ r
   pub classes : Told (front w) (startOf (front w) r) (rowAt classWords w′ (individualPlace n + 2)) (classesAll every [])
-  pub top : g .constraints ≡ m + length (intervalsAll one every [])
-  pub constraints : ConstraintsStand w′ m (heldBy (n + 1) (intervalsAll one every []))
+  pub top : g .constraints ≡ m + length (intervalsAll (inSet (f .features)) every [])
+  pub constraints : ConstraintsStand w′ m (heldBy (n + 1) (intervalsAll (inSet (f .features)) every []))
   pub few : g .constraints ≤ m + countAll every
   pub pending : g .pending ≡ stop + length (rolesAll every)
   pub arms : live p (wordsAt w′ stop (length (rolesAll every))) ≡ rolesAll every
@@ -170,13 +168,16 @@ abbrev pub othersAt : (ℕ → Bool) → List ℕ → List ℕ → ℕ → ℕ �
 othersAt one p w j stop k = filter (parts one (nameOf p k)) (restAt p w (j + 1) stop)
 
 -- record k is pending at j, before stop, and there is room for its individual and for all that are below it or pending after it
-abbrev pub Waiting : List ℕ → List ℕ → ℕ → ℕ → ℕ → Tables → Type 0
-Waiting p w j k stop t = (j < stop) × (k ≡ getD w j 0) × (k ≡ 0 → ⊥) × Room p w j stop (t .individuals) (t .constraints)
+pub record Waiting (p w : List ℕ) (j k stop : ℕ) (t : Tables) : Type 0 where
+  pub less : j < stop
+  pub here : k ≡ getD w j 0
+  pub some : k ≡ 0 → ⊥
+  pub room : Room p w j stop (t .individuals) (t .constraints)
 
 -- the individual of record k, pending at j, has been made, after what t counts
 abbrev pub NodedFrom : Functional → List ℕ → ℕ → ℕ → ℕ → ℕ → Tables → List ℕ → List ℕ → Draft → Type 0
 NodedFrom f p j k stop i t w w′ g =
-    Noded (inSet (f .features)) p (everyAt (inSet (f .roles)) p w j stop k) (othersAt (inSet (f .roles)) p w j stop k) (nameOf p k) j stop i
+    Noded f p (everyAt (inSet (f .roles)) p w j stop k) (othersAt (inSet (f .roles)) p w j stop k) (nameOf p k) j stop i
     (t .individuals) (t .constraints) (t .impossible) w w′ g
 
 -- the tables hold the individuals ks below individual i, after n individuals and m constraints

@@ -214,19 +214,16 @@ fn gather(
     requires { ⌜ Gatherable (now p) (now work) j stop first g ⌝ }
     ensures { λ s. ⌜ Gathered f (now (p .entry)) (r .0) j stop x first (now (work .entry)) (now (work .exit)) g s ⌝ }
 {
-    if j == stop {
-        return g;
+    let mut h = g;
+    for at in j..stop {
+        let k = work[at];
+        if k == 0 || !does_join(p, f, k, r) {
+            continue;
+        }
+        work[at] = 0;
+        h = chain(p, work, f, child_of(p, k), x, first, h);
     }
-    let k = work[j];
-    if k == 0 {
-        return gather(p, work, f, r, j + 1, stop, x, first, g);
-    }
-    if does_join(p, f, k, r) {
-        work[j] = 0;
-        let h = chain(p, work, f, child_of(p, k), x, first, g);
-        return gather(p, work, f, r, j + 1, stop, x, first, h);
-    }
-    gather(p, work, f, r, j + 1, stop, x, first, g)
+    h
 }
 
 // The individual of the pending role at j, record k: its row and constraints, and its own roles pending from stop on.
@@ -260,7 +257,8 @@ fn node(
     all
 }
 
-// The individuals of the pending roles from j to stop, each followed by those below it.
+// The individuals of the pending roles from j to stop, each followed by those below it: for these it calls itself, so that the stack
+// grows with the policy's depth alone.
 fn successors(
     p: &[u32],
     work: &mut [u32],
@@ -273,29 +271,29 @@ fn successors(
     requires { ⌜ Room (now p) (now work) j stop (t .individuals) (t .constraints) ⌝ }
     ensures { λ u. ⌜ BuiltFrom f (now (p .entry)) j stop parent t (now (work .entry)) (now (work .exit)) u ⌝ }
 {
-    if j == stop {
-        return t;
+    let mut u = t;
+    for at in j..stop {
+        let k = work[at];
+        if k == 0 {
+            continue;
+        }
+        let g = node(p, work, f, at, k, stop, parent, u);
+        let here = u.individuals + 1;
+        u = successors(
+            p,
+            work,
+            f,
+            stop,
+            g.pending,
+            here,
+            Tables {
+                individuals: here,
+                constraints: g.constraints,
+                impossible: g.impossible,
+            },
+        );
     }
-    let k = work[j];
-    if k == 0 {
-        return successors(p, work, f, j + 1, stop, parent, t);
-    }
-    let g = node(p, work, f, j, k, stop, parent, t);
-    let here = t.individuals + 1;
-    let u = successors(
-        p,
-        work,
-        f,
-        stop,
-        g.pending,
-        here,
-        Tables {
-            individuals: here,
-            constraints: g.constraints,
-            impossible: g.impossible,
-        },
-    );
-    successors(p, work, f, j + 1, stop, parent, u)
+    u
 }
 
 // The term at record s. Its record is the first pending role, with no name. Time grows with the term's records, times the
