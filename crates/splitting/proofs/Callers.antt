@@ -14,12 +14,11 @@ use Rattle.layout.specs.declared.Tables.{Tables}
 use Rattle.meaning.proofs.Intervals.{isNonEmpty-iff}
 use Rattle.meaning.proofs.Picks.{AllNonEmpty, clean-nonEmpty-form}
 use Rattle.meaning.proofs.Rules.{T-and, all-map, all-mono, all-out, head, isTrue, tail}
-use Rattle.meaning.specs.Accepted.{Accepted}
 use Rattle.meaning.specs.Intervals.{NonEmpty, isNonEmpty}
 use Rattle.meaning.specs.Limits.{mostRecords}
 use Rattle.meaning.specs.Lists.{all, counting}
 use Rattle.meaning.specs.NormalForm.{Form, cleanNode, cleanSuccessors}
-use Rattle.meaning.specs.Policy.{Policy}
+use Rattle.meaning.specs.Policy.{Policy, policyRefusal}
 use Rattle.meaning.specs.Splitting.{combinationCount, constraintsOf, product}
 use Rattle.meaning.specs.Vocabulary.{Vocabulary}
 use Rattle.splitting.proofs.Storing.{full-kept}
@@ -31,8 +30,8 @@ pub use Rattle.splitting.proofs.Whole.{widened-form}
 
 -- ---- before: a policy that the reader accepts
 
-pub collectable : {v q e : List ℕ} → Accepted v q → endWords ≤ length e → Collectable q e
-collectable a h = record { reads = a .reads; few = omega arith; room = h }
+pub collectable : (v : List ℕ) {q e : List ℕ} → policyRefusal v q ≡ 0 → endWords ≤ length e → Collectable q e
+collectable v a h = record { vocabulary = v; accepted = a; room = h }
 
 -- ---- none of the constraints is empty
 

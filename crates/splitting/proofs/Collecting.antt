@@ -1,5 +1,5 @@
 -- The pairs of a chain, one record after another.
-use Prim.Native.Nat.{_*_, _+_, _<_, _≤_, suc, ℕ}
+use Prim.Native.Nat.{_*_, _+_, _-_, _<_, _≤_, suc, ℕ}
 use mathlib.Core.Bool.{Bool, cond, false, true}
 use mathlib.Core.List.{List, [], _++_, _∷_, append-assoc, append-nil}
 use mathlib.Core.Path.{_∙_, _≡_, ap, refl, sym}
@@ -8,11 +8,13 @@ use lib.Dec.{eqb}
 use lib.ListN.{drop, length, length-append, length-set, length-take, take}
 use lib.Seq.{sets-eq, take-at}
 use borrow.Author.Tests.{eq-eqb, eqb-false, eqb-true, ne-eqb}
+use Rattle.meaning.proofs.Links.{falls}
 use Rattle.meaning.proofs.Terms.{chain-at}
-use Rattle.meaning.specs.Accepted.{Reads, count, reads-class, reads-end, reads-impossible, reads-interval, reads-some}
+use Rattle.meaning.specs.Accepted.{Here, Reads, count, depth, reads-class, reads-end, reads-impossible, reads-interval, reads-some}
 use Rattle.meaning.specs.Policy.{Chain, childOf, class, end, hiOf, impossible, interval, kindOf, loOf, nameOf, nextOf, some}
 use Rattle.meaning.specs.Splitting.{ends}
-use Rattle.policy.specs.Terms.{conjunctsAt}
+use Rattle.meaning.specs.Records.{falling, lastOf}
+use Rattle.policy.specs.Terms.{conjunctOf, conjunctsAt}
 use Rattle.splitting.specs.Ends.{Chained, Paired, endsIn, pairsOf, pairsPut}
 
 -- ---- pairs and ends
@@ -44,49 +46,16 @@ module _ (f : ℕ) where
       go true e m h = rw (eq-eqb f g (sym (eqb-true g f e))) (ap (λ (x : List ℕ). lo ∷ (hi ∷ x)) h)
       go false e m h = rw (ne-eqb f g (λ z. eqb-false g f e (sym z))) h
 
--- ---- a record and what is after it
+-- ---- words after words
 
--- what the first record of a chain leaves to do
-record Cut (q : List ℕ) (k : ℕ) (c : Chain) : Type 0 where
-  pub next : Reads q (nextOf q k) (conjunctsAt q (nextOf q k))
-  pub child : kindOf q k ≡ 3 → Reads q (childOf q k) (conjunctsAt q (childOf q k))
-  pub role : kindOf q k ≡ 3 → c ≡ some (nameOf q k) (conjunctsAt q (childOf q k)) (conjunctsAt q (nextOf q k))
-  pub constraint : kindOf q k ≡ 4 → c ≡ interval (nameOf q k) (loOf q k) (hiOf q k) (conjunctsAt q (nextOf q k))
-  pub other : (kindOf q k ≡ 3 → ⊥) → (kindOf q k ≡ 4 → ⊥) →
-      (pairsOf c ≡ pairsOf (conjunctsAt q (nextOf q k))) × (count c ≡ suc (count (conjunctsAt q (nextOf q k))))
+pub paired-none : (n : ℕ) (e : List ℕ) → Paired [] n e e n
+paired-none n e = record { same = refl; long = omega arith; words = sym (append-nil (take n e)) }
 
-pub read : {q : List ℕ} {k : ℕ} {c : Chain} → Reads q k c → Reads q k (conjunctsAt q k)
-read r = rw (chain-at r) r
-
-cut : {q : List ℕ} {k : ℕ} {c : Chain} → (k ≡ 0 → ⊥) → Reads q k c → Cut q k c
-cut z (reads-end e) = absurd (z e)
-cut z (reads-class h i n) = record {
-  next = read n;
-  child = λ j. absurd (omega arith);
-  role = λ j. absurd (omega arith);
-  constraint = λ j. absurd (omega arith);
-  other = λ a b. rw (chain-at n) (refl, refl);
-}
-cut z (reads-impossible h i n) = record {
-  next = read n;
-  child = λ j. absurd (omega arith);
-  role = λ j. absurd (omega arith);
-  constraint = λ j. absurd (omega arith);
-  other = λ a b. rw (chain-at n) (refl, refl);
-}
-cut z (reads-some h i b n) = record {
-  next = read n;
-  child = λ j. read b;
-  role = λ j. rw (chain-at b, chain-at n);
-  constraint = λ j. absurd (omega arith);
-  other = λ a b. absurd (a i);
-}
-cut z (reads-interval h i n) = record {
-  next = read n;
-  child = λ j. absurd (omega arith);
-  role = λ j. absurd (omega arith);
-  constraint = λ j. rw (chain-at n);
-  other = λ a b. absurd (b i);
+pub paired-then : {a b : List ℕ} {n m r : ℕ} {e e′ e″ : List ℕ} → Paired a n e e′ m → Paired b m e′ e″ r → Paired (a ++ b) n e e″ r
+paired-then {a} {b} {n} {e = e} p h = record {
+  same = h .same ∙ p .same;
+  long = rw length-append (omega (arith, h .long, p .long));
+  words = h .words ∙ (ap (λ (l : List ℕ). l ++ b) (p .words) ∙ append-assoc (take n e) a b);
 }
 
 -- two pairs more
@@ -106,77 +75,111 @@ length-pairs : (e : List ℕ) (n f lo hi : ℕ) → length (pairsPut e n f lo hi
 unfolding pairsPut
 length-pairs e n f lo hi = simp length-set
 
-module _ {q e : List ℕ} {k n : ℕ} (s : Chained q e k n) where
-  pub pairs-none : k ≡ 0 → Paired (conjunctsAt q k) n e e n
-  pairs-none z = rw (chain-at (reads-end z)) (record { same = refl; long = omega arith; words = sym (append-nil (take n e)) })
+-- ---- one record
 
-  module _ (z : k ≡ 0 → ⊥) {kind next : ℕ} (ek : kind ≡ kindOf q k) (en : next ≡ nextOf q k) where
-    first : Cut q k (conjunctsAt q k)
-    first = cut z (s .reads)
+read : {q : List ℕ} {k : ℕ} {c : Chain} → Reads q k c → Reads q k (conjunctsAt q k)
+read r = rw (chain-at r) r
 
-    -- a role: its child chain, then its next
-    module _ (i : kind ≡ 3) {child : ℕ} (ec : child ≡ childOf q k) where
-      whole : conjunctsAt q k ≡ some (nameOf q k) (conjunctsAt q child) (conjunctsAt q next)
-      whole = rw (ec, en) (first .role (sym ek ∙ i))
+-- the record at k, which is of the chain's first conjunct
+module _ {q e : List ℕ} {left k n : ℕ} (s : Chained q e left k n) (z : k ≡ 0 → ⊥) {kind : ℕ} (ek : kind ≡ kindOf q k) where
+  -- a role: its child chain
+  module _ (i : kind ≡ 3) where
+    below : {c : Chain} → Reads q k c → depth c ≤ left → n + 4 * count c ≤ length e → (1 ≤ left) × Chained q e (left - 1) (childOf q k) n
+    below (reads-end h) l m = absurd (z h)
+    below (reads-class h j r) l m = absurd (omega arith)
+    below (reads-impossible h j r) l m = absurd (omega arith)
+    below (reads-some h j d r) l m = (omega arith, record { reads = read d; shallow = rw (chain-at d) (omega arith); room = rw (chain-at d) (omega arith) })
+    below (reads-interval h j r) l m = absurd (omega arith)
 
-      records : count (conjunctsAt q k) ≡ suc (count (conjunctsAt q child) + count (conjunctsAt q next))
-      records = ap count whole
+    pub child-level : 1 ≤ left
+    child-level = below (s .reads) (s .shallow) (s .room) .0
 
-      pub child-asks : {t : ℕ} → count (conjunctsAt q k) ≡ t → (count (conjunctsAt q child) < t) × Chained q e child n
-      child-asks h =
-          (omega (arith, records), record { reads = rw ec (first .child (sym ek ∙ i)); room = omega (arith, records) })
+    pub child-falls : {t : ℕ} → 2 * left ≡ t → 2 * (left - 1) + 1 < t
+    child-falls h = omega (arith, child-level)
 
-      module _ {e′ : List ℕ} {m : ℕ} (p : Paired (conjunctsAt q child) n e e′ m) where
-        pub later-asks : {t : ℕ} → count (conjunctsAt q k) ≡ t → (count (conjunctsAt q next) < t) × Chained q e′ next m
-        later-asks h =
-            let few = pairs-few (conjunctsAt q child) in
-            (omega (arith, records), record { reads = rw en (first .next); room = omega (arith, records, p .long, p .same) })
+    module _ {y : ℕ} (ey : y ≡ childOf q k) where
+      pub child-chained : Chained q e (left - 1) y n
+      child-chained = rw ey (below (s .reads) (s .shallow) (s .room) .1)
 
-        pub both-paired : {e″ : List ℕ} {r : ℕ} → Paired (conjunctsAt q next) m e′ e″ r → Paired (conjunctsAt q k) n e e″ r
-        both-paired h = record {
-          same = h .same ∙ p .same;
-          long = rw (whole, length-append) (omega (arith, h .long, p .long));
-          words = h .words
-              ∙ (ap (λ (l : List ℕ). l ++ pairsOf (conjunctsAt q next)) (p .words)
-              ∙ (append-assoc (take n e) (pairsOf (conjunctsAt q child)) (pairsOf (conjunctsAt q next)) ∙ ap (λ (c : Chain). take n e ++ pairsOf c) (sym whole)));
-        }
+      pub role-paired : {e′ : List ℕ} {r : ℕ} → Paired (pairsOf (conjunctsAt q y)) n e e′ r → Paired (pairsOf (conjunctOf q k)) n e e′ r
+      role-paired p = rw (← ek, i, ← ey, append-nil) p
 
-    -- a constraint: its two pairs, then its next
-    module _ (i : kind ≡ 4) where
-      pair-records : count (conjunctsAt q k) ≡ suc (count (conjunctsAt q next))
-      pair-records = rw en (ap count (first .constraint (sym ek ∙ i)))
+  -- a constraint: its two pairs
+  module _ (i : kind ≡ 4) where
+    counted : {c : Chain} → Reads q k c → 1 ≤ count c
+    counted (reads-end h) = absurd (z h)
+    counted (reads-class h j r) = omega arith
+    counted (reads-impossible h j r) = omega arith
+    counted (reads-some h j d r) = omega arith
+    counted (reads-interval h j r) = omega arith
 
-      pub pairs-fit : n + 4 ≤ length e
-      pairs-fit = omega (arith, pair-records)
+    pub pairs-fit : n + 4 ≤ length e
+    pairs-fit = let h = s .room in omega (arith, counted (s .reads))
 
-      module _ {f lo hi : ℕ} (ef : f ≡ nameOf q k) (el : lo ≡ loOf q k) (eh : hi ≡ hiOf q k) {e′ : List ℕ} (w : e′ ≡ pairsPut e n f lo hi) where
-        here : conjunctsAt q k ≡ interval f lo hi (conjunctsAt q next)
-        here = rw (ef, el, eh, en) (first .constraint (sym ek ∙ i))
+    pub constraint-paired : {f lo hi : ℕ} {e′ : List ℕ} → f ≡ nameOf q k → lo ≡ loOf q k → hi ≡ hiOf q k → e′ ≡ pairsPut e n f lo hi →
+        Paired (pairsOf (conjunctOf q k)) n e e′ (n + 4)
+    constraint-paired {f} {lo} {hi} ef el eh w = rw (← ek, i, ← ef, ← el, ← eh) (record {
+      same = ap length w ∙ length-pairs e n f lo hi;
+      long = refl;
+      words = ap (take (n + 4)) w ∙ pairs-put e n f lo hi pairs-fit;
+    })
 
-        pub pairs-same : length e′ ≡ length e
-        pairs-same = ap length w ∙ length-pairs e n f lo hi
+  -- a record with no end
+  module _ (i : kind ≡ 3 → ⊥) (j : kind ≡ 4 → ⊥) where
+    pub other-paired : Paired (pairsOf (conjunctOf q k)) n e e n
+    other-paired = go (s .reads)
+      where
+        go : {c : Chain} → Reads q k c → Paired (pairsOf (conjunctOf q k)) n e e n
+        go (reads-end h) = absurd (z h)
+        go (reads-class h x r) = rw x (paired-none n e)
+        go (reads-impossible h x r) = rw x (paired-none n e)
+        go (reads-some h x d r) = absurd (i (ek ∙ x))
+        go (reads-interval h x r) = absurd (j (ek ∙ x))
 
-        pub behind-asks : {t : ℕ} → count (conjunctsAt q k) ≡ t → (count (conjunctsAt q next) < t) × Chained q e′ next (n + 4)
-        behind-asks h =
-            (omega (arith, pair-records), record { reads = rw en (first .next); room = omega (arith, pair-records, pairs-same) })
+-- ---- one after another
 
-        pub behind-paired : {e″ : List ℕ} {r : ℕ} → Paired (conjunctsAt q next) (n + 4) e′ e″ r → Paired (conjunctsAt q k) n e e″ r
-        behind-paired h = record {
-          same = h .same ∙ pairs-same;
-          long = rw here (omega (arith, h .long));
-          words = h .words
-              ∙ (ap (λ (l : List ℕ). l ++ pairsOf (conjunctsAt q next)) (ap (take (n + 4)) w ∙ pairs-put e n f lo hi pairs-fit)
-              ∙ (append-assoc (take n e) (twoPairs f lo hi) (pairsOf (conjunctsAt q next)) ∙ ap (λ (c : Chain). take n e ++ pairsOf c) (sym here)));
-        }
+-- what record k tells of the conjuncts c from it on
+record Cut (q : List ℕ) (left k : ℕ) (c : Chain) : Type 0 where
+  here : Here q k
+  next : Reads q (nextOf q k) (conjunctsAt q (nextOf q k))
+  shallow : depth (conjunctsAt q (nextOf q k)) ≤ left
+  pairs : pairsOf c ≡ pairsOf (conjunctOf q k) ++ pairsOf (conjunctsAt q (nextOf q k))
+  records : count c ≡ count (conjunctOf q k) + count (conjunctsAt q (nextOf q k))
 
-    -- a record with no end: its next
-    module _ (i : kind ≡ 3 → ⊥) (j : kind ≡ 4 → ⊥) where
-      rest : (pairsOf (conjunctsAt q k) ≡ pairsOf (conjunctsAt q next)) × (count (conjunctsAt q k) ≡ suc (count (conjunctsAt q next)))
-      rest = rw en (first .other (λ h. i (ek ∙ h)) (λ h. j (ek ∙ h)))
+cut : {q : List ℕ} {left k : ℕ} {c : Chain} → (k ≡ 0 → ⊥) → Reads q k c → depth c ≤ left → Cut q left k c
+cut z (reads-end e) l = absurd (z e)
+cut z (reads-class h i n) l = record { here = h; next = read n; shallow = rw (chain-at n) (omega arith); pairs = rw (i, chain-at n); records = rw (i, chain-at n) (omega arith) }
+cut z (reads-impossible h i n) l = record { here = h; next = read n; shallow = rw (chain-at n) (omega arith); pairs = rw (i, chain-at n); records = rw (i, chain-at n) (omega arith) }
+cut z (reads-some h i d n) l = record { here = h; next = read n; shallow = rw (chain-at n) (omega arith); pairs = rw (i, chain-at d, chain-at n, append-nil); records = rw (i, chain-at d, chain-at n) (omega arith) }
+cut z (reads-interval h i n) l = record { here = h; next = read n; shallow = rw (chain-at n) (omega arith); pairs = rw (i, chain-at n); records = rw (i, chain-at n) (omega arith) }
 
-      pub next-asks : {t : ℕ} → count (conjunctsAt q k) ≡ t → (count (conjunctsAt q next) < t) × Chained q e next n
-      next-asks h =
-          (omega (arith, rest .1), record { reads = rw en (first .next); room = omega (arith, rest .1) })
+-- the pairs of the records from first to k stand after the m words of what was e₀: what is done from k on is done from first on
+pub record Going (q e₀ : List ℕ) (left first m : ℕ) (e : List ℕ) (n k : ℕ) : Type 0 where
+  pub same : length e ≡ length e₀
+  pub chained : Chained q e left k n
+  pub whole : {e′ : List ℕ} {r : ℕ} → Paired (pairsOf (conjunctsAt q k)) n e e′ r → Paired (pairsOf (conjunctsAt q first)) m e₀ e′ r
 
-      pub next-paired : {e″ : List ℕ} {r : ℕ} → Paired (conjunctsAt q next) n e e″ r → Paired (conjunctsAt q k) n e e″ r
-      next-paired h = record { same = h .same; long = rw (rest .0) (h .long); words = rw (rest .0) (h .words) }
+pub going-starts : {q e : List ℕ} {left k n : ℕ} → Chained q e left k n → Going q e left k n e n k
+going-starts s = record { same = refl; chained = s; whole = λ p. p }
+
+module _ {q e₀ : List ℕ} {left first m : ℕ} {e : List ℕ} {n k : ℕ} (g : Going q e₀ left first m e n k) where
+  pub going-ends : k ≡ 0 → Paired (pairsOf (conjunctsAt q first)) m e₀ e n
+  going-ends z = g .whole (rw (chain-at (reads-end z)) (paired-none n e))
+
+  module _ (z : k ≡ 0 → ⊥) where
+    cut-here : Cut q left k (conjunctsAt q k)
+    cut-here = let s = g .chained in cut z (s .reads) (s .shallow)
+
+    pub going-falls : {x : ℕ} → x ≡ nextOf q k → falling (lastOf 6 q) x < falling (lastOf 6 q) k
+    going-falls e = let h = cut-here .here in rw e (falls (lastOf 6 q) k (nextOf q k) (h .inside) (h .next))
+
+    pub going-on : {e′ : List ℕ} {r x : ℕ} → Paired (pairsOf (conjunctOf q k)) n e e′ r → x ≡ nextOf q k → Going q e₀ left first m e′ r x
+    going-on p ex = rw ex (record {
+      same = p .same ∙ g .same;
+      chained = record {
+        reads = cut-here .next;
+        shallow = cut-here .shallow;
+        room = let h = g .chained .room in omega (arith, h, cut-here .records, p .long, p .same, pairs-few (conjunctOf q k));
+      };
+      whole = λ later. g .whole (rw (cut-here .pairs) (paired-then p later));
+    })

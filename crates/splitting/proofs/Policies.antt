@@ -1,18 +1,20 @@
 -- The pairs of a policy, one term after another, are its ends.
 use Prim.Native.Nat.{_*_, _+_, _<_, _≤_, ℕ}
-use mathlib.Core.List.{List, [], _++_, _∷_, append-assoc, append-nil}
+use mathlib.Core.List.{List, [], _++_, _∷_, append-nil}
 use mathlib.Core.Path.{_∙_, _≡_, ap, refl, subst, sym}
 use native.Mathlib.Omega.{arith}
 use lib.ListN.{length, take}
-use Rattle.meaning.proofs.Links.{falls}
-use Rattle.meaning.proofs.Terms.{chain-at}
-use Rattle.meaning.specs.Accepted.{Reads, ReadsTerms, reads-none, reads-term, total}
+use Rattle.meaning.proofs.Wellformed.{accepted}
+use Rattle.meaning.specs.Accepted.{count, total}
+use Rattle.meaning.specs.Limits.{mostDepth}
 use Rattle.meaning.specs.Lists.{flatMap}
 use Rattle.meaning.specs.Policy.{Policy, childOf, firstTerm, nextOf, policyOf}
 use Rattle.meaning.specs.Records.{falling, lastOf}
 use Rattle.meaning.specs.Splitting.{ends}
-use Rattle.policy.specs.Terms.{conjunctsAt}
-use Rattle.splitting.proofs.Collecting.{pairs-end, pairs-few, read}
+use Rattle.policy.proofs.Terms.{terms-along}
+use Rattle.policy.specs.Terms.{conjunctsAt, termLinks}
+use Rattle.records.proofs.Chains.{Walking, walking-ends, walking-falls, walking-found, walking-on, walking-sound, walking-starts}
+use Rattle.splitting.proofs.Collecting.{paired-none, paired-then, pairs-end, pairs-few}
 use Rattle.splitting.specs.Ends.{Chained, Collectable, Collected, Ends, Paired, endsIn, pairsOf}
 
 abbrev pairsIn : Policy → List ℕ
@@ -23,74 +25,55 @@ unfolding endsIn
 pairs-ends [] f = refl
 pairs-ends (c ∷ Q) f = pairs-end f c (pairsIn Q) ∙ ap (λ (m : List ℕ). ends f c ++ m) (pairs-ends Q f)
 
--- the first of the terms from record k on
-record Term (q : List ℕ) (k : ℕ) (P : Policy) : Type 0 where
-  pub rest : Policy
-  pub whole : P ≡ conjunctsAt q (childOf q k) ∷ rest
-  pub reads : Reads q (childOf q k) (conjunctsAt q (childOf q k))
-  pub later : ReadsTerms q (nextOf q k) rest
-  pub fewer : falling (lastOf 6 q) (nextOf q k) < falling (lastOf 6 q) k
-
-term : {q : List ℕ} {k : ℕ} {P : Policy} → (k ≡ 0 → ⊥) → ReadsTerms q k P → Term q k P
-term z (reads-none e) = absurd (z e)
-term {q} {k} z (reads-term {P = P} h e r t) = record {
-  rest = P;
-  whole = rw (chain-at r);
-  reads = read r;
-  later = t;
-  fewer = falls (lastOf 6 q) k (nextOf q k) (h .inside) (h .next);
-}
+-- there is room for the terms that are left, and what is done with their pairs is done with those of the policy
+pub record Rest (q e₀ e : List ℕ) (n : ℕ) (l : Policy) : Type 0 where
+  pub room : n + 4 * total l ≤ length e
+  pub whole : {e′ : List ℕ} {r : ℕ} → Paired (pairsIn l) n e e′ r → Paired (pairsIn (policyOf q)) 0 e₀ e′ r
 
 -- before the term at record k: n words are written, of the slice that was e₀
 pub record Collecting (q e₀ e : List ℕ) (n k : ℕ) : Type 0 where
-  pub left : Policy
+  pub vocabulary : List ℕ
   pub same : length e ≡ length e₀
-  pub reads : ReadsTerms q k left
-  pub room : n + 4 * total left ≤ length e
-  pub words : take n e ++ pairsIn left ≡ pairsIn (policyOf q)
+  pub walk : Walking (termLinks vocabulary q) (Rest q e₀ e n) k
 
 pub collecting-starts : {q e : List ℕ} {k : ℕ} → Collectable q e → k ≡ firstTerm q → Collecting q e e 0 k
-collecting-starts {q} s h = record {
-  left = policyOf q;
-  same = refl;
-  reads = rw h (s .reads);
-  room = omega arith;
-  words = refl;
-}
+collecting-starts {q} s h =
+    let a = accepted (s .vocabulary) q (s .accepted) in
+    record {
+      vocabulary = s .vocabulary;
+      same = refl;
+      walk = walking-starts (terms-along (s .vocabulary) q (s .accepted)) h (record { room = omega (arith, s .room, a .few, a .small); whole = λ p. p });
+    }
 
 module _ {q e₀ e : List ℕ} {n k : ℕ} (s : Collecting q e₀ e n k) where
   pub collecting-ends : k ≡ 0 → Collected (policyOf q) e₀ e n
-  collecting-ends z = record {
-    same = s .same;
-    within = omega arith;
-    ends = subst (Ends (policyOf q)) (sym (all (s .left) (s .reads) (s .words))) (pairs-ends (policyOf q));
-  }
-    where
-      all : (P : Policy) → ReadsTerms q k P → take n e ++ pairsIn P ≡ pairsIn (policyOf q) → take n e ≡ pairsIn (policyOf q)
-      all P (reads-none e) h = sym (append-nil _) ∙ h
-      all P (reads-term h e r t) w = absurd (omega arith)
+  collecting-ends z =
+      let t = walking-ends (s .walk) z in
+      record {
+        same = s .same;
+        within = omega (arith, t .room);
+        ends = subst (Ends (policyOf q)) (sym (t .whole (paired-none n e) .words)) (pairs-ends (policyOf q));
+      }
 
   module _ (z : k ≡ 0 → ⊥) where
-    here : Term q k (s .left)
-    here = term z (s .reads)
-
     pub collecting-falls : {next : ℕ} → next ≡ nextOf q k → falling (lastOf 6 q) next < falling (lastOf 6 q) k
-    collecting-falls en = rw en (here .fewer)
+    unfolding termLinks
+    collecting-falls en = walking-falls (s .walk) z en
 
     module _ {child : ℕ} (ec : child ≡ childOf q k) where
-      pub collecting-child : Chained q e child n
-      collecting-child = rw ec (record { reads = here .reads; room = omega (arith, ap total (here .whole)) })
+      pub collecting-child : Chained q e mostDepth child n
+      unfolding termLinks
+      collecting-child =
+          let t = walking-sound (s .walk) z in
+          rw ec (record { reads = t .reads; shallow = t .shallow; room = walking-found (s .walk) z (λ l h. omega (arith, h .room)) })
 
-      pub collecting-on : {e′ : List ℕ} {m next : ℕ} → Paired (conjunctsAt q child) n e e′ m → next ≡ nextOf q k → Collecting q e₀ e′ m next
+      pub collecting-on : {e′ : List ℕ} {m next : ℕ} → Paired (pairsOf (conjunctsAt q child)) n e e′ m → next ≡ nextOf q k → Collecting q e₀ e′ m next
+      unfolding termLinks
       collecting-on p en = record {
-        left = here .rest;
+        vocabulary = s .vocabulary;
         same = p .same ∙ s .same;
-        reads = rw en (here .later);
-        room = omega (arith, ap total whole, p .long, p .same, pairs-few (conjunctsAt q child));
-        words = ap (λ (l : List ℕ). l ++ pairsIn (here .rest)) (p .words)
-            ∙ (append-assoc (take n e) (pairsOf (conjunctsAt q child)) (pairsIn (here .rest))
-            ∙ (ap (λ (P : Policy). take n e ++ pairsIn P) (sym whole) ∙ s .words));
+        walk = walking-on (s .walk) z en (λ l h. record {
+          room = omega (arith, h .room, p .long, p .same, pairs-few (conjunctsAt q child), ap (λ (j : ℕ). count (conjunctsAt q j)) ec);
+          whole = λ later. h .whole (paired-then (rw ec at p) later);
+        });
       }
-        where
-          whole : s .left ≡ conjunctsAt q child ∷ here .rest
-          whole = rw ec (here .whole)

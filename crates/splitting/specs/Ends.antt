@@ -5,10 +5,10 @@ use mathlib.Core.List.{List, [], _++_, _∷_}
 use mathlib.Core.Path.{_≡_}
 use lib.Dec.{eqb, ltb}
 use lib.ListN.{length, set, take}
-use Rattle.meaning.specs.Accepted.{Reads, ReadsTerms, count, total}
+use Rattle.meaning.specs.Accepted.{Reads, count, depth}
 use Rattle.meaning.specs.Limits.{mostRecords}
 use Rattle.meaning.specs.Lists.{flatMap}
-use Rattle.meaning.specs.Policy.{Chain, Policy, class, end, firstTerm, impossible, interval, policyOf, some}
+use Rattle.meaning.specs.Policy.{Chain, Policy, class, end, impossible, interval, policyRefusal, some}
 use Rattle.meaning.specs.Splitting.{ends}
 use Rattle.policy.specs.Terms.{conjunctsAt}
 
@@ -40,20 +40,22 @@ endWords = 4 * mostRecords
 unfoldable pub pairsPut : List ℕ → ℕ → ℕ → ℕ → ℕ → List ℕ
 pairsPut e n f lo hi = set (set (set (set e n f) (n + 1) lo) (n + 2) f) (n + 3) hi
 
--- what a chain from record k on asks, and what it gives: its pairs after the first n words
-pub record Chained (q e : List ℕ) (k n : ℕ) : Type 0 where
+-- the conjuncts from record k on are read, with at most so many levels, and there is room for their pairs after n words
+pub record Chained (q e : List ℕ) (left k n : ℕ) : Type 0 where
   pub reads : Reads q k (conjunctsAt q k)
+  pub shallow : depth (conjunctsAt q k) ≤ left
   pub room : n + 4 * count (conjunctsAt q k) ≤ length e
 
-pub record Paired (c : Chain) (n : ℕ) (e e′ : List ℕ) (r : ℕ) : Type 0 where
+-- the words l stand after the first n
+pub record Paired (l : List ℕ) (n : ℕ) (e e′ : List ℕ) (r : ℕ) : Type 0 where
   pub same : length e′ ≡ length e
-  pub long : r ≡ n + length (pairsOf c)
-  pub words : take r e′ ≡ take n e ++ pairsOf c
+  pub long : r ≡ n + length l
+  pub words : take r e′ ≡ take n e ++ l
 
--- what the reader tells of a policy, and room for its pairs
+-- some vocabulary accepts the policy, and there is room for its pairs
 pub record Collectable (q e : List ℕ) : Type 0 where
-  pub reads : ReadsTerms q (firstTerm q) (policyOf q)
-  pub few : total (policyOf q) ≤ mostRecords
+  pub vocabulary : List ℕ
+  pub accepted : policyRefusal vocabulary q ≡ 0
   pub room : endWords ≤ length e
 
 -- the first r words are the ends of the policy

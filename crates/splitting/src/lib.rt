@@ -6,6 +6,7 @@ use layout::piece_hi;
 use layout::put_piece;
 use meaning::FeatureNo;
 use meaning::limits::MOST_COMBINATIONS;
+use meaning::limits::MOST_DEPTH;
 use policy::child_of;
 use policy::first_term;
 use policy::hi_of;
@@ -21,8 +22,8 @@ ghost use Rattle.layout.specs.Tables.{intervalOf};
 ghost use Rattle.meaning.specs.Intervals.{NonEmpty};
 ghost use Rattle.meaning.specs.Policy.{Policy, policyOf};
 ghost use Rattle.meaning.specs.Splitting.{pieces};
-ghost use Rattle.policy.specs.Terms.{conjunctsAt};
-ghost use Rattle.splitting.specs.Ends.{Chained, Collectable, Collected, Ends, Paired, endsIn, least, nearer, pairsPut, upper};
+ghost use Rattle.policy.specs.Terms.{conjunctOf, conjunctsAt};
+ghost use Rattle.splitting.specs.Ends.{Chained, Collectable, Collected, Ends, Paired, endsIn, least, nearer, pairsOf, pairsPut, upper};
 ghost use Rattle.splitting.specs.Odometer.{Few, Multiplied, Splittable, Started, Stepped, Widened};
 
 // Two pairs of a feature and an end.
@@ -36,25 +37,35 @@ fn put_pairs(ends: &mut [u32], n: usize, f: FeatureNo, lo: u32, hi: u32)
     ends[n + 3] = hi;
 }
 
-// The pairs of the chain from record k on, after n words: a record, its child chain, its next.
-fn collect_from(q: &[u32], ends: &mut [u32], k: u32, n: usize) -> usize
-    requires { ⌜ Chained (now q) (now ends) k n ⌝ }
-    ensures { λ r. ⌜ Paired (conjunctsAt (now (q .entry)) k) n (now (ends .entry)) (now (ends .exit)) r ⌝ }
+// The pairs of record k, after n words: its own, or those of its child chain, with a level less.
+fn collect_at(q: &[u32], ends: &mut [u32], left: u32, k: u32, n: usize) -> usize
+    requires { ⌜ (k ≡ 0 → ⊥) × Chained (now q) (now ends) left k n ⌝ }
+    ensures { λ r. ⌜ Paired (pairsOf (conjunctOf (now (q .entry)) k)) n (now (ends .entry)) (now (ends .exit)) r ⌝ }
 {
-    if k == 0 {
-        return n;
-    }
     let kind = kind_of(q, k);
-    let next = next_of(q, k);
     if kind == 3 {
-        let m = collect_from(q, ends, child_of(q, k), n);
-        return collect_from(q, ends, next, m);
+        return collect_from(q, ends, left - 1, child_of(q, k), n);
     }
     if kind == 4 {
         put_pairs(ends, n, FeatureNo(name_of(q, k)), lo_of(q, k), hi_of(q, k));
-        return collect_from(q, ends, next, n + 4);
+        return n + 4;
     }
-    collect_from(q, ends, next, n)
+    n
+}
+
+// The pairs of the chain from record first on, after m words. left counts the levels of conjuncts that may still stand. It ends, since
+// levels fall into a child chain and links rise along a chain.
+fn collect_from(q: &[u32], ends: &mut [u32], left: u32, first: u32, m: usize) -> usize
+    requires { ⌜ Chained (now q) (now ends) left first m ⌝ }
+    ensures { λ r. ⌜ Paired (pairsOf (conjunctsAt (now (q .entry)) first)) m (now (ends .entry)) (now (ends .exit)) r ⌝ }
+{
+    let mut k = first;
+    let mut n = m;
+    while k != 0 {
+        n = collect_at(q, ends, left, k, n);
+        k = next_of(q, k);
+    }
+    n
 }
 
 // Room for the ends of a policy: four words for each of its records.
@@ -68,7 +79,7 @@ pub fn collect(q: &[u32], ends: &mut [u32]) -> usize
     let mut n: usize = 0;
     let mut k = first_term(q);
     while k != 0 {
-        n = collect_from(q, ends, child_of(q, k), n);
+        n = collect_from(q, ends, MOST_DEPTH, child_of(q, k), n);
         k = next_of(q, k);
     }
     n

@@ -6,7 +6,6 @@ use borrow.Author.Needs.{needs}
 use Rattle.containment.proofs.Complying.{ready-accepts, ready-still, settles, settles-22}
 use Rattle.containment.proofs.settle.Statement.{statement}
 use Rattle.frames.proofs.Frames.{only-then}
-use Rattle.meaning.proofs.Wellformed.{accepted}
 use Rattle.splitting.proofs.Callers.{collectable}
 use Rattle.containment.proofs.settle.Tie as tie
 
@@ -39,7 +38,7 @@ settle-spec =
     tie.close
     (tie.spec
     (λ c. search needs)
-    (λ c κs. collectable (accepted _ _ (c .before .before .before .before .before .pre .1 .second)) (omega arith))
+    (λ c κs. collectable _ (c .before .before .before .before .before .pre .1 .second) (omega arith))
     (λ c. c .before .collect .ensures .within)
     (λ c. sym (length-take-le _ _ (c .before .before .collect .ensures .within)))
     (λ c κs. (c .before .before .before .before .before .before .before .before .before .pre .1 .full, (c .before .before .before .before .before .before .before .before .before .pre .0, ready-accepts (c .before .before .before .before .before .before .before .before .before .pre .1))))

@@ -7,7 +7,6 @@ use Rattle.containment.proofs.Complying.{ready-accepts, ready-back, ready-still
 use Rattle.equality.proofs.Comparing.{compares-22, compares-both, compares-none}
 use Rattle.equality.proofs.compare.Statement.{statement}
 use Rattle.frames.proofs.Frames.{only-then}
-use Rattle.meaning.proofs.Wellformed.{accepted}
 use Rattle.splitting.proofs.Callers.{collectable}
 use Rattle.equality.proofs.compare.Tie as tie
 
@@ -66,11 +65,11 @@ compare-spec =
     tie.close
     (tie.spec
     (λ c. search needs)
-    (λ c κs. collectable (accepted _ _ (c .before .before .before .before .before .pre .1 .first)) (omega arith))
+    (λ c κs. collectable _ (c .before .before .before .before .before .pre .1 .first) (omega arith))
     (λ c. c .before .collect .ensures .within)
     (λ c. sym (length-take-le _ _ (c .before .before .collect .ensures .within)))
     (λ c. search needs)
-    (λ c κs. collectable (accepted _ _ (c .before .before .before .before .before .before .before .before .before .pre .1 .second)) (omega arith))
+    (λ c κs. collectable _ (c .before .before .before .before .before .before .before .before .before .pre .1 .second) (omega arith))
     (λ c. c .before .collect2 .ensures .within)
     (λ c. sym (length-take-le _ _ (c .before .before .collect2 .ensures .within)))
     (λ c κs. (c .before .before .before .before .before .before .before .before .before .before .before .before .before .pre .1 .full, (c .before .before .before .before .before .before .before .before .before .before .before .before .before .pre .0, ready-accepts (c .before .before .before .before .before .before .before .before .before .before .before .before .before .pre .1))))
