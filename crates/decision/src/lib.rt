@@ -30,7 +30,7 @@ ghost use Rattle.trial.specs.Trials.{Triable};
 
 // Whether the term at record k is possible and has too many combinations. Mostly a glance at the number of ends tells that it
 // has not; few have, so the look at the pairs comes last.
-fn is_too_many(p: &[u32], work: &mut [u32], f: Functional, ends: &[u32], k: u32) -> bool
+fn is_too_many(p: &[u32], work: &mut [u32], f: Functional, ends: &[u64], k: u32) -> bool
     requires { ⌜ Fit (now p) (now work) k × (pairCount (now work) ≤ mostPairs) ⌝ }
     ensures { λ r. ⌜ Exceeds (termAt (now (p .entry)) k) (now (ends .entry)) (now (work .entry)) f r ⌝ }
     ensures { λ _. ⌜ Only InTables (now (work .entry)) (now (work .exit)) ⌝ }
@@ -49,7 +49,7 @@ fn is_too_many(p: &[u32], work: &mut [u32], f: Functional, ends: &[u32], k: u32)
 }
 
 // Whether some term of p is, wherever it stands.
-pub fn has_too_many(p: &[u32], work: &mut [u32], f: Functional, ends: &[u32]) -> bool
+pub fn has_too_many(p: &[u32], work: &mut [u32], f: Functional, ends: &[u64]) -> bool
     requires { ⌜ (workSize ≤ length (now work)) × ((v : List ℕ) × Accepting v (now p) (now work) f) ⌝ }
     ensures { λ r. ⌜ Counts (now (p .entry)) (now (ends .entry)) (now (work .entry)) f r ⌝ }
     ensures { λ _. ⌜ Only InTables (now (work .entry)) (now (work .exit)) ⌝ }
@@ -66,7 +66,7 @@ pub fn has_too_many(p: &[u32], work: &mut [u32], f: Functional, ends: &[u32]) ->
 }
 
 // The first combination to fail of the term that the tables hold, counted from 1; 0 where it is impossible or all pass.
-fn failure_of(q: &[u32], work: &mut [u32], ends: &[u32], t: Tables) -> u32
+fn failure_of(q: &[u32], work: &mut [u32], ends: &[u64], t: Tables) -> u32
     requires { ⌜ (t .impossible ≡ false → Triable (now q) (now ends) (now work) t) ⌝ }
     ensures { λ r. ⌜ Failed (policyOf (now (q .entry))) (now (work .entry)) (now (work .exit)) t r ⌝ }
 {
@@ -98,7 +98,7 @@ pub fn decide(
     q: &[u32],
     work: &mut [u32],
     f: Functional,
-    ends: &[u32],
+    ends: &[u64],
     out: &mut [u32],
 ) -> Verdict
     requires { ⌜ ((v : List ℕ) × Countable v (now p) (now q) (now work) f) × Ends (policyOf (now q)) (now ends) ⌝ }

@@ -37,8 +37,8 @@ fn differ(
     q: &[u32],
     work: &mut [u32],
     f: Functional,
-    first: &[u32],
-    second: &[u32],
+    first: &[u64],
+    second: &[u64],
     out: &mut [u32],
 ) -> Comparison
     requires { ⌜ ((v : List ℕ) × Comparable v (now p) (now q) (now work) f) ⌝ }

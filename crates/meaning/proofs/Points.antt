@@ -12,7 +12,7 @@ use Rattle.meaning.proofs.Rules.{eqb-of, head, in-filter, order, tail}
 use Rattle.meaning.specs.Intervals.{Constraint, NonEmpty, Within, isInside, isWithin}
 use Rattle.meaning.specs.Lists.{All, Any, _∈_, cons, filter, flatMap, here, nil, there}
 use Rattle.meaning.specs.Policy.{Policy}
-use Rattle.meaning.specs.Splitting.{ends, gap, insert, insertAll, only, pieces, piecesAt, piecesFrom, points}
+use Rattle.meaning.specs.Splitting.{Rising, Sorted, ends, gap, insert, insertAll, only, pieces, piecesAt, piecesFrom, points}
 
 -- no end at e parts the piece: formula (9) makes the query interval safe
 abbrev pub Unparted : Constraint → ℕ → Type 0
@@ -32,14 +32,6 @@ pub record Inside (s p : Constraint) : Type 0 where
 pub record Part (Q : Policy) (s p : Constraint) : Type 0 where
   pub inside : Inside s p
   pub safe : (e : ℕ) → e ∈ flatMap (ends (s .feature)) Q → Unparted p e
-
-abbrev pub Rising : ℕ → List ℕ → Type 0
-Rising x [] = Unit {0}
-Rising x (y ∷ l) = (x < y) × Rising y l
-
-abbrev pub Sorted : List ℕ → Type 0
-Sorted [] = Unit {0}
-Sorted (x ∷ l) = Rising x l
 
 any-cond : {A : Type 0} {P : A → Type 0} (b : Bool) {l : List A} → T b → Any P l → Any P (cond b l [])
 any-cond true t h = h

@@ -1,5 +1,5 @@
 -- Document 01, "Splitting": X, the pieces of a constraint, and the combinations of a normal form.
-use Prim.Native.Nat.{_*_, _+_, pred, suc, ℕ}
+use Prim.Native.Nat.{_*_, _+_, _<_, pred, suc, ℕ}
 use mathlib.Core.Bool.{cond}
 use mathlib.Core.List.{List, [], _++_, _∷_, map}
 use lib.Dec.{eqb, leb, ltb}
@@ -16,6 +16,15 @@ ends f (class a next) = ends f next
 ends f (impossible next) = ends f next
 ends f (some r child next) = ends f child ++ ends f next
 ends f (interval g lo hi next) = cond (eqb f g) (lo ∷ (hi ∷ ends f next)) (ends f next)
+
+-- each above the one before it, the first above x; and with no bound for the first
+abbrev pub Rising : ℕ → List ℕ → Type 0
+Rising x [] = Unit {0}
+Rising x (y ∷ l) = (x < y) × Rising y l
+
+abbrev pub Sorted : List ℕ → Type 0
+Sorted [] = Unit {0}
+Sorted (x ∷ l) = Rising x l
 
 -- into a rising list, without repeats
 abbrev pub insert : ℕ → List ℕ → List ℕ

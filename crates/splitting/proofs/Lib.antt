@@ -1,7 +1,10 @@
 -- The laws that the functions' proofs cite.
+pub mod Keys
+pub mod Ranking
+pub mod Adding
 pub mod Collecting
 pub mod Policies
-pub mod Scanning
+pub mod Nearest
 pub mod Pieces
 pub mod Storing
 pub mod Ways

@@ -1,9 +1,9 @@
--- A constraint has at most as many pieces as the ends have words, and three more; so n constraints have few combinations where there
--- are few ends.
-use Prim.Native.Nat.{_*_, _+_, _-_, _/_, _≤_, suc, ℕ}
+-- A constraint has at most two pieces for each end, and three more; so n constraints have few combinations where there are few ends.
+use Prim.Native.Nat.{_*_, _+_, _-_, _/_, _<_, _≤_, suc, ℕ}
 use mathlib.Core.Bool.{Bool, cond, false, true}
 use mathlib.Core.List.{List, [], _∷_}
-use mathlib.Core.Path.{_≡_, ap}
+use mathlib.Core.Logic.{_⊎_, inl, inr}
+use mathlib.Core.Path.{_≡_, refl}
 use native.Mathlib.Nat.{div-mul-le-self, mul-le-mul, mul-le-mul-right}
 use native.Mathlib.Numerals.{add-one}
 use native.Mathlib.Omega.{arith}
@@ -11,13 +11,17 @@ use lib.Dec.{eqb, leb, ltb}
 use lib.ListN.{length}
 use Rattle.layout.specs.Tables.{constraintAt}
 use Rattle.meaning.proofs.Count.{count-pieces}
+use Rattle.meaning.proofs.Points.{above, insert-all, insert-here, insert-sorted, insert-there, inserts-all, points-sorted}
+use Rattle.meaning.proofs.Rules.{all-at, all-mono, all-of, any-cases, any-none}
 use Rattle.meaning.specs.Intervals.{Constraint, isWithin}
 use Rattle.meaning.specs.Limits.{mostCombinations}
-use Rattle.meaning.specs.Lists.{filter, flatMap}
+use Rattle.meaning.specs.Lists.{_∈_, cons, filter, here, nil, there}
 use Rattle.meaning.specs.Policy.{Policy}
-use Rattle.meaning.specs.Splitting.{ends, insert, insertAll, pieces, points, wide, wideNeighbours}
+use Rattle.meaning.specs.Splitting.{Sorted, insert, pieces, points, wide, wideNeighbours}
+use Rattle.splitting.proofs.Pieces.{filtered}
+use Rattle.splitting.proofs.Ranking.{rising-tail}
 use Rattle.splitting.proofs.Ways.{ways, ways-product}
-use Rattle.splitting.specs.Ends.{Ends, endsIn}
+use Rattle.splitting.specs.Ends.{Ends, endsOn, keyOf}
 use Rattle.splitting.specs.Odometer.{Few}
 
 -- ---- X has lo, hi and at most every end
@@ -32,23 +36,44 @@ insert-most e (x ∷ l) = go (ltb e x) (eqb e x) (insert-most e l)
     go false true h = omega arith
     go false false h = omega arith
 
-inserts-most : (es l : List ℕ) → length (insertAll es l) ≤ length es + length l
-inserts-most [] l = omega arith
-inserts-most (e ∷ es) l = omega (arith, inserts-most es (insert e l), insert-most e l)
-
-filter-most : (p : ℕ → Bool) (l : List ℕ) → length (filter p l) ≤ length l
-filter-most p [] = omega arith
-filter-most p (x ∷ l) = go (p x) (filter-most p l)
+-- ends that rise, each with a key of its own
+keys-most : (f : ℕ) (X Y : List ℕ) → Sorted X → Sorted Y → ((z : ℕ) → z ∈ X → keyOf f z ∈ Y) → length X ≤ length Y
+keys-most f [] Y r s a = omega arith
+keys-most f (x ∷ X) [] r s a = absurd (any-none (a x (here refl)))
+keys-most f (x ∷ X) (y ∷ Y) r s a =
+    go (λ b. keys-most f X Y (rising-tail x X r) (rising-tail y Y s) b) (λ b. keys-most f (x ∷ X) Y r (rising-tail y Y s) b) (any-cases (a x (here refl)))
   where
-    go : (b : Bool) → length (filter p l) ≤ length l → length (cond b (x ∷ filter p l) (filter p l)) ≤ suc (length l)
-    go true h = omega arith
-    go false h = omega arith
+    past : (z : ℕ) → y < keyOf f z → (keyOf f z ≡ y) ⊎ (keyOf f z ∈ Y) → keyOf f z ∈ Y
+    past z h (inl e) = absurd (omega arith)
+    past z h (inr m) = m
 
-points-most : (Q : Policy) (s : Constraint) → length (points Q s) ≤ length (flatMap (ends (s .feature)) Q) + 2
-points-most Q s =
-    let p : ℕ → Bool = isWithin (s .lo) (s .hi) in
-    let l = flatMap (ends (s .feature)) Q in
-    omega (arith, inserts-most (filter p l) (insert (s .hi) (s .lo ∷ [])), filter-most p l, insert-most (s .hi) (s .lo ∷ []))
+    from : {z : ℕ} → (z ≡ x) ⊎ (z ∈ X) → x ≤ z
+    from (inl e) = omega arith
+    from (inr m) = let h = above x X r m in omega arith
+
+    go : (((z : ℕ) → z ∈ X → keyOf f z ∈ Y) → length X ≤ length Y) → (((z : ℕ) → z ∈ x ∷ X → keyOf f z ∈ Y) → suc (length X) ≤ length Y) →
+        (keyOf f x ≡ y) ⊎ (keyOf f x ∈ Y) → suc (length X) ≤ suc (length Y)
+    go g k (inl e) = let h = g (λ z m. past z (omega (arith, above x X r m)) (any-cases (a z (there m)))) in omega arith
+    go g k (inr i) = let h = k (λ z m. past z (omega (arith, above y Y s i, from (any-cases m))) (any-cases (a z m))) in omega arith
+
+module _ (Q : Policy) (e : List ℕ) (s : Constraint) (n : Ends Q e) where
+  -- the keys of lo, hi and every end
+  Y : List ℕ
+  Y = insert (keyOf (s .feature) (s .lo)) (insert (keyOf (s .feature) (s .hi)) e)
+
+  points-most : length (points Q s) ≤ length e + 2
+  unfolding Y
+  points-most =
+      let lo = keyOf (s .feature) (s .lo) in
+      let hi = keyOf (s .feature) (s .hi) in
+      let p : ℕ → Bool = isWithin (s .lo) (s .hi) in
+      let E = endsOn Q (s .feature) in
+      let most : length (points Q s) ≤ length Y =
+      keys-most (s .feature) (points Q s) Y (points-sorted Q s) (insert-sorted lo (insert hi e) (insert-sorted hi e (n .rising)))
+      (λ z m. all-at (inserts-all (filter p E) (insert (s .hi) (s .lo ∷ []))
+      (all-mono (λ z h. h .1) (filtered p E (all-of E (λ z i. insert-there lo (insert hi e) (insert-there hi e (n .all (s .feature) z i))))))
+      (insert-all (s .hi) (s .lo ∷ []) (insert-there lo (insert hi e) (insert-here hi e)) (cons (insert-here lo (insert hi e)) nil))) m) in
+      omega (arith, insert-most lo (insert hi e), insert-most hi e)
 
 -- ---- a piece for each member of X, and at most one between two
 
@@ -64,23 +89,8 @@ neighbours-most : (X : List ℕ) → length X + wideNeighbours X ≤ 2 * length 
 neighbours-most [] = omega arith
 neighbours-most (x ∷ l) = omega (arith, gaps-most x l)
 
-pieces-most : (Q : Policy) (s : Constraint) → length (pieces Q s) ≤ 2 * length (flatMap (ends (s .feature)) Q) + 3
-pieces-most Q s = omega (arith, count-pieces Q s, neighbours-most (points Q s), points-most Q s)
-
--- ---- an end has two words
-
-ends-half : (e : List ℕ) (f : ℕ) → 2 * length (endsIn e f) ≤ length e
-unfolding endsIn
-ends-half [] f = omega arith
-ends-half (g ∷ []) f = omega arith
-ends-half (g ∷ (x ∷ l)) f = go (eqb g f) (ends-half l f)
-  where
-    go : (b : Bool) → 2 * length (endsIn l f) ≤ length l → 2 * length (cond b (x ∷ endsIn l f) (endsIn l f)) ≤ suc (suc (length l))
-    go true h = omega arith
-    go false h = omega arith
-
-pieces-within : (Q : Policy) (e : List ℕ) (s : Constraint) → Ends Q e → length (pieces Q s) ≤ length e + 3
-pieces-within Q e s n = omega (arith, pieces-most Q s, ends-half e (s .feature), ap length (n (s .feature)))
+pieces-within : (Q : Policy) (e : List ℕ) (s : Constraint) → Ends Q e → length (pieces Q s) ≤ 2 * length e + 3
+pieces-within Q e s n = omega (arith, count-pieces Q s, neighbours-most (points Q s), points-most Q e s n)
 
 -- ---- the loop's turns
 
@@ -91,7 +101,7 @@ room-fits a d h = omega (arith, mul-le-mul-right d h, div-mul-le-self mostCombin
 abbrev pub Within : List ℕ → ℕ → ℕ → Type 0
 Within e i a = (Q : Policy) → Ends Q e → (w : List ℕ) → ways Q w i ≤ a
 
-pub within-more : (e : List ℕ) (i a most : ℕ) → length e + 3 ≤ most → Within e i a → Within e (i + 1) (a * most)
+pub within-more : (e : List ℕ) (i a most : ℕ) → 2 * length e + 3 ≤ most → Within e i a → Within e (i + 1) (a * most)
 within-more e i a most b h Q n w =
     let k = pieces-within Q e (constraintAt w i) n in
     rw add-one (mul-le-mul (h Q n w) (omega arith))

@@ -11,15 +11,15 @@ use borrow.Author.Tests.{ltb-false, ltb-true}
 use Rattle.layout.specs.Tables.{intervalOf}
 use Rattle.meaning.proofs.Intervals.{isWithin-iff}
 use Rattle.meaning.proofs.Odometer.{at-lt}
-use Rattle.meaning.proofs.Points.{Rising, Sorted, above, insert-all, insert-here, insert-sorted, insert-there, inserts-all, inserts-here}
+use Rattle.meaning.proofs.Points.{above, insert-all, insert-here, insert-sorted, insert-there, inserts-all, inserts-here}
 use Rattle.meaning.proofs.Points.{inserts-sorted, inserts-there}
 use Rattle.meaning.proofs.Rules.{all-at, all-mono, all-of, any-cases, any-none, head, in-filter, tail}
 use Rattle.meaning.specs.Intervals.{Constraint, NonEmpty, isWithin}
-use Rattle.meaning.specs.Lists.{All, At, _∈_, atHere, atThere, cons, filter, flatMap, here, nil}
+use Rattle.meaning.specs.Lists.{All, At, _∈_, atHere, atThere, cons, filter, here, nil}
 use Rattle.meaning.specs.Policy.{Policy}
-use Rattle.meaning.specs.Splitting.{ends, gap, insert, insertAll, only, pieces, piecesAt, piecesFrom}
-use Rattle.splitting.proofs.Scanning.{far-up, least-is, near-up, upper-is}
-use Rattle.splitting.specs.Ends.{Ends, endsIn, upper}
+use Rattle.meaning.specs.Splitting.{Rising, Sorted, gap, insert, insertAll, only, pieces, piecesAt, piecesFrom}
+use Rattle.splitting.proofs.Nearest.{far-up, least-is, near-up, upper-is}
+use Rattle.splitting.specs.Ends.{endsOn, upper}
 
 -- ---- a run
 
@@ -108,7 +108,7 @@ module _ (E : List ℕ) (f h : ℕ) where
 
 -- ---- X, and so the pieces
 
-filtered : {P : ℕ → Type 0} (p : ℕ → Bool) (l : List ℕ) → All P l → All (λ z. T (p z) × P z) (filter p l)
+pub filtered : {P : ℕ → Type 0} (p : ℕ → Bool) (l : List ℕ) → All P l → All (λ z. T (p z) × P z) (filter p l)
 filtered p [] h = nil
 filtered {P} p (x ∷ l) h = go (p x) refl (filtered p l (tail h))
   where
@@ -184,14 +184,18 @@ module _ (E : List ℕ) (s : Constraint) (a : NonEmpty (s .lo) (s .hi)) where
 -- ---- first, next, last
 
 pub piece-first : (Q : Policy) (s : Constraint) → NonEmpty (s .lo) (s .hi) → At (only (s .feature) (s .lo)) (pieces Q s) 0
-piece-first Q s a = let k = run-all (flatMap (ends (s .feature)) Q) s a in rw (k .1) (atHere refl)
+piece-first Q s a = let k = run-all (endsOn Q (s .feature)) s a in rw (k .1) (atHere refl)
 
-module _ (Q : Policy) (e : List ℕ) (s : Constraint) (n : Ends Q e) (a : NonEmpty (s .lo) (s .hi)) where
+-- the count c has come to a piece with upper end x
+abbrev pub Walked : Policy → Constraint → ℕ → ℕ → Type 0
+Walked Q s c x = (d : ℕ) × (p : Constraint) × (c ≡ suc d) × At p (pieces Q s) d × (p .hi ≡ x)
+
+module _ (Q : Policy) (s : Constraint) (a : NonEmpty (s .lo) (s .hi)) where
   abbrev E : List ℕ
-  E = endsIn e (s .feature)
+  E = endsOn Q (s .feature)
 
   run-of : Pieces E s (pieces Q s)
-  run-of = subst (λ l. Pieces l s (pieces Q s)) (sym (n (s .feature))) (run-all (flatMap (ends (s .feature)) Q) s a)
+  run-of = run-all E s a
 
   pub piece-next : {p : Constraint} {d : ℕ} → At p (pieces Q s) d → p .hi < s .hi →
       At (intervalOf (s .feature) (suc (p .hi)) (upper E (s .hi) (p .hi))) (pieces Q s) (suc d)
@@ -200,14 +204,10 @@ module _ (Q : Policy) (e : List ℕ) (s : Constraint) (n : Ends Q e) (a : NonEmp
   pub piece-last : {p : Constraint} {d : ℕ} → At p (pieces Q s) d → s .hi ≤ p .hi → suc d ≡ length (pieces Q s)
   piece-last {p} {d} = let k = run-of in rw (k .1) (run-last E (s .feature) (s .hi) (only (s .feature) (s .lo)) (k .0) (k .2))
 
-  -- the count c has come to a piece with upper end x
-  abbrev pub Walked : ℕ → ℕ → Type 0
-  Walked c x = (d : ℕ) × (p : Constraint) × (c ≡ suc d) × At p (pieces Q s) d × (p .hi ≡ x)
-
-  pub walk-starts : Walked 1 (s .lo)
+  pub walk-starts : Walked Q s 1 (s .lo)
   walk-starts = (0, only (s .feature) (s .lo), refl, piece-first Q s a, refl)
 
-  pub walk-on : (c x r : ℕ) → Walked c x → x < s .hi → r ≡ upper E (s .hi) x → Walked (c + 1) r
+  pub walk-on : (c x r : ℕ) → Walked Q s c x → x < s .hi → r ≡ upper E (s .hi) x → Walked Q s (c + 1) r
   walk-on c x r w h g = (
     suc (w .0),
     intervalOf (s .feature) (suc (w .1 .hi)) (upper E (s .hi) (w .1 .hi)),
@@ -216,5 +216,5 @@ module _ (Q : Policy) (e : List ℕ) (s : Constraint) (n : Ends Q e) (a : NonEmp
     ap (upper E (s .hi)) (w .4) ∙ sym g,
   )
 
-  pub walk-ends : (c x : ℕ) → Walked c x → s .hi ≤ x → c ≡ length (pieces Q s)
+  pub walk-ends : (c x : ℕ) → Walked Q s c x → s .hi ≤ x → c ≡ length (pieces Q s)
   walk-ends c x w h = w .2 ∙ piece-last (w .3) (omega (arith, w .4))

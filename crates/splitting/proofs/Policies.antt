@@ -1,38 +1,30 @@
--- The pairs of a policy, one term after another, are its ends.
+-- The keys of a policy, one term after another, are its ends.
 use Prim.Native.Nat.{_*_, _+_, _<_, _≤_, ℕ}
-use mathlib.Core.List.{List, [], _++_, _∷_, append-nil}
+use mathlib.Core.List.{List, []}
 use mathlib.Core.Path.{_∙_, _≡_, ap, refl, subst, sym}
 use native.Mathlib.Omega.{arith}
-use lib.ListN.{length, take}
+use lib.ListN.{getD, length}
 use Rattle.meaning.proofs.Wellformed.{accepted}
 use Rattle.meaning.specs.Accepted.{count, total}
 use Rattle.meaning.specs.Limits.{mostDepth}
-use Rattle.meaning.specs.Lists.{flatMap}
-use Rattle.meaning.specs.Policy.{Policy, childOf, firstTerm, nextOf, policyOf}
+use Rattle.meaning.specs.Policy.{Policy, childOf, firstTerm, nextOf, policyOf, policyRefusal}
 use Rattle.meaning.specs.Records.{falling, lastOf}
-use Rattle.meaning.specs.Splitting.{ends}
 use Rattle.policy.proofs.Terms.{terms-along}
 use Rattle.policy.specs.Terms.{conjunctsAt, termLinks}
 use Rattle.records.proofs.Chains.{Walking, walking-ends, walking-falls, walking-found, walking-on, walking-sound, walking-starts}
-use Rattle.splitting.proofs.Collecting.{paired-none, paired-then, pairs-end, pairs-few}
-use Rattle.splitting.specs.Ends.{Chained, Collectable, Collected, Ends, Paired, endsIn, pairsOf}
+use Rattle.splitting.proofs.Adding.{gathered-none, gathered-then}
+use Rattle.splitting.proofs.Keys.{keys-ends, keys-few, keysIn}
+use Rattle.splitting.specs.Ends.{Chained, Collectable, Collected, Ends, Gathered, endCount, keysOf}
 
-abbrev pairsIn : Policy → List ℕ
-pairsIn Q = flatMap pairsOf Q
-
-pairs-ends : (Q : Policy) → Ends Q (pairsIn Q)
-unfolding endsIn
-pairs-ends [] f = refl
-pairs-ends (c ∷ Q) f = pairs-end f c (pairsIn Q) ∙ ap (λ (m : List ℕ). ends f c ++ m) (pairs-ends Q f)
-
--- there is room for the terms that are left, and what is done with their pairs is done with those of the policy
+-- there is room for the terms that are left, and what is done with their keys is done with those of the policy
 pub record Rest (q e₀ e : List ℕ) (n : ℕ) (l : Policy) : Type 0 where
-  pub room : n + 4 * total l ≤ length e
-  pub whole : {e′ : List ℕ} {r : ℕ} → Paired (pairsIn l) n e e′ r → Paired (pairsIn (policyOf q)) 0 e₀ e′ r
+  pub room : n + 2 * total l ≤ length e
+  pub whole : {e′ : List ℕ} {r : ℕ} → Gathered (keysIn l) n e e′ r → Gathered (keysIn (policyOf q)) 0 e₀ e′ r
 
 -- before the term at record k: n words are written, of the slice that was e₀
 pub record Collecting (q e₀ e : List ℕ) (n k : ℕ) : Type 0 where
   pub vocabulary : List ℕ
+  pub accepted : policyRefusal vocabulary q ≡ 0
   pub same : length e ≡ length e₀
   pub walk : Walking (termLinks vocabulary q) (Rest q e₀ e n) k
 
@@ -41,18 +33,19 @@ collecting-starts {q} s h =
     let a = accepted (s .vocabulary) q (s .accepted) in
     record {
       vocabulary = s .vocabulary;
+      accepted = s .accepted;
       same = refl;
       walk = walking-starts (terms-along (s .vocabulary) q (s .accepted)) h (record { room = omega (arith, s .room, a .few, a .small); whole = λ p. p });
     }
 
 module _ {q e₀ e : List ℕ} {n k : ℕ} (s : Collecting q e₀ e n k) where
-  pub collecting-ends : k ≡ 0 → Collected (policyOf q) e₀ e n
-  collecting-ends z =
+  pub collecting-ends : ((i : ℕ) → getD q i 0 < endCount) → k ≡ 0 → Collected (policyOf q) e₀ e n
+  collecting-ends w z =
       let t = walking-ends (s .walk) z in
       record {
         same = s .same;
         within = omega (arith, t .room);
-        ends = subst (Ends (policyOf q)) (sym (t .whole (paired-none n e) .words)) (pairs-ends (policyOf q));
+        ends = subst (Ends (policyOf q)) (sym (t .whole (gathered-none n e) .keys [] refl)) (keys-ends w (accepted (s .vocabulary) q (s .accepted) .reads));
       }
 
   module _ (z : k ≡ 0 → ⊥) where
@@ -67,13 +60,14 @@ module _ {q e₀ e : List ℕ} {n k : ℕ} (s : Collecting q e₀ e n k) where
           let t = walking-sound (s .walk) z in
           rw ec (record { reads = t .reads; shallow = t .shallow; room = walking-found (s .walk) z (λ l h. omega (arith, h .room)) })
 
-      pub collecting-on : {e′ : List ℕ} {m next : ℕ} → Paired (pairsOf (conjunctsAt q child)) n e e′ m → next ≡ nextOf q k → Collecting q e₀ e′ m next
+      pub collecting-on : {e′ : List ℕ} {m next : ℕ} → Gathered (keysOf (conjunctsAt q child)) n e e′ m → next ≡ nextOf q k → Collecting q e₀ e′ m next
       unfolding termLinks
       collecting-on p en = record {
         vocabulary = s .vocabulary;
+        accepted = s .accepted;
         same = p .same ∙ s .same;
         walk = walking-on (s .walk) z en (λ l h. record {
-          room = omega (arith, h .room, p .long, p .same, pairs-few (conjunctsAt q child), ap (λ (j : ℕ). count (conjunctsAt q j)) ec);
-          whole = λ later. h .whole (paired-then (rw ec at p) later);
+          room = omega (arith, h .room, p .long, p .same, keys-few (conjunctsAt q child), ap (λ (j : ℕ). count (conjunctsAt q j)) ec);
+          whole = λ later. h .whole (gathered-then (rw ec at p) later);
         });
       }

@@ -15,7 +15,7 @@ use Rattle.meaning.specs.Splitting.{only}
 use Rattle.splitting.proofs.Pieces.{piece-first, piece-last, piece-next}
 use Rattle.splitting.proofs.Storing.{constraint-kept, piece-kept, pieces-more, put-kept, stands-at, stands-put}
 use Rattle.splitting.proofs.Ways.{ways, ways-product, ways-same}
-use Rattle.splitting.specs.Ends.{Ends, endsIn, upper}
+use Rattle.splitting.specs.Ends.{Ends, NextUpper}
 use Rattle.splitting.specs.Odometer.{Splittable, Stands, Started, Stepped, pieceCount}
 
 -- constraint i at its first piece, those before it at combination j
@@ -75,20 +75,20 @@ pub record Left (Q : Policy) (u : List ℕ) (n k : ℕ) (w : List ℕ) (i : ℕ)
   pub outcome : (v : List ℕ) → Only (Pieces i) w v → (b : Bool) → Outcome Q w v i number b → Outcome Q u v n k b
 
 -- the tables were u, and the constraints after the first i have started again
-pub record Turning (e u : List ℕ) (n : ℕ) (w : List ℕ) (i : ℕ) : Type 0 where
+pub record Turning (u : List ℕ) (n : ℕ) (w : List ℕ) (i : ℕ) : Type 0 where
   pub few : i ≤ n
   pub only : Only (Pieces n) u w
-  pub left : (Q : Policy) (k : ℕ) → Ends Q e → Stands Q u n k → Left Q u n k w i
+  pub left : (Q : Policy) (k : ℕ) → Stands Q u n k → Left Q u n k w i
 
-pub turning-starts : (e w : List ℕ) (n : ℕ) → Turning e w n w n
-turning-starts e w n = record {
+pub turning-starts : (w : List ℕ) (n : ℕ) → Turning w n w n
+turning-starts w n = record {
   few = omega arith;
   only = only-none;
-  left = λ Q k m s. record { number = k; stands = s; outcome = λ v o b h. h };
+  left = λ Q k s. record { number = k; stands = s; outcome = λ v o b h. h };
 }
 
-module _ {e u w : List ℕ} {n i m : ℕ} (split : Splittable u n) (t : Turning e u n w i) (last : i ≡ suc m) where
-  now-at : Turning e u n w (suc m)
+module _ {u w : List ℕ} {n i m : ℕ} (split : Splittable u n) (t : Turning u n w i) (last : i ≡ suc m) where
+  now-at : Turning u n w (suc m)
   now-at = rw last at t
 
   inside : m < n
@@ -99,17 +99,17 @@ module _ {e u w : List ℕ} {n i m : ℕ} (split : Splittable u n) (t : Turning 
 
   -- constraint m is at its last piece: it starts again
   pub turning-back : {v : List ℕ} {hi top lo : ℕ} → hi ≡ constraintAt w m .hi → top ≡ pieceAt w m .hi → hi ≤ top → lo ≡ constraintAt w m .lo → PiecePut m lo lo w v →
-      Turning e u n v m
+      Turning u n v m
   turning-back {v} eh et h el p = record {
     few = let f = inside in omega arith;
     only = only-then (t .only) (pieces-more (put-kept p) inside);
-    left = λ Q k ends s. rest Q k ends (now-at .left Q k ends s);
+    left = λ Q k s. rest Q k (now-at .left Q k s);
   }
     where
-      rest : (Q : Policy) (k : ℕ) → Ends Q e → Left Q u n k w (suc m) → Left Q u n k v m
-      rest Q k ends l =
+      rest : (Q : Policy) (k : ℕ) → Left Q u n k w (suc m) → Left Q u n k v m
+      rest Q k l =
           let s = l .stands in
-          let end = piece-last Q e (constraintAt w m) ends nonempty (s .3) (omega arith) in
+          let end = piece-last Q (constraintAt w m) nonempty (s .3) (omega arith) in
           record {
             number = s .0;
             stands = stands-put p Q (s .0) (s .4);
@@ -122,25 +122,25 @@ module _ {e u w : List ℕ} {n i m : ℕ} (split : Splittable u n) (t : Turning 
           }
 
   -- it has a next piece, and takes it
-  pub turning-done : {v : List ℕ} {hi top lo up f q : ℕ} → hi ≡ constraintAt w m .hi → top ≡ pieceAt w m .hi → top < hi → f ≡ constraintAt w m .feature →
-      lo ≡ top + 1 → up ≡ upper (endsIn e f) hi top → PiecePut m lo up w v → Stepped e n q u v (q + 1)
-  turning-done {v} {q = q} eh et h ef el eu p = rw (add-one q) (record {
-    turned = λ Q k ends e s. (refl, subst (λ (x : ℕ). Stands Q v n x) (sym e) (on Q k ends (now-at .left Q k ends s)));
+  pub turning-done : {e v : List ℕ} {hi top lo up f q : ℕ} → hi ≡ constraintAt w m .hi → top ≡ pieceAt w m .hi → top < hi → f ≡ constraintAt w m .feature →
+      lo ≡ top + 1 → NextUpper e f hi top up → PiecePut m lo up w v → Stepped e n q u v (q + 1)
+  turning-done {e} {v} {q = q} eh et h ef el eu p = rw (add-one q) (record {
+    turned = λ Q k ends e s. (refl, subst (λ (x : ℕ). Stands Q v n x) (sym e) (on Q k ends (now-at .left Q k s)));
     only = only-then (t .only) (pieces-more (put-kept p) inside);
   })
     where
       on : (Q : Policy) (k : ℕ) → Ends Q e → Left Q u n k w (suc m) → Stands Q v n (suc k)
       on Q k ends l =
           let s = l .stands in
-          let next = piece-next Q e (constraintAt w m) ends nonempty (s .3) (omega arith) in
+          let next = piece-next Q (constraintAt w m) nonempty (s .3) (omega arith) in
           l .outcome v (put-kept p) true
           (stands-at Q w v m (s .0) (suc (s .1)) (suc (l .number)) (constraint-kept (put-kept p) m)
-          (rw (p .piece, el, eu, ef, eh, et, add-one) next) (omega (arith, s .2)) (stands-put p Q (s .0) (s .4)))
+          (rw (p .piece, el, eu Q ends, ef, eh, et, add-one) next) (omega (arith, s .2)) (stands-put p Q (s .0) (s .4)))
 
 -- all have started again: that was the last combination
-pub turning-ends : {e u w : List ℕ} {n i : ℕ} → Turning e u n w i → i ≤ 0 → (q : ℕ) → Stepped e n q u w 0
-turning-ends {e} {u} {w} {n} {i} t z q = record {
-  turned = λ Q k ends p s. p ∙ over Q k (rw none at (t .left Q k ends s)) ∙ ways-product Q u n;
+pub turning-ends : (e : List ℕ) {u w : List ℕ} {n i : ℕ} → Turning u n w i → i ≤ 0 → (q : ℕ) → Stepped e n q u w 0
+turning-ends e {u} {w} {n} {i} t z q = record {
+  turned = λ Q k ends p s. p ∙ over Q k (rw none at (t .left Q k s)) ∙ ways-product Q u n;
   only = t .only;
 }
   where

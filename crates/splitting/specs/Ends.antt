@@ -1,58 +1,72 @@
--- Document 01, "Splitting": the ends of the second policy, as pairs of a feature and an end, and the next piece's upper end.
-use Prim.Native.Nat.{_*_, _+_, _≤_, pred, suc, ℕ}
+-- Document 01, "Splitting": the ends of the second policy, as keys that rise, and the next piece's upper end.
+use Prim.Native.Nat.{_*_, _+_, _<_, _≤_, pred, suc, ℕ}
 use mathlib.Core.Bool.{cond}
 use mathlib.Core.List.{List, [], _++_, _∷_}
 use mathlib.Core.Path.{_≡_}
 use lib.Dec.{eqb, ltb}
-use lib.ListN.{length, set, take}
+use lib.ListN.{getD, length, take}
 use Rattle.meaning.specs.Accepted.{Reads, count, depth}
 use Rattle.meaning.specs.Limits.{mostRecords}
-use Rattle.meaning.specs.Lists.{flatMap}
+use Rattle.meaning.specs.Lists.{_∈_, flatMap}
 use Rattle.meaning.specs.Policy.{Chain, Policy, class, end, impossible, interval, policyRefusal, some}
-use Rattle.meaning.specs.Splitting.{ends}
+use Rattle.meaning.specs.Splitting.{Sorted, ends, insertAll}
 use Rattle.policy.specs.Terms.{conjunctsAt}
 
 -- ---- the ends
 
--- the ends on f among pairs of a feature and an end
-unfoldable pub endsIn : List ℕ → ℕ → List ℕ
-endsIn [] f = []
-endsIn (g ∷ []) f = []
-endsIn (g ∷ (x ∷ l)) f = cond (eqb g f) (x ∷ endsIn l f) (endsIn l f)
+-- "every end of a constraint on f anywhere in the second policy as given"
+abbrev pub endsOn : Policy → ℕ → List ℕ
+endsOn Q f = flatMap (ends f) Q
 
--- the pairs are "every end of a constraint on f anywhere in the second policy as given", for each f
-abbrev pub Ends : Policy → List ℕ → Type 0
-Ends Q e = (f : ℕ) → endsIn e f ≡ flatMap (ends f) Q
+-- how many values an end may have
+abbrev pub endCount : ℕ
+endCount = 4294967296
 
--- the pairs of a chain, as the walk goes: two for each constraint, lo then hi
-abbrev pub pairsOf : Chain → List ℕ
-pairsOf end = []
-pairsOf (class a next) = pairsOf next
-pairsOf (impossible next) = pairsOf next
-pairsOf (some r child next) = pairsOf child ++ pairsOf next
-pairsOf (interval f lo hi next) = f ∷ (lo ∷ (f ∷ (hi ∷ pairsOf next)))
+-- a feature and an end as one number
+abbrev pub keyOf : ℕ → ℕ → ℕ
+keyOf f x = f * endCount + x
 
--- room for the pairs of a policy: a constraint has four words, and a policy no more records
+-- the keys rise, and are those of the policy's ends
+pub record Ends (Q : Policy) (e : List ℕ) : Type 0 where
+  pub rising : Sorted e
+  pub all : (f x : ℕ) → x ∈ endsOn Q f → keyOf f x ∈ e
+  pub only : (f x : ℕ) → x < endCount → keyOf f x ∈ e → x ∈ endsOn Q f
+
+-- the keys of a chain, as the walk goes: two for each constraint
+abbrev pub keysOf : Chain → List ℕ
+keysOf end = []
+keysOf (class a next) = keysOf next
+keysOf (impossible next) = keysOf next
+keysOf (some r child next) = keysOf child ++ keysOf next
+keysOf (interval f lo hi next) = keyOf f lo ∷ (keyOf f hi ∷ keysOf next)
+
+-- room for the keys of a policy: a constraint has two, and a policy no more records
 abbrev pub endWords : ℕ
-endWords = 4 * mostRecords
+endWords = 2 * mostRecords
 
--- the words from n on with two pairs of the feature f
-unfoldable pub pairsPut : List ℕ → ℕ → ℕ → ℕ → ℕ → List ℕ
-pairsPut e n f lo hi = set (set (set (set e n f) (n + 1) lo) (n + 2) f) (n + 3) hi
+-- the first n words are the keys ks, rising, each once
+abbrev pub Holds : List ℕ → ℕ → List ℕ → Type 0
+Holds ks n e = take n e ≡ insertAll ks []
 
--- the conjuncts from record k on are read, with at most so many levels, and there is room for their pairs after n words
+-- r is a place for the key among the first n: a smaller one stands before it, and none at it
+pub record Ranked (e : List ℕ) (n key r : ℕ) : Type 0 where
+  pub within : r ≤ n
+  pub before : (j : ℕ) → r ≡ suc j → getD e j 0 < key
+  pub at : r < n → key ≤ getD e r 0
+
+-- the keys a are added to the first n words
+pub record Gathered (a : List ℕ) (n : ℕ) (e e′ : List ℕ) (r : ℕ) : Type 0 where
+  pub same : length e′ ≡ length e
+  pub long : r ≤ n + length a
+  pub keys : (ks : List ℕ) → Holds ks n e → Holds (ks ++ a) r e′
+
+-- the conjuncts from record k on are read, with at most so many levels, and there is room for their keys after n words
 pub record Chained (q e : List ℕ) (left k n : ℕ) : Type 0 where
   pub reads : Reads q k (conjunctsAt q k)
   pub shallow : depth (conjunctsAt q k) ≤ left
-  pub room : n + 4 * count (conjunctsAt q k) ≤ length e
+  pub room : n + 2 * count (conjunctsAt q k) ≤ length e
 
--- the words l stand after the first n
-pub record Paired (l : List ℕ) (n : ℕ) (e e′ : List ℕ) (r : ℕ) : Type 0 where
-  pub same : length e′ ≡ length e
-  pub long : r ≡ n + length l
-  pub words : take r e′ ≡ take n e ++ l
-
--- some vocabulary accepts the policy, and there is room for its pairs
+-- some vocabulary accepts the policy, and there is room for its keys
 pub record Collectable (q e : List ℕ) : Type 0 where
   pub vocabulary : List ℕ
   pub accepted : policyRefusal vocabulary q ≡ 0
@@ -71,10 +85,6 @@ unfoldable pub least : List ℕ → ℕ → ℕ → ℕ
 least [] x h = h
 least (e ∷ l) x h = least l x (cond (ltb x e) (cond (ltb e h) e h) h)
 
--- the end y on g, where g is f and y is nearer to x than h; else h
-unfoldable pub nearer : ℕ → ℕ → ℕ → ℕ → ℕ → ℕ
-nearer g f y x h = cond (eqb g f) (cond (ltb x y) (cond (ltb y h) y h) h) h
-
 -- with y the next member of X above p: y itself where it is the next number, else the last number of the gap before it
 abbrev pub upTo : ℕ → ℕ → ℕ
 upTo p y = cond (eqb y (suc p)) y (pred y)
@@ -82,3 +92,10 @@ upTo p y = cond (eqb y (suc p)) y (pred y)
 -- the upper end of the piece after p, of a constraint with upper end h and the ends l
 unfoldable pub upper : List ℕ → ℕ → ℕ → ℕ
 upper l h p = upTo p (least l p h)
+
+-- what is told of the ends on f of whatever policy the keys are the ends of
+abbrev pub NextEnd : List ℕ → ℕ → ℕ → ℕ → ℕ → Type 0
+NextEnd e f x h r = (Q : Policy) → Ends Q e → r ≡ least (endsOn Q f) x h
+
+abbrev pub NextUpper : List ℕ → ℕ → ℕ → ℕ → ℕ → Type 0
+NextUpper e f h p r = (Q : Policy) → Ends Q e → r ≡ upper (endsOn Q f) h p

@@ -1,6 +1,6 @@
 // Splitting: the ends of the second policy, the pieces of a constraint between them, and the odometer over the combinations.
-// A piece needs no more than its two ends: the one after it starts at the next number, and one look over the ends tells where it
-// stops.
+// A piece needs no more than its two ends: the one after it starts at the next number, and a search among the ends, which rise, tells
+// where it stops.
 use layout::feature_of;
 use layout::piece_hi;
 use layout::put_piece;
@@ -15,6 +15,7 @@ use policy::lo_of;
 use policy::name_of;
 use policy::next_of;
 ghost use mathlib.Core.Bool.{false};
+ghost use mathlib.Core.List.{[], _∷_};
 ghost use mathlib.Core.Path.{_≡_};
 ghost use Prim.Native.Nat.{_+_, _<_, _≤_};
 ghost use lib.ListN.{length};
@@ -23,41 +24,86 @@ ghost use Rattle.meaning.specs.Intervals.{NonEmpty};
 ghost use Rattle.meaning.specs.Policy.{Policy, policyOf};
 ghost use Rattle.meaning.specs.Splitting.{pieces};
 ghost use Rattle.policy.specs.Terms.{conjunctOf, conjunctsAt};
-ghost use Rattle.splitting.specs.Ends.{Chained, Collectable, Collected, Ends, Paired, endsIn, least, nearer, pairsOf, pairsPut, upper};
+ghost use Rattle.splitting.specs.Ends.{Chained, Collectable, Collected, Ends, Gathered, NextEnd, NextUpper, Ranked, keyOf, keysOf};
 ghost use Rattle.splitting.specs.Odometer.{Few, Multiplied, Splittable, Started, Stepped, Widened};
 
-// Two pairs of a feature and an end.
-fn put_pairs(ends: &mut [u32], n: usize, f: FeatureNo, lo: u32, hi: u32)
-    requires { ⌜ n + 4 ≤ length (now ends) ⌝ }
-    ensures { λ _. ⌜ now (ends .exit) ≡ pairsPut (now (ends .entry)) n (f .0) lo hi ⌝ }
+// A feature and an end as one number: keys rise by feature, then by end.
+fn key(f: FeatureNo, x: u32) -> u64
+    ensures { λ r. ⌜ r ≡ keyOf (f .0) x ⌝ }
 {
-    ends[n] = f.0;
-    ends[n + 1] = lo;
-    ends[n + 2] = f.0;
-    ends[n + 3] = hi;
+    f.0 as u64 * 4294967296 + x as u64
 }
 
-// The pairs of record k, after n words: its own, or those of its child chain, with a level less.
-fn collect_at(q: &[u32], ends: &mut [u32], left: u32, k: u32, n: usize) -> usize
+// The place of a key among the first n, by halving: a smaller one stands before it, and none at it.
+fn rank(ends: &[u64], n: usize, k: u64) -> usize
+    requires { ⌜ n ≤ length (now ends) ⌝ }
+    ensures { λ r. ⌜ Ranked (now (ends .entry)) n k r ⌝ }
+{
+    let mut low = 0;
+    let mut high = n;
+    while low < high {
+        let middle = low + (high - low) / 2;
+        if ends[middle] < k {
+            low = middle + 1;
+        } else {
+            high = middle;
+        }
+    }
+    low
+}
+
+// One key more among the first n, which rise, unless it is there: those after it make room. The answer counts the keys.
+fn add(ends: &mut [u64], n: usize, k: u64) -> usize
+    requires { ⌜ n < length (now ends) ⌝ }
+    ensures { λ r. ⌜ Gathered (k ∷ []) n (now (ends .entry)) (now (ends .exit)) r ⌝ }
+{
+    let at = rank(ends, n, k);
+    if at < n {
+        if ends[at] == k {
+            return n;
+        }
+    }
+    let mut carried = k;
+    let mut i = at;
+    while i < n {
+        let x = ends[i];
+        ends[i] = carried;
+        carried = x;
+        i += 1;
+    }
+    ends[n] = carried;
+    n + 1
+}
+
+// The keys of a constraint's two ends.
+fn add_ends(ends: &mut [u64], n: usize, f: FeatureNo, lo: u32, hi: u32) -> usize
+    requires { ⌜ n + 2 ≤ length (now ends) ⌝ }
+    ensures { λ r. ⌜ Gathered (keyOf (f .0) lo ∷ (keyOf (f .0) hi ∷ [])) n (now (ends .entry)) (now (ends .exit)) r ⌝ }
+{
+    let m = add(ends, n, key(f, lo));
+    add(ends, m, key(f, hi))
+}
+
+// The keys of record k, among the first n: its own, or those of its child chain, with a level less.
+fn collect_at(q: &[u32], ends: &mut [u64], left: u32, k: u32, n: usize) -> usize
     requires { ⌜ (k ≡ 0 → ⊥) × Chained (now q) (now ends) left k n ⌝ }
-    ensures { λ r. ⌜ Paired (pairsOf (conjunctOf (now (q .entry)) k)) n (now (ends .entry)) (now (ends .exit)) r ⌝ }
+    ensures { λ r. ⌜ Gathered (keysOf (conjunctOf (now (q .entry)) k)) n (now (ends .entry)) (now (ends .exit)) r ⌝ }
 {
     let kind = kind_of(q, k);
     if kind == 3 {
         return collect_from(q, ends, left - 1, child_of(q, k), n);
     }
     if kind == 4 {
-        put_pairs(ends, n, FeatureNo(name_of(q, k)), lo_of(q, k), hi_of(q, k));
-        return n + 4;
+        return add_ends(ends, n, FeatureNo(name_of(q, k)), lo_of(q, k), hi_of(q, k));
     }
     n
 }
 
-// The pairs of the chain from record first on, after m words. left counts the levels of conjuncts that may still stand. It ends, since
-// levels fall into a child chain and links rise along a chain.
-fn collect_from(q: &[u32], ends: &mut [u32], left: u32, first: u32, m: usize) -> usize
+// The keys of the chain from record first on, among the first m. left counts the levels of conjuncts that may still stand. It ends,
+// since levels fall into a child chain and links rise along a chain.
+fn collect_from(q: &[u32], ends: &mut [u64], left: u32, first: u32, m: usize) -> usize
     requires { ⌜ Chained (now q) (now ends) left first m ⌝ }
-    ensures { λ r. ⌜ Paired (pairsOf (conjunctsAt (now (q .entry)) first)) m (now (ends .entry)) (now (ends .exit)) r ⌝ }
+    ensures { λ r. ⌜ Gathered (keysOf (conjunctsAt (now (q .entry)) first)) m (now (ends .entry)) (now (ends .exit)) r ⌝ }
 {
     let mut k = first;
     let mut n = m;
@@ -68,11 +114,11 @@ fn collect_from(q: &[u32], ends: &mut [u32], left: u32, first: u32, m: usize) ->
     n
 }
 
-// Room for the ends of a policy: four words for each of its records.
-pub const ENDS: usize = 2048;
+// Room for the ends of a policy: two keys for each of its records.
+pub const ENDS: usize = 1024;
 
-// The ends of every constraint that the policy reaches, as given: pairs of a feature and an end. The answer counts the words.
-pub fn collect(q: &[u32], ends: &mut [u32]) -> usize
+// The ends of every constraint that the policy reaches, as given: the keys rise, each once. The answer counts them.
+pub fn collect(q: &[u32], ends: &mut [u64]) -> usize
     requires { ⌜ Collectable (now q) (now ends) ⌝ }
     ensures { λ r. ⌜ Collected (policyOf (now (q .entry))) (now (ends .entry)) (now (ends .exit)) r ⌝ }
 {
@@ -85,39 +131,29 @@ pub fn collect(q: &[u32], ends: &mut [u32]) -> usize
     n
 }
 
-// y, where it is an end on f, above x and below best; else best.
-fn closer(g: FeatureNo, f: FeatureNo, y: u32, x: u32, best: u32) -> u32
-    ensures { λ r. ⌜ r ≡ nearer (g .0) (f .0) y x best ⌝ }
-{
-    if g.0 != f.0 {
-        return best;
-    }
-    if y <= x {
-        return best;
-    }
-    if y < best {
-        return y;
-    }
-    best
-}
-
 // The least end on f above x and below hi, else hi.
-fn next_end(ends: &[u32], f: FeatureNo, x: u32, hi: u32) -> u32
-    ensures { λ r. ⌜ r ≡ least (endsIn (now (ends .entry)) (f .0)) x hi ⌝ }
+fn next_end(ends: &[u64], f: FeatureNo, x: u32, hi: u32) -> u32
+    requires { ⌜ x < hi ⌝ }
+    ensures { λ r. ⌜ (x < r) × (r ≤ hi) ⌝ }
+    ensures { λ r. ⌜ NextEnd (now (ends .entry)) (f .0) x hi r ⌝ }
 {
-    let mut best = hi;
-    let mut i = 0;
-    while i + 1 < ends.len() {
-        best = closer(FeatureNo(ends[i]), f, ends[i + 1], x, best);
-        i += 2;
+    let base = key(f, 0);
+    let at = rank(ends, ends.len(), base + x as u64 + 1);
+    if ends.len() <= at {
+        return hi;
     }
-    best
+    let y = ends[at];
+    if base + hi as u64 <= y {
+        return hi;
+    }
+    (y - base) as u32
 }
 
 // The upper end of the piece after the one that ends at p: the next end itself, or the gap in front of it.
-fn next_upper(ends: &[u32], f: FeatureNo, hi: u32, p: u32) -> u32
+pub fn next_upper(ends: &[u64], f: FeatureNo, hi: u32, p: u32) -> u32
     requires { ⌜ p < hi ⌝ }
-    ensures { λ r. ⌜ r ≡ upper (endsIn (now (ends .entry)) (f .0)) hi p ⌝ }
+    ensures { λ r. ⌜ (p < r) × (r ≤ hi) ⌝ }
+    ensures { λ r. ⌜ NextUpper (now (ends .entry)) (f .0) hi p r ⌝ }
 {
     let y = next_end(ends, f, p, hi);
     if y == p + 1 {
@@ -127,7 +163,7 @@ fn next_upper(ends: &[u32], f: FeatureNo, hi: u32, p: u32) -> u32
 }
 
 // How many pieces the constraint lo..hi on f has.
-fn count(ends: &[u32], f: FeatureNo, lo: u32, hi: u32) -> usize
+fn count(ends: &[u64], f: FeatureNo, lo: u32, hi: u32) -> usize
     requires { ⌜ NonEmpty lo hi ⌝ }
     ensures { λ r. ⌜ (1 ≤ r) × (r ≤ 4294967296) ⌝ }
     ensures { λ r. ⌜ ((Q : Policy) → Ends Q (now (ends .entry)) → r ≡ length (pieces Q (intervalOf (f .0) lo hi))) ⌝ }
@@ -141,12 +177,12 @@ fn count(ends: &[u32], f: FeatureNo, lo: u32, hi: u32) -> usize
     c
 }
 
-// Whether n constraints may have over 65,536 combinations, by how many ends there are alone: a constraint has at most as many pieces
-// as the ends have words, and three more.
-pub fn may_exceed(ends: &[u32], n: usize) -> bool
+// Whether n constraints may have over 65,536 combinations, by how many ends there are alone: a constraint has at most two pieces for
+// each end, and three more.
+pub fn may_exceed(ends: &[u64], n: usize) -> bool
     ensures { λ r. ⌜ (r ≡ false → Few (now (ends .entry)) n) ⌝ }
 {
-    let most = ends.len() + 3;
+    let most = 2 * ends.len() + 3;
     let room = MOST_COMBINATIONS / most;
     let mut all: usize = 1;
     for i in 0..n {
@@ -159,7 +195,7 @@ pub fn may_exceed(ends: &[u32], n: usize) -> bool
 }
 
 // How many combinations the first n constraints have, 65,537 where they are more than 65,536.
-pub fn combinations(ends: &[u32], work: &[u32], n: usize) -> usize
+pub fn combinations(ends: &[u64], work: &[u32], n: usize) -> usize
     requires { ⌜ Splittable (now work) n ⌝ }
     ensures { λ r. ⌜ Multiplied (now (ends .entry)) (now (work .entry)) n r ⌝ }
 {
@@ -201,7 +237,7 @@ pub fn start(work: &mut [u32], n: usize)
 
 // From combination q, counted from 1, to the next, whose number is told, or 0 after the last: the last constraint that has a next
 // piece takes it, and those after it start again.
-pub fn step(ends: &[u32], work: &mut [u32], n: usize, q: u32) -> u32
+pub fn step(ends: &[u64], work: &mut [u32], n: usize, q: u32) -> u32
     requires { ⌜ Splittable (now work) n × (q < 4294967295) ⌝ }
     ensures { λ r. ⌜ Stepped (now (ends .entry)) n q (now (work .entry)) (now (work .exit)) r ⌝ }
 {

@@ -42,7 +42,7 @@ fn taker(q: &[u32], work: &[u32], t: Tables, last: u32) -> u32
 // The first combination that fails, counted from 1, or 0; the tables are left at it. Who takes the constraints whole takes every
 // combination: then none is tried. Else time grows with the combinations, times the other policy's records and the tables' entries
 // that each of them is held to.
-pub fn first_failure(q: &[u32], work: &mut [u32], ends: &[u32], t: Tables) -> u32
+pub fn first_failure(q: &[u32], work: &mut [u32], ends: &[u64], t: Tables) -> u32
     requires { ⌜ Triable (now q) (now ends) (now work) t ⌝ }
     ensures { λ r. ⌜ Tried (policyOf (now (q .entry))) (now (work .entry)) (now (work .exit)) t r ⌝ }
 {

@@ -1,15 +1,13 @@
 -- `collect_at` and `collect_from`: a loop along the chain, over its records, and a call for each child chain, with a level less.
 use borrow.Author.Needs.{needs}
 use Prim.Native.Nat.{_*_, _+_, _<_, ℕ}
-use mathlib.Core.Path.{_≡_}
-use native.Mathlib.Omega.{arith}
 use borrow.Fn.Kinds.{In}
 use borrow.Fn.PlainCycle.{Measures, and, falls, is}
 use Rattle.meaning.specs.Records.{falling, lastOf}
 use Rattle.splitting.proofs.+collect_at+collect_from.{statement}
 use Rattle.splitting.proofs.+collect_at+collect_from.Tie.{close}
-use Rattle.splitting.proofs.Collecting.{Going, child-chained, child-falls, child-level, constraint-paired, going-ends, going-falls, going-on, going-starts}
-use Rattle.splitting.proofs.Collecting.{other-paired, pairs-fit, role-paired}
+use Rattle.splitting.proofs.Collecting.{Going, child-chained, child-falls, child-level, constraint-gathered, going-ends, going-falls, going-on, going-starts}
+use Rattle.splitting.proofs.Collecting.{other-gathered, ends-fit, role-gathered}
 use Rattle.splitting.proofs.+collect_at+collect_from.Lts-collect_at as collect-at-lts
 use Rattle.splitting.proofs.+collect_at+collect_from.Lts-collect_from as collect-from-lts
 use Rattle.splitting.proofs.collect_at.Kinds as collect-at-kinds
@@ -22,7 +20,7 @@ use Rattle.policy.proofs.kind_of.Reads as kind-of-reads
 use Rattle.policy.proofs.lo_of.Reads as lo-of-reads
 use Rattle.policy.proofs.name_of.Reads as name-of-reads
 use Rattle.policy.proofs.next_of.Reads as next-of-reads
-use Rattle.splitting.proofs.put_pairs.Reads as put-pairs-reads
+use Rattle.splitting.proofs.add_ends.Reads as add-ends-reads
 
 -- the levels that are left; at one level a chain comes first, then a record
 abbrev μ-collect-at : Measures 2 collect-at-kinds.ps ℕ
@@ -63,8 +61,8 @@ pub +collect-at+collect-from-spec : {M : Type 1} → statement M
   lo-of-reads.Learnt,
   hi-of-reads.Asked,
   hi-of-reads.Learnt,
-  put-pairs-reads.Asked,
-  put-pairs-reads.Learnt,
+  add-ends-reads.Asked,
+  add-ends-reads.Learnt,
 )
     (collect-at-at t)
     collect-at.Post
@@ -74,15 +72,14 @@ pub +collect-at+collect-from-spec : {M : Type 1} → statement M
     (λ c κs. search needs)
     (λ c κs. (search child-falls, search child-chained))
     (λ c. search needs)
-    (λ c. search role-paired)
+    (λ c. search role-gathered)
     -- a constraint
     (λ c κs. search needs) (λ c κs. search needs) (λ c κs. search needs)
-    (λ c κs. search pairs-fit)
-    (λ c. search (needs, pairs-fit))
-    (λ c. search (needs, constraint-paired))
-    (λ c. search constraint-paired)
+    (λ c κs. search ends-fit)
+    (λ c. search needs)
+    (λ c. search constraint-gathered)
     -- a record with no end
-    (λ c. search other-paired))
+    (λ c. search other-gathered))
     λ t. collect-from-lts.spec
     (collect-at-below t, collect-at.Post, next-of-reads.Asked, next-of-reads.Learnt)
     (collect-from-at t)

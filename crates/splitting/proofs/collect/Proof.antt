@@ -1,5 +1,6 @@
--- `collect`: what is written and what is left to write are the pairs of the policy.
+-- `collect`: what is added and what is left to add are the keys of the policy.
 use borrow.Author.Needs.{needs}
+use native.Mathlib.Omega.{arith}
 use Rattle.meaning.specs.Records.{falling, lastOf}
 use Rattle.splitting.proofs.Policies.{Collecting, collecting-child, collecting-ends, collecting-falls, collecting-on}
 use Rattle.splitting.proofs.Policies.{collecting-starts}
@@ -37,4 +38,4 @@ collect-spec =
     loop-less
     loop-again
     (λ c. c .before .loop .inv .same)
-    (λ c. collecting-ends (c .before .loop .inv) (c .loop-test .left)))
+    (λ c. collecting-ends (c .before .loop .inv) (λ i. omega (arith, c .before .before .before .before .shared-slice-known .given i)) (c .loop-test .left)))

@@ -33,6 +33,7 @@ may-exceed-spec =
     μ-loop
     (λ c. search needs)
     (λ c. search needs)
+    (λ c. search needs)
     (λ c. (omega arith, omega arith, λ Q m w. omega arith))
     (λ c e. absurd (let z : _≡_ {A = ℕ} 0 1 = cc in omega arith))
     (λ c. omega (arith, room-fits _ _ (c .if1 .left)))

@@ -7,7 +7,7 @@ use Rattle.splitting.proofs.step.Statement.{statement}
 use Rattle.splitting.proofs.step.Tie as tie
 
 abbrev Inv-loop : tie.InvT-loop
-Inv-loop ends work₀ n q i₀ work i = Turning ends work₀ n work i
+Inv-loop ends work₀ n q i₀ work i = Turning work₀ n work i
 
 abbrev μ-loop : tie.MeasureT-loop
 μ-loop ends work₀ n q i₀ work i = i
@@ -25,7 +25,7 @@ returns c =
     let first = test .before .before .before in
     let l = first .before .before .before in
     turning-done (l .before .before .before .pre .0) (l .loop .inv) (omega arith) (first .hi-of .ensures) (test .before .piece-hi .ensures) (test .if1 .taken)
-    (next .before .feature-of .ensures) refl (next .next-upper .ensures) (put .put-piece .ensures)
+    (next .before .feature-of .ensures) refl (next .next-upper .ensures .1) (put .put-piece .ensures)
 
 loop-again : tie.Need-loop-again Inv-loop μ-loop
 loop-again c =
@@ -42,7 +42,7 @@ step-spec =
     (tie.spec
     Inv-loop
     μ-loop
-    (λ c. turning-starts _ _ _)
+    (λ c. turning-starts _ _)
     (λ c. search needs)
     (λ c κs. search needs)
     (λ c κs. search needs)
@@ -58,4 +58,4 @@ step-spec =
     (λ c. search needs)
     loop-again
     (λ c. c .before .loop .inv .only .size)
-    (λ c. turning-ends (c .before .loop .inv) (c .loop-test .left) _))
+    (λ c. turning-ends _ (c .before .loop .inv) (c .loop-test .left) _))
