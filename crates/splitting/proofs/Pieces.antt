@@ -194,15 +194,12 @@ module _ (Q : Policy) (s : Constraint) (a : NonEmpty (s .lo) (s .hi)) where
   abbrev E : List ℕ
   E = endsOn Q (s .feature)
 
-  run-of : Pieces E s (pieces Q s)
-  run-of = run-all E s a
-
   pub piece-next : {p : Constraint} {d : ℕ} → At p (pieces Q s) d → p .hi < s .hi →
       At (intervalOf (s .feature) (suc (p .hi)) (upper E (s .hi) (p .hi))) (pieces Q s) (suc d)
-  piece-next {p} {d} = let k = run-of in rw (k .1) (run-next E (s .feature) (s .hi) (only (s .feature) (s .lo)) (k .0) (k .2))
+  piece-next {p} {d} = let k = run-all E s a in rw (k .1) (run-next E (s .feature) (s .hi) (only (s .feature) (s .lo)) (k .0) (k .2))
 
   pub piece-last : {p : Constraint} {d : ℕ} → At p (pieces Q s) d → s .hi ≤ p .hi → suc d ≡ length (pieces Q s)
-  piece-last {p} {d} = let k = run-of in rw (k .1) (run-last E (s .feature) (s .hi) (only (s .feature) (s .lo)) (k .0) (k .2))
+  piece-last {p} {d} = let k = run-all E s a in rw (k .1) (run-last E (s .feature) (s .hi) (only (s .feature) (s .lo)) (k .0) (k .2))
 
   pub walk-starts : Walked Q s 1 (s .lo)
   walk-starts = (0, only (s .feature) (s .lo), refl, piece-first Q s a, refl)

@@ -13,17 +13,6 @@ Inv-loop q ends₀ n₀ k₀ ends n k = Collecting q ends₀ ends n k
 abbrev μ-loop : tie.MeasureT-loop
 μ-loop q ends₀ n₀ k₀ ends n k = falling (lastOf 6 q) k
 
-loop-less : tie.Need-loop-less Inv-loop μ-loop
-loop-less c =
-    let t = c .before .before .before .before .before .before in
-    collecting-falls (t .before .loop .inv) (t .loop-test .taken) (c .next-of .ensures)
-
-loop-again : tie.Need-loop-again Inv-loop μ-loop
-loop-again c =
-    let t = c .before .before .before .before .before .before in
-    collecting-on (t .before .loop .inv) (t .loop-test .taken) (c .before .before .before .before .child-of .ensures)
-    (c .before .before .before .collect-from .ensures) (c .next-of .ensures)
-
 pub collect-spec : {M : Type 1} → statement M
 collect-spec =
     tie.close
@@ -31,11 +20,11 @@ collect-spec =
     Inv-loop
     μ-loop
     (λ c κs. search needs)
-    (λ c. collecting-starts (c .before .before .before .pre) (c .first-term .ensures))
+    (λ c. search collecting-starts)
     (λ c κs. search needs)
-    (λ c κs. collecting-child (c .before .before .before .loop .inv) (c .before .before .loop-test .taken) (c .child-of .ensures))
+    (λ c κs. search collecting-child)
     (λ c κs. search needs)
-    loop-less
-    loop-again
+    (λ c. search collecting-falls)
+    (λ c. search collecting-on)
     (λ c. c .before .loop .inv .same)
     (λ c. collecting-ends (c .before .loop .inv) (λ i. omega (arith, c .before .before .before .before .shared-slice-known .given i)) (c .loop-test .left)))
