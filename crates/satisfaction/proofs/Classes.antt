@@ -14,14 +14,13 @@ use Rattle.meaning.proofs.Rules.{order}
 use Rattle.meaning.specs.Limits.{mostClasses, mostIndividuals, workSize}
 use Rattle.meaning.specs.Lists.{any}
 use Rattle.meaning.specs.Model.{Fact, edge, factAt, factsOf, individualCount, member, value}
-use Rattle.meaning.specs.ModelCheck.{isMember, isModel}
+use Rattle.meaning.specs.ModelCheck.{isMember}
 use Rattle.meaning.specs.Records.{Name}
-use Rattle.meaning.specs.Vocabulary.{vocabularyOf}
 use Rattle.model.specs.Chain.{Readable, Stated}
 use Rattle.satisfaction.proofs.Facts.{by-kind}
 use Rattle.satisfaction.proofs.Rows.{none-in, put-in, put-inside, put-only, put-size}
-use Rattle.satisfaction.specs.Classes.{AllEntered, Interpreted, Satisfied, entered}
-use Rattle.satisfaction.specs.Places.{classPlace, classesEnd, classesOf, valuesAt, valuesEnd}
+use Rattle.satisfaction.specs.Classes.{AllEntered, Interpreted, entered}
+use Rattle.satisfaction.specs.Places.{classPlace, classesEnd, classesOf}
 use Rattle.words.specs.Rows.{classWords}
 use Rattle.words.specs.Sets.{inSet}
 
@@ -100,12 +99,4 @@ module _ {m w w′ : List ℕ} where
     long = omega arith;
     readable = c .readable;
     classed = record { rows = λ i a n. ap (λ (x : List ℕ). inSet x a) (row-before o classWords (classPlace i) (omega arith)) ∙ c .classed .rows i a n };
-  }
-
-  pub satisfied : {v w₀ : List ℕ} {b : Bool} → AllEntered m w₀ w → Interpreted m w → b ≡ isModel (factsOf m) (vocabularyOf v) → Only (Span valuesAt valuesEnd) w w′ →
-      Satisfied v m w₀ w′ b
-  satisfied a i e t = record {
-    told = e;
-    interpreted = interpreted-kept (omega arith) t i;
-    only = only-then (only-span (a .only) (omega arith) (omega arith)) (only-span t (omega arith) (omega arith));
   }

@@ -57,11 +57,11 @@ module _ {m : List ℕ} {k : ℕ} (s : Stated m k) where
       other-role {a} ea n = by-kind (λ x. true ≡ isRanged (factsOf m) r c x) (λ _. refl) (λ _. rw (← ea, ne-eqb r a (λ d. n (sym d)))) (λ _. refl)
 
     module _ {w : List ℕ} {j : ℕ} (i : Interpreted m w) (e : kind ≡ 2) (ej : j ≡ factOther m k) where
-      pub target-named : Name mostIndividuals j × (workSize ≤ length w)
-      target-named = let t = s .target (sym ek ∙ e) in (omega arith, i .long)
+      pub target-named : Name mostIndividuals j
+      target-named = let t = s .target (sym ek ∙ e) in omega arith
 
-      pub ranged : (r c : ℕ) {a : ℕ} {b : Bool} → a ≡ factName m k → a ≡ r → b ≡ inSet (classesOf w j) c → b ≡ isRanged (factsOf m) r c (factAt m k)
-      ranged r c {a} {b} ea d h =
+      pub ranged-into : (r c : ℕ) {a : ℕ} {b : Bool} → a ≡ factName m k → a ≡ r → b ≡ inSet (classesOf w j) c → b ≡ isRanged (factsOf m) r c (factAt m k)
+      ranged-into r c {a} {b} ea d h =
           by-kind (λ x. b ≡ isRanged (factsOf m) r c x) (λ d. absurd (omega arith))
           (λ z. h ∙ i .classed .rows j c (rw ej (s .target z)) ∙ rw (← ea, eq-eqb r a (sym d), ej)) (λ d. absurd (omega arith))
 

@@ -2,6 +2,7 @@
 pub mod Rows
 pub mod Facts
 pub mod Classes
+pub mod Ranges
 pub mod Statements
 pub mod Links
 pub mod Values

@@ -3,7 +3,7 @@ use Prim.Native.Nat.{_*_, _+_, _-_, _/_, suc, ℕ}
 use mathlib.Core.List.{List}
 use lib.ListN.{getD}
 use Rattle.frames.specs.Rows.{putAt, rowAt}
-use Rattle.meaning.specs.Limits.{mostIndividuals, mostRecords}
+use Rattle.meaning.specs.Limits.{mostIndividuals, mostRecords, mostRoles}
 use Rattle.words.specs.Rows.{classWords}
 use Rattle.words.specs.Sets.{including}
 
@@ -17,9 +17,25 @@ classesOf w i = rowAt classWords w (classPlace i)
 abbrev pub classesEnd : ℕ
 classesEnd = mostIndividuals * classWords
 
+-- a set of classes for each role, from 1 on
+abbrev pub rangesAt : ℕ
+rangesAt = classesEnd
+
+abbrev pub rangePlace : ℕ → ℕ
+rangePlace r = rangesAt + (r - 1) * classWords
+
+abbrev pub rangesOf : List ℕ → ℕ → List ℕ
+rangesOf w r = rowAt classWords w (rangePlace r)
+
+abbrev pub rangeWords : ℕ
+rangeWords = mostRoles * classWords
+
+abbrev pub rangesEnd : ℕ
+rangesEnd = rangesAt + rangeWords
+
 -- the value first seen of each individual, and whether one was
 abbrev pub valuesAt : ℕ
-valuesAt = classesEnd
+valuesAt = rangesEnd
 
 abbrev pub flagsAt : ℕ
 flagsAt = valuesAt + mostIndividuals

@@ -4,15 +4,17 @@
 //
 //     table                                        entries    words    from at 256 classes    from at 320 classes
 //     the classes of an individual                     512   8 / 10                      0                      0
-//     the value first seen of an individual            512        1                  4,096                  5,120
-//     whether one was seen                             512        1                  4,608                  5,632
-//     the individuals at a policy's record             513       16                  5,120                  6,144
-//     the end, of 16,384                                                            13,328                 14,352
+//     the classes of all targets of a role              64   8 / 10                  4,096                  5,120
+//     the value first seen of an individual            512        1                  4,608                  5,760
+//     whether one was seen                             512        1                  5,120                  6,272
+//     the individuals at a policy's record             513       16                  5,632                  6,784
+//     the end, of 16,384                                                            13,840                 14,992
 use frames::clear;
 use meaning::ClassNo;
 use meaning::FeatureNo;
 use meaning::RoleNo;
 use meaning::limits::MOST_INDIVIDUALS;
+use meaning::limits::MOST_ROLES;
 use model::fact_kind;
 use model::fact_name;
 use model::fact_next;
@@ -20,6 +22,7 @@ use model::fact_other;
 use model::fact_owner;
 use model::first_fact;
 use model::individual_count;
+use records::is_name;
 use vocabulary::axiom_kind;
 use vocabulary::axiom_left;
 use vocabulary::axiom_next;
@@ -34,21 +37,30 @@ ghost use Prim.Native.Nat.{_+_, _≤_};
 ghost use lib.Dec.{T};
 ghost use lib.ListN.{length};
 ghost use Rattle.frames.specs.Frames.{Only, Span};
-ghost use Rattle.meaning.specs.Limits.{mostIndividuals, workSize};
+ghost use Rattle.meaning.specs.Limits.{mostIndividuals, mostRoles, workSize};
 ghost use Rattle.meaning.specs.Lists.{all, counting};
 ghost use Rattle.meaning.specs.Model.{factAt, factsOf};
 ghost use Rattle.meaning.specs.ModelCheck.{isModel, obeys};
 ghost use Rattle.meaning.specs.Records.{Name};
-ghost use Rattle.meaning.specs.Vocabulary.{axiomAt, functionalFeature, functionalRole, range, vocabularyOf, vocabularyRefusal};
+ghost use Rattle.meaning.specs.Vocabulary.{axiomAt, functionalFeature, functionalRole, vocabularyOf, vocabularyRefusal};
 ghost use Rattle.model.specs.Chain.{Readable, Stated};
-ghost use Rattle.satisfaction.specs.Classes.{AllEntered, Interpreted, Satisfied, entered, follows, isRanged};
+ghost use Rattle.satisfaction.specs.Axioms.{Named};
+ghost use Rattle.satisfaction.specs.Classes.{AllEntered, Interpreted, Satisfied, entered, follows};
 ghost use Rattle.satisfaction.specs.Links.{Compared, Single, linkOf};
-ghost use Rattle.satisfaction.specs.Places.{classPlace, classesOf, putIn, valuesAt, valuesEnd};
+ghost use Rattle.satisfaction.specs.Places.{classPlace, classesOf, putIn, rangePlace, rangesOf, rangeWords, valuesAt, valuesEnd};
+ghost use Rattle.satisfaction.specs.Ranges.{AllNarrowed, Intersected, Narrowed, Opened, Ranged};
+ghost use Rattle.words.specs.Rows.{classWords};
 ghost use Rattle.words.specs.Sets.{inSet};
 
 const INDIVIDUALS: usize = MOST_INDIVIDUALS as usize;
 
-const VALUES: usize = INDIVIDUALS * ClassSet::WORDS;
+const RANGES: usize = INDIVIDUALS * ClassSet::WORDS;
+
+const RANGE_WORDS: usize = MOST_ROLES as usize * ClassSet::WORDS;
+
+const EVERY_BIT: u32 = 4294967295;
+
+const VALUES: usize = RANGES + RANGE_WORDS;
 
 const FLAGS: usize = VALUES + INDIVIDUALS;
 
@@ -99,7 +111,7 @@ fn enter_all(m: &[u32], work: &mut [u32])
     requires { ⌜ Readable (now m) × (workSize ≤ length (now work)) ⌝ }
     ensures { λ _. ⌜ AllEntered (now (m .entry)) (now (work .entry)) (now (work .exit)) ⌝ }
 {
-    clear(work, 0, VALUES);
+    clear(work, 0, RANGES);
     let mut f = first_fact(m);
     while f != 0 {
         enter(m, work, f);
@@ -132,34 +144,69 @@ fn do_follow(work: &[u32], n: u32, a: ClassNo, b: ClassNo, apart: bool) -> bool
     true
 }
 
-// Whether record f, where it is an edge of role r, leads into class c.
-fn is_ranged(m: &[u32], work: &[u32], f: u32, r: RoleNo, c: ClassNo) -> bool
+// Where the set of role r's classes starts: those that every target of its edges has.
+fn range_place(r: RoleNo) -> usize
+    requires { ⌜ Name mostRoles (r .0) ⌝ }
+    ensures { λ t. ⌜ t ≡ rangePlace (r .0) ⌝ }
+{
+    RANGES + place(r.0 - 1) * ClassSet::WORDS
+}
+
+// While no edge was seen, the targets of each role have every class.
+fn open_ranges(work: &mut [u32])
+    requires { ⌜ workSize ≤ length (now work) ⌝ }
+    ensures { λ _. ⌜ Opened rangeWords (now (work .entry)) (now (work .exit)) ⌝ }
+{
+    for i in 0..RANGE_WORDS {
+        work[RANGES + i] = EVERY_BIT;
+    }
+}
+
+// Leaves those classes in the set at a place that the set at an earlier one has. No branch, so that it is done in a few wide steps.
+fn intersect(work: &mut [u32], at: usize, from: usize)
+    requires { ⌜ (from + classWords ≤ at) × (at + classWords ≤ length (now work)) ⌝ }
+    ensures { λ _. ⌜ Intersected classWords at from (now (work .entry)) (now (work .exit)) ⌝ }
+{
+    for i in 0..ClassSet::WORDS {
+        work[at + i] = work[at + i] & work[from + i];
+    }
+}
+
+// What record f leaves of its role's set, where it is an edge: the classes of its target. A role past the most is in no vocabulary.
+fn narrow(m: &[u32], work: &mut [u32], f: u32)
     requires { ⌜ Stated (now m) f × Interpreted (now m) (now work) ⌝ }
-    ensures { λ t. ⌜ t ≡ isRanged (factsOf (now (m .entry))) (r .0) (c .0) (factAt (now (m .entry)) f) ⌝ }
+    ensures { λ _. ⌜ Narrowed (now (m .entry)) (now (work .entry)) (now (work .exit)) (factAt (now (m .entry)) f) ⌝ }
 {
     if fact_kind(m, f) != 2 {
-        return true;
+        return;
     }
-    if fact_name(m, f) != r.0 {
-        return true;
+    let r = fact_name(m, f);
+    if !is_name(MOST_ROLES, r) {
+        return;
     }
     let target = fact_other(m, f);
-    is_member(work, target, c)
+    intersect(work, range_place(RoleNo(r)), class_place(target));
+}
+
+// The sets of all roles, by one walk over the records.
+fn narrow_all(m: &[u32], work: &mut [u32])
+    requires { ⌜ Interpreted (now m) (now work) ⌝ }
+    ensures { λ _. ⌜ AllNarrowed (now (m .entry)) (now (work .entry)) (now (work .exit)) ⌝ }
+{
+    open_ranges(work);
+    let mut f = first_fact(m);
+    while f != 0 {
+        narrow(m, work, f);
+        f = fact_next(m, f);
+    }
 }
 
 // Whether every edge of role r leads into class c.
-fn are_ranged(m: &[u32], work: &[u32], r: RoleNo, c: ClassNo) -> bool
-    requires { ⌜ Interpreted (now m) (now work) ⌝ }
-    ensures { λ t. ⌜ t ≡ obeys (factsOf (now (m .entry))) (range (r .0) (c .0)) ⌝ }
+fn is_range(work: &[u32], r: RoleNo, c: ClassNo) -> bool
+    requires { ⌜ Name mostRoles (r .0) × (workSize ≤ length (now work)) ⌝ }
+    ensures { λ t. ⌜ t ≡ inSet (rangesOf (now (work .entry)) (r .0)) (c .0) ⌝ }
 {
-    let mut f = first_fact(m);
-    while f != 0 {
-        if !is_ranged(m, work, f, r, c) {
-            return false;
-        }
-        f = fact_next(m, f);
-    }
-    true
+    ClassSet::has_at(work, range_place(r), c)
 }
 
 // Whether record f gives its individual no second value of name a, kind 2 for a role's and 3 for a feature's. A first is noted.
@@ -220,7 +267,7 @@ fn is_functional_feature(m: &[u32], work: &mut [u32], f: FeatureNo) -> bool
 
 // Whether what record k of the vocabulary states is so.
 fn is_obeyed(v: &[u32], m: &[u32], work: &mut [u32], k: u32) -> bool
-    requires { ⌜ Interpreted (now m) (now work) ⌝ }
+    requires { ⌜ Named (now v) k × Interpreted (now m) (now work) × Ranged (now m) (now work) ⌝ }
     ensures { λ r. ⌜ r ≡ obeys (factsOf (now (m .entry))) (axiomAt (now (v .entry)) k) ⌝ }
     ensures { λ _. ⌜ Only (Span valuesAt valuesEnd) (now (work .entry)) (now (work .exit)) ⌝ }
 {
@@ -232,13 +279,13 @@ fn is_obeyed(v: &[u32], m: &[u32], work: &mut [u32], k: u32) -> bool
         2 => do_follow(work, individual_count(m), ClassNo(a), ClassNo(b), true),
         3 => is_functional_role(m, work, RoleNo(a)),
         4 => is_functional_feature(m, work, FeatureNo(a)),
-        _ => are_ranged(m, work, RoleNo(a), ClassNo(b)),
+        _ => is_range(work, RoleNo(a), ClassNo(b)),
     }
 }
 
 // Whether all that the vocabulary states is so.
 fn are_obeyed(v: &[u32], m: &[u32], work: &mut [u32]) -> bool
-    requires { ⌜ (vocabularyRefusal (now v) ≡ 0) × Interpreted (now m) (now work) ⌝ }
+    requires { ⌜ (vocabularyRefusal (now v) ≡ 0) × Interpreted (now m) (now work) × Ranged (now m) (now work) ⌝ }
     ensures { λ r. ⌜ r ≡ isModel (factsOf (now (m .entry))) (vocabularyOf (now (v .entry))) ⌝ }
     ensures { λ _. ⌜ Only (Span valuesAt valuesEnd) (now (work .entry)) (now (work .exit)) ⌝ }
 {
@@ -258,5 +305,6 @@ pub fn is_satisfied(v: &[u32], m: &[u32], work: &mut [u32]) -> bool
     ensures { λ r. ⌜ Satisfied (now (v .entry)) (now (m .entry)) (now (work .entry)) (now (work .exit)) r ⌝ }
 {
     enter_all(m, work);
+    narrow_all(m, work);
     are_obeyed(v, m, work)
 }

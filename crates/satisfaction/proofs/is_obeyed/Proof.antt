@@ -1,7 +1,8 @@
 use borrow.Author.Needs.{needs}
 use Rattle.frames.proofs.Frames.{only-none}
+use Rattle.satisfaction.proofs.Ranges.{range-told}
 use Rattle.satisfaction.proofs.Statements.{below-told, disjoint-told, states-below, states-disjoint, states-feature, states-range}
-use Rattle.satisfaction.proofs.Statements.{states-role}
+use Rattle.satisfaction.proofs.Statements.{range-class, range-role, states-role}
 use Rattle.satisfaction.proofs.is_obeyed.Statement.{statement}
 use Rattle.satisfaction.proofs.is_obeyed.Tie as tie
 
@@ -18,7 +19,7 @@ is-obeyed-spec =
     (λ c κs. search needs)
     (λ c κs. search needs)
     (λ c κs. search needs)
-    (λ c κs. search needs)
+    (λ c κs. (search range-role, search needs))
     (λ c. search needs)
     (λ c. (search (states-below, below-told), only-none))
     (λ c. search needs)
@@ -28,4 +29,4 @@ is-obeyed-spec =
     (λ c. c .before .before .is-functional-feature .ensures .1 .size)
     (λ c. (search states-feature, c .before .before .is-functional-feature .ensures .1))
     (λ c. search needs)
-    (λ c. (search states-range, only-none)))
+    (λ c. (search (states-range, range-told, range-role, range-class), only-none)))

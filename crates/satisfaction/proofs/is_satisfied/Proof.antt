@@ -1,5 +1,6 @@
 use borrow.Author.Needs.{needs}
-use Rattle.satisfaction.proofs.Classes.{entered-all, satisfied}
+use Rattle.satisfaction.proofs.Classes.{entered-all}
+use Rattle.satisfaction.proofs.Ranges.{narrowed-all, satisfied}
 use Rattle.satisfaction.proofs.is_satisfied.Statement.{statement}
 use Rattle.satisfaction.proofs.is_satisfied.Tie as tie
 
@@ -8,6 +9,7 @@ is-satisfied-spec =
     tie.close
     (tie.spec
     (λ c κs. search needs)
-    (λ c κs. (c .before .before .before .before .before .before .before .before .pre .0, search entered-all))
+    (λ c κs. search entered-all)
+    (λ c κs. (c .before .before .before .before .before .before .before .before .before .before .before .before .pre .0, search (narrowed-all, entered-all), c .before .before .before .narrow-all .ensures .ranged))
     (λ c. search needs)
     (λ c. search (satisfied, entered-all)))
