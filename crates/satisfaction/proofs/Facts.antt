@@ -1,23 +1,22 @@
 -- Laws of one record of the model: the fact that it states, by its kind and name.
-use Prim.Native.Nat.{_+_, _-_, _≤_, ℕ}
-use mathlib.Core.Bool.{Bool, and-false, false, not, true}
+use Prim.Native.Nat.{_+_, _≤_, ℕ}
+use mathlib.Core.Bool.{Bool, false, not, true}
 use mathlib.Core.List.{List}
 use mathlib.Core.Path.{_∙_, _≡_, refl, subst, sym}
 use native.Mathlib.Omega.{arith}
 use borrow.Author.Tests.{eq-eqb, eqb-false, eqb-true, ne-eqb, not-false, not-true}
 use lib.Dec.{eqb}
-use lib.ListN.{getD, length, set}
-use Rattle.meaning.proofs.Links.{split}
-use Rattle.meaning.specs.Limits.{mostIndividuals, workSize}
+use Rattle.meaning.proofs.Links.{split, tests}
+use Rattle.meaning.specs.Limits.{mostFeatures, mostIndividuals, mostRoles}
 use Rattle.meaning.specs.Lists.{All, cons, nil}
 use Rattle.meaning.specs.Model.{Fact, edge, factAt, factKind, factName, factOther, factOwner, factsOf, individualCount}
 use Rattle.meaning.specs.Model.{member, value}
-use Rattle.meaning.specs.Records.{Name}
+use Rattle.meaning.specs.Records.{Name, isName}
 use Rattle.model.specs.Chain.{Readable, Stated, factLinks}
 use Rattle.records.specs.Chains.{Along, along-end, along-more}
 use Rattle.satisfaction.specs.Classes.{Interpreted, entered, follows, isRanged, ownerOf}
-use Rattle.satisfaction.specs.Links.{Compared, link, linkOf, none}
-use Rattle.satisfaction.specs.Places.{classPlace, classesOf, flagOf, flagsAt, putIn, valuesAt}
+use Rattle.satisfaction.specs.Links.{numberOf, otherOf}
+use Rattle.satisfaction.specs.Places.{classPlace, classesOf, putIn}
 use Rattle.words.specs.Rows.{classWords}
 use Rattle.words.specs.Sets.{inSet}
 
@@ -65,50 +64,32 @@ module _ {m : List ℕ} {k : ℕ} (s : Stated m k) where
           by-kind (λ x. b ≡ isRanged (factsOf m) r c x) (λ d. absurd (omega arith))
           (λ z. h ∙ i .classed .rows j c (rw ej (s .target z)) ∙ rw (← ea, eq-eqb r a (sym d), ej)) (λ d. absurd (omega arith))
 
-    -- ---- a value of a name
+-- ---- a value of a role or feature
 
-    module _ (sort a : ℕ) where
-      unlinked : (kind ≡ sort → ⊥) → linkOf sort a (factAt m k) ≡ none
-      unlinked n =
-          by-kind (λ x. linkOf sort a x ≡ none) (λ _. refl) (λ e. rw (ne-eqb sort 2 (λ h. n (ek ∙ e ∙ sym h))))
-          (λ e. rw (ne-eqb sort 3 (λ h. n (ek ∙ e ∙ sym h))))
+pub name-few : {n a : ℕ} {b : Bool} → b ≡ isName n a → b ≡ true → a ≤ n
+name-few h t = let u = simp tests at (sym h ∙ t) in u .1
 
-      module _ {b : ℕ} (eb : b ≡ factName m k) where
-        misnamed : (b ≡ a → ⊥) → linkOf sort a (factAt m k) ≡ none
-        misnamed n =
-            let d = ne-eqb a b (λ d. n (sym d)) in
-            by-kind (λ x. linkOf sort a x ≡ none) (λ _. refl) (λ _. rw (← eb, d, and-false (eqb sort 2))) (λ _. rw (← eb, d, and-false (eqb sort 3)))
+module _ {m : List ℕ} {k : ℕ} (s : Stated m k) where
+  module _ {kind a : ℕ} (ek : kind ≡ factKind m k) (ea : a ≡ factName m k) where
+    module _ {b : Bool} where
+      pub role-number : kind ≡ 2 → b ≡ isName mostRoles a → b ≡ true → a ≡ numberOf (factAt m k)
+      role-number e h t = by-kind s (λ x. a ≡ numberOf x) (λ d. absurd (omega arith)) (λ _. rw (← ea, ← h, t)) (λ d. absurd (omega arith))
 
-        linked-to : kind ≡ sort → 2 ≤ sort → b ≡ a → linkOf sort a (factAt m k) ≡ link (factOwner m k) (factOther m k)
-        linked-to e least d =
-            let h = eq-eqb a b (sym d) in
-            by-kind (λ x. linkOf sort a x ≡ link (factOwner m k) (factOther m k)) (λ z. absurd (omega arith))
-            (λ z. rw (sym e ∙ ek ∙ z, ← eb, h)) (λ z. rw (sym e ∙ ek ∙ z, ← eb, h))
+      pub role-past : kind ≡ 2 → b ≡ isName mostRoles a → b ≡ false → 0 ≡ numberOf (factAt m k)
+      role-past e h t = by-kind s (λ x. 0 ≡ numberOf x) (λ _. refl) (λ _. rw (← ea, ← h, t)) (λ d. absurd (omega arith))
 
-      module _ (w : List ℕ) where
-        -- the answer, and the words afterwards
-        abbrev Told : Bool → List ℕ → Type 0
-        Told t w′ = Compared w w′ (linkOf sort a (factAt m k)) t
+      pub feature-number : kind ≡ 3 → b ≡ isName mostFeatures a → b ≡ true → mostRoles + a ≡ numberOf (factAt m k)
+      feature-number e h t = by-kind s (λ x. mostRoles + a ≡ numberOf x) (λ d. absurd (omega arith)) (λ d. absurd (omega arith)) (λ _. rw (← ea, ← h, t))
 
-        untold : linkOf sort a (factAt m k) ≡ none → Told true w
-        untold e = record { told = rw e; words = rw e }
+      pub feature-past : kind ≡ 3 → b ≡ isName mostFeatures a → b ≡ false → 0 ≡ numberOf (factAt m k)
+      feature-past e h t = by-kind s (λ x. 0 ≡ numberOf x) (λ _. refl) (λ d. absurd (omega arith)) (λ _. rw (← ea, ← h, t))
 
-        pub note-kind : (kind ≡ sort → ⊥) → Told true w
-        note-kind n = untold (unlinked n)
+    pub class-number : (kind ≡ 2 → ⊥) → (kind ≡ 3 → ⊥) → 0 ≡ numberOf (factAt m k)
+    class-number n₂ n₃ = by-kind s (λ x. 0 ≡ numberOf x) (λ _. refl) (λ e. absurd (n₂ (ek ∙ e))) (λ e. absurd (n₃ (ek ∙ e)))
 
-        module _ {b : ℕ} (eb : b ≡ factName m k) where
-          pub note-name : (b ≡ a → ⊥) → Told true w
-          note-name n = untold (misnamed eb n)
-
-          module _ {i x at : ℕ} (e : kind ≡ sort) (least : 2 ≤ sort) (d : b ≡ a) (ei : i ≡ factOwner m k) (ea : at ≡ i - 1) (ex : x ≡ factOther m k) where
-            here : linkOf sort a (factAt m k) ≡ link i x
-            here = linked-to eb e least d ∙ rw (ei, ex)
-
-            pub note-again : (getD w (flagsAt + at) 0 ≡ 0 → ⊥) → Told (eqb (getD w (valuesAt + at) 0) x) w
-            note-again n = let f = ne-eqb (flagOf w i) 0 (rw ea at n) in record { told = rw (here, f, ea); words = rw (here, f) }
-
-            pub note-first : getD w (flagsAt + at) 0 ≡ 0 → Told true (set (set w (flagsAt + at) 1) (valuesAt + at) x)
-            note-first z = let f = eq-eqb (flagOf w i) 0 (rw ea at z) in record { told = rw (here, f); words = rw (here, f, ea) }
+  -- what a record of the series gives its individual
+  pub number-other : (numberOf (factAt m k) ≡ 0 → ⊥) → otherOf (factAt m k) ≡ factOther m k
+  number-other = by-kind s (λ x. (numberOf x ≡ 0 → ⊥) → otherOf x ≡ factOther m k) (λ _ n. absurd (n refl)) (λ _ n. refl) (λ _ n. refl)
 
 -- each individual that has a fact is one of the header's
 pub owners-named : {m : List ℕ} → Readable m → All (λ x. Name (individualCount m) (ownerOf x)) (factsOf m)

@@ -6,3 +6,5 @@ pub mod Ranges
 pub mod Statements
 pub mod Links
 pub mod Values
+pub mod Series
+pub mod Tables

@@ -20,14 +20,14 @@ use Rattle.meaning.proofs.Rules.{order}
 use Rattle.meaning.specs.Limits.{mostClasses, mostIndividuals, mostRoles, workSize}
 use Rattle.meaning.specs.Lists.{all}
 use Rattle.meaning.specs.Model.{Fact, factAt, factKind, factName, factOther, factsOf}
-use Rattle.meaning.specs.ModelCheck.{isModel, obeys}
+use Rattle.meaning.specs.ModelCheck.{obeys}
 use Rattle.meaning.specs.Records.{Name, isName}
-use Rattle.meaning.specs.Vocabulary.{range, vocabularyOf}
+use Rattle.meaning.specs.Vocabulary.{range}
 use Rattle.model.specs.Chain.{Stated}
 use Rattle.satisfaction.proofs.Classes.{interpreted-kept}
 use Rattle.satisfaction.proofs.Facts.{other-role, ranged-into, target-named, unranged}
-use Rattle.satisfaction.specs.Classes.{AllEntered, Interpreted, Satisfied, isRanged}
-use Rattle.satisfaction.specs.Places.{classPlace, classesOf, rangePlace, rangeWords, rangesAt, rangesEnd, rangesOf, valuesAt, valuesEnd}
+use Rattle.satisfaction.specs.Classes.{Interpreted, isRanged}
+use Rattle.satisfaction.specs.Places.{classPlace, classesOf, rangePlace, rangeWords, rangesAt, rangesEnd, rangesOf}
 use Rattle.satisfaction.specs.Ranges.{AllNarrowed, Intersected, Narrowed, Opened, Ranged}
 use Rattle.words.proofs.Bits.{bit-suc, bit-zero}
 use Rattle.words.proofs.Laws.{named-within}
@@ -130,6 +130,10 @@ intersected-in {at} {from} {w} {w′} e (suc i) k =
 pub role-named : {a : ℕ} {b : Bool} → b ≡ isName mostRoles a → not b ≡ false → Name mostRoles a
 role-named {b = b} h n = simp tests at (sym h ∙ not-false b n)
 
+-- an individual's set stands in front of a role's
+pub narrow-apart : {a j at from : ℕ} → Name mostRoles a → at ≡ rangePlace a → Name mostIndividuals j → from ≡ classPlace j → from + classWords ≤ at
+narrow-apart n e t f = omega arith
+
 pub role-room : {m w : List ℕ} {a at : ℕ} → Interpreted m w → Name mostRoles a → at ≡ rangePlace a → at + classWords ≤ length w
 role-room i n e = let l = i .long in omega arith
 
@@ -148,10 +152,6 @@ module _ {m w : List ℕ} {k kind : ℕ} (s : Stated m k) (ek : kind ≡ factKin
         foreign r p d = let z : true ≡ false = sym (named-within mostRoles a (omega arith) (omega arith)) ∙ sym h ∙ not-true b n in let y : _≡_ {A = ℕ} 0 1 = cc in omega arith
 
     module _ {j at from : ℕ} (e : kind ≡ 2) (named : Name mostRoles a) (ej : j ≡ factOther m k) (ep : at ≡ rangePlace a) (ef : from ≡ classPlace j) where
-      -- the target's set stands in front of the role's
-      pub narrow-apart : from + classWords ≤ at
-      narrow-apart = let t = target-named s ek i e ej in omega arith
-
       module _ {w′ : List ℕ} (x : Intersected classWords at from w w′) where
         kept : Only (Span (rangePlace a) (rangePlace a + classWords)) w w′
         kept = rw ep at (x .only)
@@ -202,15 +202,3 @@ module _ {m w w₁ : List ℕ} (e : Opened rangeWords w w₁) where
 
   pub ranging-ends : {w₂ : List ℕ} → Ranging m w₁ w₂ [] → AllNarrowed m w w₂
   ranging-ends {w₂} t = record { ranged = record { rows = λ r c p q. sym (and-true (inSet (rangesOf w₂ r) c)) ∙ t .left r c p q }; only = only-then (e .only) (t .only) }
-
--- w₁ has the sets of classes, w₂ those of the roles too
-module _ {m w w₁ w₂ : List ℕ} (a : AllEntered m w w₁) (i : Interpreted m w₁) (n : AllNarrowed m w₁ w₂) where
-  pub narrowed-all : Interpreted m w₂
-  narrowed-all = interpreted-kept (omega arith) (n .only) i
-
-  pub satisfied : {v w₃ : List ℕ} {b : Bool} → b ≡ isModel (factsOf m) (vocabularyOf v) → Only (Span valuesAt valuesEnd) w₂ w₃ → Satisfied v m w w₃ b
-  satisfied e t = record {
-    told = e;
-    interpreted = interpreted-kept (omega arith) t narrowed-all;
-    only = only-then (only-span (a .only) (omega arith) (omega arith)) (only-then (only-span (n .only) (omega arith) (omega arith)) (only-span t (omega arith) (omega arith)));
-  }

@@ -19,7 +19,7 @@ use Rattle.meaning.specs.Model.{Fact, factsOf, individualCount, member}
 use Rattle.meaning.specs.ModelCheck.{isMember, isModel, obeys}
 use Rattle.meaning.specs.Records.{Name, falling, isName, lastOf}
 use Rattle.meaning.specs.Vocabulary.{axiomAt, axiomFits, axiomKind, axiomLeft, axiomNext, axiomRight, below, classCount, disjoint}
-use Rattle.meaning.specs.Vocabulary.{featureCount, firstAxiom, functionalFeature, functionalRole, range, roleCount, vocabularyOf, vocabularyRefusal}
+use Rattle.meaning.specs.Vocabulary.{featureCount, firstAxiom, range, roleCount, vocabularyOf, vocabularyRefusal}
 use Rattle.model.specs.Chain.{Readable}
 use Rattle.records.proofs.Chains.{Walking, walking-ends, walking-falls, walking-found, walking-on, walking-sound, walking-starts}
 use Rattle.satisfaction.proofs.Facts.{owners-named}
@@ -120,12 +120,6 @@ module _ (F : List Fact) (v : List ℕ) (k : ℕ) {kind a b : ℕ} (ek : kind �
 
   pub states-disjoint : kind ≡ 2 → t ≡ obeys F (disjoint a b) → t ≡ obeys F (axiomAt v k)
   states-disjoint e h = h ∙ rw (← ek, e, ea, eb)
-
-  pub states-role : kind ≡ 3 → t ≡ obeys F (functionalRole a) → t ≡ obeys F (axiomAt v k)
-  states-role e h = h ∙ rw (← ek, e, ea)
-
-  pub states-feature : kind ≡ 4 → t ≡ obeys F (functionalFeature a) → t ≡ obeys F (axiomAt v k)
-  states-feature e h = h ∙ rw (← ek, e, ea)
 
   pub states-range : (kind ≡ 1 → ⊥) → (kind ≡ 2 → ⊥) → (kind ≡ 3 → ⊥) → (kind ≡ 4 → ⊥) → t ≡ obeys F (range a b) → t ≡ obeys F (axiomAt v k)
   states-range n₁ n₂ n₃ n₄ h = h ∙ rw (← ek, ne-eqb kind 1 n₁, ne-eqb kind 2 n₂, ne-eqb kind 3 n₃, ne-eqb kind 4 n₄, ea, eb)

@@ -1,9 +1,8 @@
 -- Where the model check keeps its tables in the work slice, one after another; src/lib.rt has the map.
 use Prim.Native.Nat.{_*_, _+_, _-_, _/_, suc, ℕ}
 use mathlib.Core.List.{List}
-use lib.ListN.{getD}
 use Rattle.frames.specs.Rows.{putAt, rowAt}
-use Rattle.meaning.specs.Limits.{mostIndividuals, mostRecords, mostRoles}
+use Rattle.meaning.specs.Limits.{mostFeatures, mostIndividuals, mostRecords, mostRoles}
 use Rattle.words.specs.Rows.{classWords}
 use Rattle.words.specs.Sets.{including}
 
@@ -33,28 +32,38 @@ rangeWords = mostRoles * classWords
 abbrev pub rangesEnd : ℕ
 rangesEnd = rangesAt + rangeWords
 
--- the value first seen of each individual, and whether one was
-abbrev pub valuesAt : ℕ
-valuesAt = rangesEnd
+-- the roles and features with which an individual has two values, in one series
+abbrev pub seriesCount : ℕ
+seriesCount = mostRoles + mostFeatures
 
-abbrev pub flagsAt : ℕ
-flagsAt = valuesAt + mostIndividuals
+abbrev pub clashWords : ℕ
+clashWords = seriesCount / 32
+
+abbrev pub clashesAt : ℕ
+clashesAt = rangesEnd
+
+abbrev pub clashesOf : List ℕ → List ℕ
+clashesOf w = rowAt clashWords w clashesAt
+
+-- for each individual and each of so many numbers of the series: which record first gave a value
+abbrev pub blockSize : ℕ
+blockSize = 16
+
+abbrev pub valuesAt : ℕ
+valuesAt = clashesAt + clashWords
+
+abbrev pub valuePlace : ℕ → ℕ → ℕ
+valuePlace i n = valuesAt + (i - 1) * blockSize + n
 
 abbrev pub valuesEnd : ℕ
-valuesEnd = flagsAt + mostIndividuals
+valuesEnd = valuesAt + mostIndividuals * blockSize
 
-abbrev pub valueOf : List ℕ → ℕ → ℕ
-valueOf w i = getD w (valuesAt + (i - 1)) 0
-
-abbrev pub flagOf : List ℕ → ℕ → ℕ
-flagOf w i = getD w (flagsAt + (i - 1)) 0
-
--- a set of individuals for each record of a policy, the header among them
+-- a set of individuals for each record of a policy, the header among them, where the values stood
 abbrev pub individualWords : ℕ
 individualWords = mostIndividuals / 32
 
 abbrev pub setsAt : ℕ
-setsAt = valuesEnd
+setsAt = valuesAt
 
 abbrev pub setPlace : ℕ → ℕ
 setPlace k = setsAt + individualWords * k

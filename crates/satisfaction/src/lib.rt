@@ -5,14 +5,20 @@
 //     table                                        entries    words    from at 256 classes    from at 320 classes
 //     the classes of an individual                     512   8 / 10                      0                      0
 //     the classes of all targets of a role              64   8 / 10                  4,096                  5,120
-//     the value first seen of an individual            512        1                  4,608                  5,760
-//     whether one was seen                             512        1                  5,120                  6,272
-//     the individuals at a policy's record             513       16                  5,632                  6,784
-//     the end, of 16,384                                                            13,840                 14,992
+//     what an individual has two values of             128    1 bit                  4,608                  5,760
+//     the record that first gave a value       512 times 16        1                  4,612                  5,764
+//     the end of these                                                              12,804                 13,956
+//     the individuals at a policy's record             513       16                  4,612                  5,764
+//     the end of these, of 16,384                                                   12,820                 13,972
+//
+// The records of first values are needed no more when the individuals at a policy's records are put in their place. What a vocabulary
+// states is told by a walk over the facts for the classes, one for the ranges and eight for what is functional, whatever the number of
+// its records; then by one bit for each of these and, for a pair of classes, by a look at each individual.
 use frames::clear;
 use meaning::ClassNo;
 use meaning::FeatureNo;
 use meaning::RoleNo;
+use meaning::limits::MOST_FEATURES;
 use meaning::limits::MOST_INDIVIDUALS;
 use meaning::limits::MOST_ROLES;
 use model::fact_kind;
@@ -29,26 +35,26 @@ use vocabulary::axiom_next;
 use vocabulary::axiom_right;
 use vocabulary::first_axiom;
 use words::ClassSet;
+use words::has;
 use words::insert;
 use words::place;
 ghost use mathlib.Core.Path.{_≡_};
-ghost use mathlib.Core.Logic.{_↔_};
-ghost use Prim.Native.Nat.{_+_, _≤_};
-ghost use lib.Dec.{T};
+ghost use mathlib.Core.Bool.{not};
+ghost use Prim.Native.Nat.{_+_, _<_, _≤_};
 ghost use lib.ListN.{length};
-ghost use Rattle.frames.specs.Frames.{Only, Span};
-ghost use Rattle.meaning.specs.Limits.{mostIndividuals, mostRoles, workSize};
+ghost use Rattle.meaning.specs.Limits.{mostFeatures, mostIndividuals, mostRoles, workSize};
 ghost use Rattle.meaning.specs.Lists.{all, counting};
 ghost use Rattle.meaning.specs.Model.{factAt, factsOf};
 ghost use Rattle.meaning.specs.ModelCheck.{isModel, obeys};
 ghost use Rattle.meaning.specs.Records.{Name};
-ghost use Rattle.meaning.specs.Vocabulary.{axiomAt, functionalFeature, functionalRole, vocabularyOf, vocabularyRefusal};
+ghost use Rattle.meaning.specs.Vocabulary.{axiomAt, vocabularyOf, vocabularyRefusal};
 ghost use Rattle.model.specs.Chain.{Readable, Stated};
 ghost use Rattle.satisfaction.specs.Axioms.{Named};
 ghost use Rattle.satisfaction.specs.Classes.{AllEntered, Interpreted, Satisfied, entered, follows};
-ghost use Rattle.satisfaction.specs.Links.{Compared, Single, linkOf};
-ghost use Rattle.satisfaction.specs.Places.{classPlace, classesOf, putIn, rangePlace, rangesOf, rangeWords, valuesAt, valuesEnd};
-ghost use Rattle.satisfaction.specs.Ranges.{AllNarrowed, Intersected, Narrowed, Opened, Ranged};
+ghost use Rattle.satisfaction.specs.Links.{AllCompared, BlockCompared, Comparable, Compared, NoneClash, Prepared, numberOf};
+ghost use Rattle.satisfaction.specs.Places.{blockSize, classPlace, classesOf, clashesOf, putIn, rangePlace, rangeWords};
+ghost use Rattle.satisfaction.specs.Places.{rangesOf, seriesCount, valuePlace};
+ghost use Rattle.satisfaction.specs.Ranges.{AllNarrowed, Intersected, Narrowed, Opened};
 ghost use Rattle.words.specs.Rows.{classWords};
 ghost use Rattle.words.specs.Sets.{inSet};
 
@@ -60,12 +66,22 @@ const RANGE_WORDS: usize = MOST_ROLES as usize * ClassSet::WORDS;
 
 const EVERY_BIT: u32 = 4294967295;
 
-const VALUES: usize = RANGES + RANGE_WORDS;
+// Roles and features in one series.
+const SERIES: u32 = MOST_ROLES + MOST_FEATURES;
 
-const FLAGS: usize = VALUES + INDIVIDUALS;
+const CLASHES: usize = RANGES + RANGE_WORDS;
 
-// The sets of individuals, which crate extension makes, and how many words each takes.
-pub const SETS: usize = FLAGS + INDIVIDUALS;
+const CLASH_WORDS: usize = SERIES as usize / 32;
+
+// How many numbers of the series one walk looks at.
+const BLOCK_SIZE: u32 = 16;
+
+const BLOCK: usize = BLOCK_SIZE as usize;
+
+const VALUES: usize = CLASHES + CLASH_WORDS;
+
+// The sets of individuals, which crate extension makes where the values stood, and how many words each takes.
+pub const SETS: usize = VALUES;
 
 pub const SET_WORDS: usize = INDIVIDUALS / 32;
 
@@ -209,67 +225,112 @@ fn is_range(work: &[u32], r: RoleNo, c: ClassNo) -> bool
     ClassSet::has_at(work, range_place(r), c)
 }
 
-// Whether record f gives its individual no second value of name a, kind 2 for a role's and 3 for a feature's. A first is noted.
-fn note(m: &[u32], work: &mut [u32], f: u32, kind: u32, a: u32) -> bool
-    requires { ⌜ Stated (now m) f × Readable (now m) × (2 ≤ kind) × (workSize ≤ length (now work)) ⌝ }
-    ensures { λ r. ⌜ Compared (now (work .entry)) (now (work .exit)) (linkOf kind a (factAt (now (m .entry)) f)) r ⌝ }
+// The number of what record f is of, where roles and features are one series, the features after the roles; 0 for a class and for a
+// name past the most, which no vocabulary has.
+fn series_number(m: &[u32], f: u32) -> u32
+    requires { ⌜ Stated (now m) f ⌝ }
+    ensures { λ r. ⌜ r ≡ numberOf (factAt (now (m .entry)) f) ⌝ }
 {
-    if fact_kind(m, f) != kind {
-        return true;
+    let kind = fact_kind(m, f);
+    let a = fact_name(m, f);
+    match kind {
+        2 => { if is_name(MOST_ROLES, a) { a } else { 0 } }
+        3 => {
+            if is_name(MOST_FEATURES, a) {
+                MOST_ROLES + a
+            } else {
+                0
+            }
+        }
+        _ => 0,
     }
-    if fact_name(m, f) != a {
-        return true;
-    }
-    let at = place(fact_owner(m, f) - 1);
-    let x = fact_other(m, f);
-    if work[FLAGS + at] != 0 {
-        return work[VALUES + at] == x;
-    }
-    work[FLAGS + at] = 1;
-    work[VALUES + at] = x;
-    true
 }
 
-// Whether no individual has two values of name a, a role's or a feature's by the kind, by one walk over the records.
-fn is_functional(m: &[u32], work: &mut [u32], kind: u32, a: u32) -> bool
-    requires { ⌜ Readable (now m) × (2 ≤ kind) × (workSize ≤ length (now work)) ⌝ }
-    ensures { λ r. ⌜ T r ↔ Single (linkOf kind a) (factsOf (now (m .entry))) ⌝ }
-    ensures { λ _. ⌜ Only (Span valuesAt valuesEnd) (now (work .entry)) (now (work .exit)) ⌝ }
+// Where the record is noted that first gave individual i a value of a block's number n, from 0 on.
+fn value_place(i: u32, n: u32) -> usize
+    requires { ⌜ Name mostIndividuals i × (n < blockSize) ⌝ }
+    ensures { λ r. ⌜ r ≡ valuePlace i n ⌝ }
 {
-    clear(work, FLAGS, INDIVIDUALS);
+    VALUES + place(i - 1) * BLOCK + place(n)
+}
+
+// Holds record f, where its number u is of the block, to the first of the same number and individual: a second value is a clash.
+fn compare(m: &[u32], work: &mut [u32], f: u32, base: u32, u: u32)
+    requires { ⌜ Comparable (now m) (now work) f base u ⌝ }
+    ensures { λ _. ⌜ Compared (now (m .entry)) base (now (work .entry)) (now (work .exit)) f u ⌝ }
+{
+    if u <= base {
+        return;
+    }
+    if base + BLOCK_SIZE < u {
+        return;
+    }
+    let at = value_place(fact_owner(m, f), u - base - 1);
+    let first = work[at];
+    let before = fact_other(m, first);
+    if first == 0 {
+        work[at] = f;
+        return;
+    }
+    if before != fact_other(m, f) {
+        put(work, CLASHES, CLASH_WORDS, u);
+    }
+}
+
+// The numbers of a block with which an individual has two values, by one walk over the records.
+fn compare_block(m: &[u32], work: &mut [u32], base: u32)
+    requires { ⌜ Readable (now m) × (base + blockSize ≤ seriesCount) × (workSize ≤ length (now work))
+        × NoneClash base (now work) ⌝ }
+    ensures { λ _. ⌜ BlockCompared (now (m .entry)) base (now (work .entry)) (now (work .exit)) ⌝ }
+{
+    clear(work, VALUES, INDIVIDUALS * BLOCK);
     let mut f = first_fact(m);
     while f != 0 {
-        if !note(m, work, f, kind, a) {
-            return false;
-        }
+        compare(m, work, f, base, series_number(m, f));
         f = fact_next(m, f);
     }
-    true
+}
+
+// The numbers of the whole series, a walk for each block.
+fn compare_all(m: &[u32], work: &mut [u32])
+    requires { ⌜ Readable (now m) × (workSize ≤ length (now work)) ⌝ }
+    ensures { λ _. ⌜ AllCompared (now (m .entry)) (now (work .entry)) (now (work .exit)) ⌝ }
+{
+    clear(work, CLASHES, CLASH_WORDS);
+    for b in 0..SERIES / BLOCK_SIZE {
+        compare_block(m, work, b * BLOCK_SIZE);
+    }
+}
+
+// Whether no individual has two values of number u of the series.
+fn is_functional(work: &[u32], u: u32) -> bool
+    requires { ⌜ workSize ≤ length (now work) ⌝ }
+    ensures { λ r. ⌜ r ≡ not (inSet (clashesOf (now (work .entry))) u) ⌝ }
+{
+    let end = CLASHES + CLASH_WORDS;
+    !has(&work[CLASHES..end], u)
 }
 
 // Whether no individual reaches two by role r.
-fn is_functional_role(m: &[u32], work: &mut [u32], r: RoleNo) -> bool
-    requires { ⌜ Readable (now m) × (workSize ≤ length (now work)) ⌝ }
-    ensures { λ t. ⌜ t ≡ obeys (factsOf (now (m .entry))) (functionalRole (r .0)) ⌝ }
-    ensures { λ _. ⌜ Only (Span valuesAt valuesEnd) (now (work .entry)) (now (work .exit)) ⌝ }
+fn is_functional_role(work: &[u32], r: RoleNo) -> bool
+    requires { ⌜ workSize ≤ length (now work) ⌝ }
+    ensures { λ t. ⌜ t ≡ not (inSet (clashesOf (now (work .entry))) (r .0)) ⌝ }
 {
-    is_functional(m, work, 2, r.0)
+    is_functional(work, r.0)
 }
 
 // Whether no individual has two values of feature f.
-fn is_functional_feature(m: &[u32], work: &mut [u32], f: FeatureNo) -> bool
-    requires { ⌜ Readable (now m) × (workSize ≤ length (now work)) ⌝ }
-    ensures { λ t. ⌜ t ≡ obeys (factsOf (now (m .entry))) (functionalFeature (f .0)) ⌝ }
-    ensures { λ _. ⌜ Only (Span valuesAt valuesEnd) (now (work .entry)) (now (work .exit)) ⌝ }
+fn is_functional_feature(work: &[u32], f: FeatureNo) -> bool
+    requires { ⌜ Name mostFeatures (f .0) × (workSize ≤ length (now work)) ⌝ }
+    ensures { λ t. ⌜ t ≡ not (inSet (clashesOf (now (work .entry))) (mostRoles + f .0)) ⌝ }
 {
-    is_functional(m, work, 3, f.0)
+    is_functional(work, MOST_ROLES + f.0)
 }
 
 // Whether what record k of the vocabulary states is so.
-fn is_obeyed(v: &[u32], m: &[u32], work: &mut [u32], k: u32) -> bool
-    requires { ⌜ Named (now v) k × Interpreted (now m) (now work) × Ranged (now m) (now work) ⌝ }
+fn is_obeyed(v: &[u32], m: &[u32], work: &[u32], k: u32) -> bool
+    requires { ⌜ Named (now v) k × Prepared (now m) (now work) ⌝ }
     ensures { λ r. ⌜ r ≡ obeys (factsOf (now (m .entry))) (axiomAt (now (v .entry)) k) ⌝ }
-    ensures { λ _. ⌜ Only (Span valuesAt valuesEnd) (now (work .entry)) (now (work .exit)) ⌝ }
 {
     let kind = axiom_kind(v, k);
     let a = axiom_left(v, k);
@@ -277,17 +338,16 @@ fn is_obeyed(v: &[u32], m: &[u32], work: &mut [u32], k: u32) -> bool
     match kind {
         1 => do_follow(work, individual_count(m), ClassNo(a), ClassNo(b), false),
         2 => do_follow(work, individual_count(m), ClassNo(a), ClassNo(b), true),
-        3 => is_functional_role(m, work, RoleNo(a)),
-        4 => is_functional_feature(m, work, FeatureNo(a)),
+        3 => is_functional_role(work, RoleNo(a)),
+        4 => is_functional_feature(work, FeatureNo(a)),
         _ => is_range(work, RoleNo(a), ClassNo(b)),
     }
 }
 
 // Whether all that the vocabulary states is so.
-fn are_obeyed(v: &[u32], m: &[u32], work: &mut [u32]) -> bool
-    requires { ⌜ (vocabularyRefusal (now v) ≡ 0) × Interpreted (now m) (now work) × Ranged (now m) (now work) ⌝ }
+fn are_obeyed(v: &[u32], m: &[u32], work: &[u32]) -> bool
+    requires { ⌜ (vocabularyRefusal (now v) ≡ 0) × Prepared (now m) (now work) ⌝ }
     ensures { λ r. ⌜ r ≡ isModel (factsOf (now (m .entry))) (vocabularyOf (now (v .entry))) ⌝ }
-    ensures { λ _. ⌜ Only (Span valuesAt valuesEnd) (now (work .entry)) (now (work .exit)) ⌝ }
 {
     let mut k = first_axiom(v);
     while k != 0 {
@@ -306,5 +366,6 @@ pub fn is_satisfied(v: &[u32], m: &[u32], work: &mut [u32]) -> bool
 {
     enter_all(m, work);
     narrow_all(m, work);
+    compare_all(m, work);
     are_obeyed(v, m, work)
 }

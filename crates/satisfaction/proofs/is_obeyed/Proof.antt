@@ -1,8 +1,8 @@
 use borrow.Author.Needs.{needs}
-use Rattle.frames.proofs.Frames.{only-none}
 use Rattle.satisfaction.proofs.Ranges.{range-told}
-use Rattle.satisfaction.proofs.Statements.{below-told, disjoint-told, states-below, states-disjoint, states-feature, states-range}
-use Rattle.satisfaction.proofs.Statements.{range-class, range-role, states-role}
+use Rattle.satisfaction.proofs.Series.{feature-named, states-feature, states-role}
+use Rattle.satisfaction.proofs.Statements.{below-told, disjoint-told, range-class, range-role, states-below, states-disjoint}
+use Rattle.satisfaction.proofs.Statements.{states-range}
 use Rattle.satisfaction.proofs.is_obeyed.Statement.{statement}
 use Rattle.satisfaction.proofs.is_obeyed.Tie as tie
 
@@ -18,15 +18,10 @@ is-obeyed-spec =
     (λ c κs. search needs)
     (λ c κs. search needs)
     (λ c κs. search needs)
-    (λ c κs. search needs)
+    (λ c κs. (search feature-named, search needs))
     (λ c κs. (search range-role, search needs))
-    (λ c. search needs)
-    (λ c. (search (states-below, below-told), only-none))
-    (λ c. search needs)
-    (λ c. (search (states-disjoint, disjoint-told), only-none))
-    (λ c. c .before .before .is-functional-role .ensures .1 .size)
-    (λ c. (search states-role, c .before .before .is-functional-role .ensures .1))
-    (λ c. c .before .before .is-functional-feature .ensures .1 .size)
-    (λ c. (search states-feature, c .before .before .is-functional-feature .ensures .1))
-    (λ c. search needs)
-    (λ c. (search (states-range, range-told, range-role, range-class), only-none)))
+    (λ c. search (states-below, below-told))
+    (λ c. search (states-disjoint, disjoint-told))
+    (λ c. search states-role)
+    (λ c. search states-feature)
+    (λ c. search (states-range, range-told, range-role, range-class)))
