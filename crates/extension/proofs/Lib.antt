@@ -1,7 +1,12 @@
 -- The laws that the functions' proofs cite.
+pub mod Bits
+pub mod Marks
 pub mod Facts
-pub mod Sets
-pub mod Marking
+pub mod Links
 pub mod Conjuncts
-pub mod Settling
+pub mod Heights
+pub mod Passing
+pub mod Columns
+pub mod Edges
+pub mod Rounds
 pub mod Policies

@@ -1,58 +1,53 @@
--- Laws of a policy's terms: who is in one is in the set at its first conjunct.
+-- Laws of a policy's terms: who is in one passes its conjuncts.
 use Prim.Native.Nat.{_+_, _<_, _≤_, ℕ}
 use mathlib.Core.Bool.{Bool, _||_, false, true}
 use mathlib.Core.List.{List, _∷_}
-use mathlib.Core.Path.{_≡_, refl}
+use mathlib.Core.Logic.{⊎-elim}
+use mathlib.Core.Path.{_∙_, _≡_, refl}
+use lib.ListN.{length}
 use native.Mathlib.Omega.{arith}
-use Rattle.extension.proofs.Settling.{filled-ready}
-use Rattle.extension.specs.Sets.{AllIncluded, Charted, Extended, Fillable, Filled, Taken}
-use Rattle.frames.proofs.Frames.{only-none, only-then}
+use Rattle.extension.proofs.Conjuncts.{charted, inside, no-more}
+use Rattle.extension.specs.Depths.{AllMeasured, Passes, Settled, Topped}
+use Rattle.extension.specs.Sets.{AllMarked, Charted, Extended, Sized, Taken}
+use Rattle.frames.proofs.Frames.{only-span, only-then}
 use Rattle.frames.specs.Frames.{Only, Span}
-use Rattle.meaning.proofs.Wellformed.{accepted}
-use Rattle.meaning.specs.Accepted.{Reads, reads-class, reads-end, reads-impossible, reads-interval, reads-some}
-use Rattle.meaning.specs.Limits.{mostRecords}
+use Rattle.meaning.proofs.Links.{passed, tests}
+use Rattle.meaning.proofs.Rules.{order}
+use Rattle.meaning.proofs.Wellformed.{accepted, accepted-counts}
+use Rattle.meaning.specs.Accepted.{depth}
+use Rattle.meaning.specs.Limits.{mostRoles}
 use Rattle.meaning.specs.Model.{factsOf}
 use Rattle.meaning.specs.ModelCheck.{isIn}
-use Rattle.meaning.specs.Policy.{Chain, Policy, childOf, firstTerm, nextOf, policyOf, termAt}
+use Rattle.meaning.specs.Policy.{Policy, childOf, firstTerm, nextOf, policyOf, policyRefusal, termAt}
 use Rattle.meaning.specs.Records.{falling, lastOf}
+use Rattle.meaning.specs.Vocabulary.{roleCount}
 use Rattle.policy.proofs.Terms.{Asking, asking-ends, asking-falls, asking-found, asking-on, asking-starts, asking-term}
-use Rattle.satisfaction.proofs.Classes.{interpreted-kept}
-use Rattle.satisfaction.specs.Classes.{Interpreted}
-use Rattle.satisfaction.specs.Places.{setOf, setsAt, setsEnd}
-use Rattle.words.specs.Sets.{inSet}
+use Rattle.policy.specs.Terms.{conjunctsAt}
+use Rattle.satisfaction.specs.Places.{setsAt, setsEnd}
 
-reads-inside : {p : List ℕ} {j : ℕ} {c : Chain} → Reads p j c → j ≤ lastOf 6 p
-reads-inside (reads-end e) = omega arith
-reads-inside (reads-class h e n) = h .inside .1
-reads-inside (reads-impossible h e n) = h .inside .1
-reads-inside (reads-some h e q n) = h .inside .1
-reads-inside (reads-interval h e n) = h .inside .1
+long : (v p : List ℕ) → policyRefusal v p ≡ 0 → 6 ≤ length p
+unfolding policyRefusal
+long v p h = let u = simp (passed 3, passed 4, tests) at h in u .0 .1 .0
+
+pub sized : {p : List ℕ} → Taken p → Sized p
+sized {p} t = record { headed = long (t .0) p (t .2); few = accepted (t .0) p (t .2) .small }
 
 -- ---- the terms, one after another
 
--- a loop that has come to the term at record k: what the rest tells is what all tell, and only the records' sets changed
-pub record Seeking (p m w₀ w : List ℕ) (k : ℕ) : Type 0 where
+-- a loop that has come to the term at record k: what the rest tells is what all tell
+pub record Seeking (p m : List ℕ) (k : ℕ) : Type 0 where
   pub vocabulary : List ℕ
   pub place : ℕ
+  pub roles : roleCount vocabulary ≤ mostRoles
   pub asking : Asking (λ s l. isIn (factsOf m) l 1 ≡ isIn (factsOf m) (policyOf p) 1) vocabulary p place k
-  pub few : lastOf 6 p ≤ mostRecords
-  pub ready : Fillable m w
-  pub only : Only (Span setsAt setsEnd) w₀ w
 
-module _ {p m w : List ℕ} {k : ℕ} where
-  pub seeking-starts : Taken p → Fillable m w → k ≡ firstTerm p → Seeking p m w w k
-  seeking-starts t r e = record {
-    vocabulary = t .0;
-    place = 1;
-    asking = asking-starts (t .1) e refl;
-    few = accepted (t .0) p (t .1) .small;
-    ready = r;
-    only = only-none;
-  }
+module _ {p m : List ℕ} {k : ℕ} where
+  pub seeking-starts : Taken p → k ≡ firstTerm p → Seeking p m k
+  seeking-starts t e = record { vocabulary = t .0; place = 1; roles = accepted-counts (t .0) (t .1) .1; asking = asking-starts (t .2) e refl }
 
-  module _ {w₀ : List ℕ} (x : Seeking p m w₀ w k) where
-    pub seeking-ends : k ≡ 0 → Extended p m w₀ w false
-    seeking-ends z = record { told = asking-ends (x .asking) z; interpreted = x .ready .interpreted; only = x .only }
+  module _ (x : Seeking p m k) where
+    pub seeking-ends : k ≡ 0 → false ≡ isIn (factsOf m) (policyOf p) 1
+    seeking-ends z = asking-ends (x .asking) z
 
     module _ (n : k ≡ 0 → ⊥) where
       pub seeking-falls : {j : ℕ} → j ≡ nextOf p k → falling (lastOf 6 p) j < falling (lastOf 6 p) k
@@ -60,43 +55,37 @@ module _ {p m w : List ℕ} {k : ℕ} where
 
       -- record j is the first of the term's conjuncts
       module _ {j : ℕ} (e : j ≡ childOf p k) where
-        pub seeking-charted : Charted p j
-        seeking-charted = record { reads = rw e (asking-term (x .asking) n .reads); few = x .few }
+        term-charted : Charted p j
+        term-charted = let t = asking-term (x .asking) n in rw e (charted (x .vocabulary) (x .roles) (t .reads) (t .named) (t .shallow))
 
-        pub seeking-inside : j ≤ mostRecords
-        seeking-inside = let r = reads-inside (seeking-charted .reads) in omega arith
+        pub seeking-inside : j ≤ lastOf 6 p
+        seeking-inside = inside term-charted
 
-        module _ {w′ : List ℕ} (f : Filled p m j w w′) where
-          pub seeking-ready : Fillable m w′
-          seeking-ready = filled-ready f (x .ready)
+        -- b tells whether they hold of individual 1
+        module _ {w : List ℕ} {top : ℕ} {b : Bool} (s : Settled p m top w) (u : Topped p top) (h : Passes p w 1 j b) where
+          shallow : depth (conjunctsAt p j) ≤ top
+          shallow = ⊎-elim (λ l. u .deepest j l term-charted) (λ l. let z : j ≡ 0 = omega arith in rw (z, no-more p) (omega arith)) (order 0 j)
 
-          -- b tells whether individual 1 is in the set that was made for it
-          module _ {b : Bool} (h : b ≡ inSet (setOf w′ j) 1) where
-            first-told : (l : Policy) → isIn (factsOf m) (termAt p k ∷ l) 1 ≡ isIn (factsOf m) (policyOf p) 1 → b || isIn (factsOf m) l 1 ≡ isIn (factsOf m) (policyOf p) 1
-            first-told l g = let i = x .ready .interpreted .readable .individuals in rw (h, f .own .tells 1 (omega arith, i .0), e) g
+          first-told : (l : Policy) → isIn (factsOf m) (termAt p k ∷ l) 1 ≡ isIn (factsOf m) (policyOf p) 1 → b || isIn (factsOf m) l 1 ≡ isIn (factsOf m) (policyOf p) 1
+          first-told l g = let i = s .interpreted .readable .individuals in rw (h .tells m top (s .known) term-charted shallow (omega arith, i .0), e) g
 
-            pub seeking-found : b ≡ true → Extended p m w₀ w′ true
-            seeking-found d = record {
-              told = asking-found (x .asking) n (λ l g. rw d at (first-told l g));
-              interpreted = seeking-ready .interpreted;
-              only = only-then (x .only) (f .only);
-            }
+          pub seeking-found : b ≡ true → true ≡ isIn (factsOf m) (policyOf p) 1
+          seeking-found d = asking-found (x .asking) n (λ l g. rw d at (first-told l g))
 
-            pub seeking-on : b ≡ false → {i : ℕ} → i ≡ nextOf p k → Seeking p m w₀ w′ i
-            seeking-on d z = record {
-              vocabulary = x .vocabulary;
-              place = x .place + 1;
-              asking = asking-on (x .asking) n z (λ l g. rw d at (first-told l g));
-              few = x .few;
-              ready = seeking-ready;
-              only = only-then (x .only) (f .only);
-            }
+          pub seeking-on : b ≡ false → {i : ℕ} → i ≡ nextOf p k → Seeking p m i
+          seeking-on d z = record {
+            vocabulary = x .vocabulary;
+            place = x .place + 1;
+            roles = x .roles;
+            asking = asking-on (x .asking) n z (λ l g. rw d at (first-told l g));
+          }
 
--- ---- with everyone at record 0
+-- ---- the whole
 
-module _ {m w w′ : List ℕ} (a : AllIncluded m w w′) where
-  pub all-ready : Interpreted m w → Fillable m w′
-  all-ready i = record { interpreted = interpreted-kept (omega arith) (a .only) i; everyone = a .everyone }
-
-  pub extended : {p w″ : List ℕ} {b : Bool} → Extended p m w′ w″ b → Extended p m w w″ b
-  extended e = record { told = e .told; interpreted = e .interpreted; only = only-then (a .only) (e .only) }
+pub extended : {p m w w₁ w₂ w₃ : List ℕ} {top n : ℕ} {b : Bool} → AllMarked p m w w₁ → AllMeasured p w₁ w₂ top → Settled p m n w₃ → Only (Span setsAt setsEnd) w₂ w₃ →
+    b ≡ isIn (factsOf m) (policyOf p) 1 → Extended p m w w₃ b
+extended a c s o e = record {
+  told = e;
+  interpreted = s .interpreted;
+  only = only-then (only-span (a .only) (omega arith) (omega arith)) (only-then (only-span (c .only) (omega arith) (omega arith)) o);
+}

@@ -1,2 +1,4 @@
--- The sets of individuals in the work slice, and what each step of filling them leaves.
+-- The sets of a policy's records in the work slice, the order in which they are made, and the tables beside them.
 pub mod Sets
+pub mod Depths
+pub mod Columns

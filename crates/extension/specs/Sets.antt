@@ -1,71 +1,53 @@
--- The sets of individuals in the work slice: the individuals at which a chain of conjuncts holds, and how a record's set is made.
-use Prim.Native.Nat.{_≤_, suc, ℕ}
-use mathlib.Core.Bool.{Bool, _&&_, cond, false, true}
+-- The sets of a policy's records: which record's conjunct holds of an individual, and what is put in first, of classes and features.
+use Prim.Native.Nat.{_<_, _≤_, ℕ}
+use mathlib.Core.Bool.{Bool, _&&_, _||_, cond, false}
 use mathlib.Core.List.{List}
 use mathlib.Core.Path.{_≡_}
-use lib.Dec.{eqb}
+use lib.Dec.{eqb, leb, ltb}
+use lib.ListN.{length}
 use Rattle.frames.specs.Frames.{Only, Span}
-use Rattle.meaning.specs.Accepted.{Reads}
+use Rattle.meaning.specs.Accepted.{ChainOf, Reads, depth}
 use Rattle.meaning.specs.Intervals.{isWithin}
-use Rattle.meaning.specs.Limits.{mostRecords}
+use Rattle.meaning.specs.Limits.{mostDepth, mostIndividuals, mostRecords, mostRoles}
 use Rattle.meaning.specs.Lists.{any}
 use Rattle.meaning.specs.Model.{Fact, edge, factAt, factsOf, individualCount, member, value}
 use Rattle.meaning.specs.ModelCheck.{holds, isIn, isMember}
-use Rattle.meaning.specs.Policy.{childOf, hiOf, kindOf, loOf, nameOf, nextOf, policyOf, policyRefusal}
+use Rattle.meaning.specs.Policy.{childOf, hiOf, kindOf, loOf, nameOf, policyOf, policyRefusal}
 use Rattle.meaning.specs.Records.{Name, lastOf}
+use Rattle.meaning.specs.Vocabulary.{roleCount, vocabularyRefusal}
 use Rattle.policy.specs.Terms.{conjunctsAt}
 use Rattle.satisfaction.specs.Classes.{Interpreted, ownerOf}
-use Rattle.satisfaction.specs.Places.{classesOf, individualWords, putIn, setOf, setPlace, setsAt, setsEnd}
+use Rattle.satisfaction.specs.Places.{classesOf, heightsAt, putIn, recordWords, recordsOf, setPlace, setsAt, setsEnd}
 use Rattle.words.specs.Sets.{inSet}
 
--- the set at record k is that of the individuals at which its chain holds
-pub record IsExtension (p m w : List ℕ) (k : ℕ) : Type 0 where
-  pub tells : (i : ℕ) → Name (individualCount m) i → inSet (setOf w k) i ≡ holds (factsOf m) (conjunctsAt p k) i
+-- ---- the records
 
--- the set at 0, where no conjunct is left, is that of all individuals
-abbrev pub Everyone : List ℕ → List ℕ → Type 0
-Everyone m w = (i : ℕ) → Name (individualCount m) i → inSet (setOf w 0) i ≡ true
-
--- and only the records' sets changed
-pub record AllIncluded (m w w′ : List ℕ) : Type 0 where
-  pub everyone : Everyone m w′
-  pub only : Only (Span setsAt setsEnd) w w′
-
--- what the sets are made from
-pub record Fillable (m w : List ℕ) : Type 0 where
-  pub interpreted : Interpreted m w
-  pub everyone : Everyone m w
-
--- a child chain is a role's
-abbrev pub childAt : List ℕ → ℕ → ℕ
-childAt p k = cond (eqb (kindOf p k) 3) (childOf p k) 0
-
--- the records from k on are a chain
-pub record Charted (p : List ℕ) (k : ℕ) : Type 0 where
-  pub reads : Reads p k (conjunctsAt p k)
+-- the policy's words have a header, and not too many records
+pub record Sized (p : List ℕ) : Type 0 where
+  pub headed : 6 ≤ length p
   pub few : lastOf 6 p ≤ mostRecords
 
--- the policy is accepted by some vocabulary
+-- record k's link x where it goes onward, else 0
+abbrev pub onward : List ℕ → ℕ → ℕ → ℕ
+onward p k x = cond (ltb k x && leb x (lastOf 6 p)) x 0
+
+pub record Linked (p : List ℕ) (k x r : ℕ) : Type 0 where
+  pub link : r ≡ onward p k x
+  pub few : r ≤ mostRecords
+
+-- the records from k on are a chain, of roles that a set is kept for, and not too deep
+pub record Charted (p : List ℕ) (k : ℕ) : Type 0 where
+  pub vocabulary : List ℕ
+  pub reads : Reads p k (conjunctsAt p k)
+  pub named : ChainOf vocabulary (conjunctsAt p k)
+  pub roles : roleCount vocabulary ≤ mostRoles
+  pub shallow : depth (conjunctsAt p k) ≤ mostDepth
+
+-- the policy is accepted by some vocabulary that is accepted
 abbrev pub Taken : List ℕ → Type 0
-Taken p = (v : List ℕ) × (policyRefusal v p ≡ 0)
+Taken p = (v : List ℕ) × (vocabularyRefusal v ≡ 0) × (policyRefusal v p ≡ 0)
 
--- ---- one record
-
--- record k is a conjunct, and its links lead to others or to the end
-pub record Linked (p : List ℕ) (k : ℕ) : Type 0 where
-  pub conjunct : Name mostRecords k
-  pub child : (childAt p k ≤ mostRecords) × (childAt p k ≡ k → ⊥)
-  pub next : (nextOf p k ≤ mostRecords) × (nextOf p k ≡ k → ⊥)
-
--- and the sets of what its links lead to are right
-pub record Placed (p m w : List ℕ) (k : ℕ) : Type 0 where
-  pub linked : Linked p k
-  pub child : IsExtension p m w (childAt p k)
-  pub next : IsExtension p m w (nextOf p k)
-
--- no one is in the set at record k
-abbrev pub Vacant : List ℕ → ℕ → Type 0
-Vacant w k = (i : ℕ) → inSet (setOf w k) i ≡ false
+-- ---- the conjunct at record k
 
 -- "role a reaches an individual in child"
 abbrev pub edgeInto : ℕ → (ℕ → Bool) → Fact → Bool
@@ -79,55 +61,63 @@ valueWithin a lo hi (member b i) = false
 valueWithin a lo hi (edge r i j) = false
 valueWithin a lo hi (value f i v) = eqb a f && isWithin lo hi v
 
--- a fact shows that its owner has the conjunct at record k, a role's or a feature's
-abbrev pub shows : List ℕ → List ℕ → ℕ → Fact → Bool
-shows p m k x =
-    cond (eqb (kindOf p k) 3) (edgeInto (nameOf p k) (holds (factsOf m) (conjunctsAt p (childOf p k))) x)
-    (valueWithin (nameOf p k) (loOf p k) (hiOf p k) x)
-
--- the individuals that have the conjunct at record k: those of which a fact shows it, and those in its class
-abbrev pub shown : List ℕ → List ℕ → ℕ → ℕ → Bool
-shown p m k i = any (λ x. eqb i (ownerOf x) && shows p m k x) (factsOf m)
-
+-- the individuals of which it holds: those in the class, those with an edge or a value that a fact shows
 abbrev pub inClass : List ℕ → List ℕ → ℕ → ℕ → Bool
 inClass p m k i = any (isMember (nameOf p k) i) (factsOf m)
 
--- individual i is put into the set at record k where the set at record j has it
-abbrev pub kept : List ℕ → ℕ → ℕ → ℕ → List ℕ
-kept w j k i = cond (inSet (setOf w j) i) (putIn individualWords w (setPlace k) i) w
+abbrev pub reached : List ℕ → List ℕ → ℕ → ℕ → Bool
+reached p m k i = any (λ x. eqb i (ownerOf x) && edgeInto (nameOf p k) (holds (factsOf m) (conjunctsAt p (childOf p k))) x) (factsOf m)
 
--- by record f of the model, and by individual i's classes
-abbrev pub markedShown : List ℕ → List ℕ → ℕ → List ℕ → ℕ → List ℕ
-markedShown p m k w f = cond (shows p m k (factAt m f)) (kept w (nextOf p k) k (ownerOf (factAt m f))) w
+abbrev pub valued : List ℕ → List ℕ → ℕ → ℕ → Bool
+valued p m k i = any (λ x. eqb i (ownerOf x) && valueWithin (nameOf p k) (loOf p k) (hiOf p k) x) (factsOf m)
 
+-- what needs no other record's sets, and all
+abbrev pub early : List ℕ → List ℕ → ℕ → ℕ → Bool
+early p m k i = cond (eqb (kindOf p k) 1) (inClass p m k i) (cond (eqb (kindOf p k) 4) (valued p m k i) false)
+
+abbrev pub own : List ℕ → List ℕ → ℕ → ℕ → Bool
+own p m k i = cond (eqb (kindOf p k) 3) (reached p m k i) (early p m k i)
+
+-- ---- put in
+
+-- record k is in the set of individual i
+abbrev pub marked : List ℕ → ℕ → ℕ → List ℕ
+marked w k i = putIn recordWords w (setPlace i) k
+
+-- by individual i's classes, and by record f of the model
 abbrev pub markedMember : List ℕ → ℕ → List ℕ → ℕ → List ℕ
-markedMember p k w i = cond (inSet (classesOf w i) (nameOf p k)) (kept w (nextOf p k) k i) w
+markedMember p k w i = cond (inSet (classesOf w i) (nameOf p k)) (marked w k i) w
 
--- only the set at record k changed, and it holds who passes the test and is in the next record's
-pub record Marked (p m : List ℕ) (k : ℕ) (own : ℕ → Bool) (w w′ : List ℕ) : Type 0 where
-  pub only : Only (Span (setPlace k) (setPlace (suc k))) w w′
-  pub marks : (i : ℕ) → Name (individualCount m) i → inSet (setOf w′ k) i ≡ own i && inSet (setOf w (nextOf p k)) i
+abbrev pub markedValue : List ℕ → List ℕ → ℕ → List ℕ → ℕ → List ℕ
+markedValue p m k w f = cond (valueWithin (nameOf p k) (loOf p k) (hiOf p k) (factAt m f)) (marked w k (ownerOf (factAt m f))) w
 
-abbrev pub ShownMarked : List ℕ → List ℕ → ℕ → List ℕ → List ℕ → Type 0
-ShownMarked p m k w w′ = Marked p m k (shown p m k) w w′
+-- record k is put into the sets of those that pass the test, and no other record into any
+pub record Marked (m : List ℕ) (k : ℕ) (test : ℕ → Bool) (w w′ : List ℕ) : Type 0 where
+  pub only : Only (Span setsAt heightsAt) w w′
+  pub marks : (i : ℕ) → Name (individualCount m) i → inSet (recordsOf w′ i) k ≡ inSet (recordsOf w i) k || test i
+  pub others : (i j : ℕ) → Name mostIndividuals i → (j ≡ k → ⊥) → inSet (recordsOf w′ i) j ≡ inSet (recordsOf w i) j
 
 abbrev pub MembersMarked : List ℕ → List ℕ → ℕ → List ℕ → List ℕ → Type 0
-MembersMarked p m k w w′ = Marked p m k (inClass p m k) w w′
+MembersMarked p m k w w′ = Marked m k (inClass p m k) w w′
 
--- only the set at record k changed, and it is right
-pub record Settled (p m : List ℕ) (k : ℕ) (w w′ : List ℕ) : Type 0 where
-  pub only : Only (Span (setPlace k) (setPlace (suc k))) w w′
-  pub own : IsExtension p m w′ k
+abbrev pub ValuesMarked : List ℕ → List ℕ → ℕ → List ℕ → List ℕ → Type 0
+ValuesMarked p m k w w′ = Marked m k (valued p m k) w w′
 
--- ---- all of them
+abbrev pub EarlyMarked : List ℕ → List ℕ → ℕ → List ℕ → List ℕ → Type 0
+EarlyMarked p m k w w′ = Marked m k (early p m k) w w′
 
--- only the records' sets changed: that of record k is right, and each that was is
-pub record Filled (p m : List ℕ) (k : ℕ) (w w′ : List ℕ) : Type 0 where
-  pub only : Only (Span setsAt setsEnd) w w′
-  pub still : (j : ℕ) → IsExtension p m w j → IsExtension p m w′ j
-  pub own : IsExtension p m w′ k
+-- the sets have what needs no other record's, up to record n
+pub record MarkedTo (p m : List ℕ) (n : ℕ) (w : List ℕ) : Type 0 where
+  pub tells : (k i : ℕ) → Name n k → Name (individualCount m) i → inSet (recordsOf w i) k ≡ early p m k i
+  pub rest : (k i : ℕ) → n < k → Name mostIndividuals i → inSet (recordsOf w i) k ≡ false
 
--- r tells whether individual 1 is in the policy; only the sets of individuals changed, and more may be asked of the model
+pub record AllMarked (p m w w′ : List ℕ) : Type 0 where
+  pub marked : MarkedTo p m (lastOf 6 p) w′
+  pub only : Only (Span setsAt heightsAt) w w′
+
+-- ---- the answer
+
+-- r tells whether individual 1 is in the policy; only the sets of records changed, and more may be asked of the model
 pub record Extended (p m w w′ : List ℕ) (r : Bool) : Type 0 where
   pub told : r ≡ isIn (factsOf m) (policyOf p) 1
   pub interpreted : Interpreted m w′

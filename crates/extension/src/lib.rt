@@ -1,11 +1,16 @@
-// Extensions: the set of the individuals of which each of a policy's records holds, and so whether individual 1 is in the policy.
-// The sets stand in the work slice, so that no path of edges is walked twice: time grows with the model's records times the policy's.
-// There are 513, one a record and the header's; crate satisfaction has the map.
+// Extensions: for each individual the set of the policy's records whose conjunct holds of it, and so whether individual 1 is in the policy.
+//
+// A role's record waits for the chain below it. The records are taken in rounds, by how deep that chain is, and one walk over the facts
+// does all of a round: an edge hands the records of its role that hold below its target to its owner, 16 words at a time. So time
+// grows with the model's records times the policy's depth; a feature's record takes a walk of its own.
 use frames::clear;
 use intervals::is_within;
 use meaning::ClassNo;
 use meaning::FeatureNo;
 use meaning::RoleNo;
+use meaning::limits::MOST_DEPTH;
+use meaning::limits::MOST_INDIVIDUALS;
+use meaning::limits::MOST_ROLES;
 use model::fact_kind;
 use model::fact_name;
 use model::fact_next;
@@ -20,6 +25,8 @@ use policy::kind_of;
 use policy::lo_of;
 use policy::name_of;
 use policy::next_of;
+use records::is_name;
+use satisfaction::HEIGHTS;
 use satisfaction::SET_WORDS;
 use satisfaction::SETS;
 use satisfaction::is_member;
@@ -27,74 +34,98 @@ use satisfaction::put;
 use words::has;
 use words::place;
 ghost use mathlib.Core.Path.{_≡_};
-ghost use Prim.Native.Nat.{_≤_};
+ghost use Prim.Native.Nat.{_+_, _≤_, max};
 ghost use lib.ListN.{length};
-ghost use Rattle.extension.specs.Sets.{AllIncluded, Charted, Extended, Fillable, Filled, Linked, MembersMarked, Placed};
-ghost use Rattle.extension.specs.Sets.{Settled, ShownMarked, Taken, Vacant, childAt, edgeInto, kept, markedMember};
-ghost use Rattle.extension.specs.Sets.{markedShown, shows, valueWithin};
-ghost use Rattle.meaning.specs.Limits.{mostIndividuals, mostRecords, workSize};
-ghost use Rattle.meaning.specs.Model.{factAt};
-ghost use Rattle.meaning.specs.Records.{Name};
+ghost use Rattle.extension.specs.Columns.{AllFilled, CellFilled, ColumnFilled, EdgeMarked, EdgesMarked, Fillable};
+ghost use Rattle.extension.specs.Columns.{Joinable, Joined, MaskFilled, RecordFilled, columnPlace, columnsEnd, maskPlace};
+ghost use Rattle.extension.specs.Depths.{AllMeasured, Passes, Settled, Topped, heightAt, isDue, ownHeight};
+ghost use Rattle.extension.specs.Sets.{AllMarked, EarlyMarked, Extended, MembersMarked, Sized, Taken, ValuesMarked};
+ghost use Rattle.extension.specs.Sets.{Linked, markedMember, markedValue, valueWithin};
+ghost use Rattle.frames.specs.Frames.{Only, Span};
+ghost use Rattle.meaning.specs.Limits.{mostIndividuals, mostRecords, mostRoles, workSize};
+ghost use Rattle.meaning.specs.Model.{factAt, factsOf};
+ghost use Rattle.meaning.specs.ModelCheck.{isIn};
+ghost use Rattle.meaning.specs.Policy.{policyOf};
+ghost use Rattle.meaning.specs.Records.{Name, lastOf};
 ghost use Rattle.model.specs.Chain.{Readable, Stated};
 ghost use Rattle.satisfaction.specs.Classes.{Interpreted};
-ghost use Rattle.satisfaction.specs.Places.{setOf, setPlace};
-ghost use Rattle.words.specs.Sets.{inSet};
+ghost use Rattle.satisfaction.specs.Places.{recordWords, setPlace, setsAt, setsEnd};
 
 // The individual that is asked of.
 const FIRST: u32 = 1;
 
-// Where the set of individuals of a policy's record k starts.
-fn set_place(k: u32) -> usize
-    requires { ⌜ k ≤ mostRecords ⌝ }
-    ensures { λ r. ⌜ r ≡ setPlace k ⌝ }
+// A set of records for each individual.
+const ROWS: usize = MOST_INDIVIDUALS as usize * SET_WORDS;
+
+// Beside the work slice: for each individual the records that hold below it, and behind them for each role its records.
+const MASKS: usize = ROWS;
+
+const COLUMNS: usize = MASKS + MOST_ROLES as usize * SET_WORDS;
+
+// Where the set of the records that hold of individual i starts.
+fn set_place(i: u32) -> usize
+    requires { ⌜ Name mostIndividuals i ⌝ }
+    ensures { λ r. ⌜ r ≡ setPlace i ⌝ }
 {
-    SETS + SET_WORDS * place(k)
+    SETS + place(i - 1) * SET_WORDS
 }
 
-// Whether individual i is in the set at record k.
-fn is_in(work: &[u32], k: u32, i: u32) -> bool
-    requires { ⌜ (k ≤ mostRecords) × (workSize ≤ length (now work)) ⌝ }
-    ensures { λ r. ⌜ r ≡ inSet (setOf (now (work .entry)) k) i ⌝ }
+// Where the set of the records that hold below individual j starts.
+fn column_place(j: u32) -> usize
+    requires { ⌜ Name mostIndividuals j ⌝ }
+    ensures { λ r. ⌜ r ≡ columnPlace j ⌝ }
 {
-    let at = set_place(k);
-    let end = at + SET_WORDS;
-    has(&work[at..end], i)
+    place(j - 1) * SET_WORDS
 }
 
-// Where no conjunct is left every individual passes: all are the set at record 0, where chains end.
-fn include_all(m: &[u32], work: &mut [u32])
-    requires { ⌜ Readable (now m) × (workSize ≤ length (now work)) ⌝ }
-    ensures { λ _. ⌜ AllIncluded (now (m .entry)) (now (work .entry)) (now (work .exit)) ⌝ }
+// Where the set of role r's records starts.
+fn mask_place(r: RoleNo) -> usize
+    requires { ⌜ Name mostRoles (r .0) ⌝ }
+    ensures { λ t. ⌜ t ≡ maskPlace (r .0) ⌝ }
+{
+    MASKS + place(r.0 - 1) * SET_WORDS
+}
+
+fn last_record(p: &[u32]) -> u32
+    requires { ⌜ Sized (now p) ⌝ }
+    ensures { λ r. ⌜ r ≡ lastOf 6 (now (p .entry)) ⌝ }
+{
+    (p.len() / 6 - 1) as u32
+}
+
+// Record k's link x where it goes onward, else 0. Links of records that nothing reaches may lead anywhere.
+fn link_of(p: &[u32], k: u32, x: u32) -> u32
+    requires { ⌜ Sized (now p) ⌝ }
+    ensures { λ r. ⌜ Linked (now (p .entry)) k x r ⌝ }
+{
+    if x <= k {
+        return 0;
+    }
+    if last_record(p) < x {
+        return 0;
+    }
+    x
+}
+
+// Puts record k into the set of individual i, where i is in the record's class.
+fn mark_member(p: &[u32], work: &mut [u32], k: u32, i: u32)
+    requires { ⌜ Name mostIndividuals i × (workSize ≤ length (now work)) ⌝ }
+    ensures { λ _. ⌜ now (work .exit) ≡ markedMember (now (p .entry)) k (now (work .entry)) i ⌝ }
+{
+    if is_member(work, i, ClassNo(name_of(p, k))) {
+        put(work, set_place(i), SET_WORDS, k);
+    }
+}
+
+// Puts record k into the sets of the individuals in its class.
+fn mark_all_members(p: &[u32], m: &[u32], work: &mut [u32], k: u32)
+    requires { ⌜ Name mostRecords k × Interpreted (now m) (now work) ⌝ }
+    ensures { λ _. ⌜ MembersMarked (now (p .entry)) (now (m .entry)) k (now (work .entry)) (now (work .exit)) ⌝ }
 {
     let n = individual_count(m);
     for i in 0..n {
-        put(work, SETS, SET_WORDS, i + 1);
+        mark_member(p, work, k, i + 1);
     }
-}
-
-// Puts individual i into the set at record k, where that at record j has it.
-fn keep(work: &mut [u32], j: u32, k: u32, i: u32)
-    requires { ⌜ (j ≤ mostRecords) × (k ≤ mostRecords) × (workSize ≤ length (now work)) ⌝ }
-    ensures { λ _. ⌜ now (work .exit) ≡ kept (now (work .entry)) j k i ⌝ }
-{
-    if is_in(work, j, i) {
-        let at = set_place(k);
-        put(work, at, SET_WORDS, i);
-    }
-}
-
-// Whether record f is an edge of role r into the set at record k.
-fn is_edge_into(m: &[u32], work: &[u32], f: u32, r: RoleNo, k: u32) -> bool
-    requires { ⌜ Stated (now m) f × (k ≤ mostRecords) × (workSize ≤ length (now work)) ⌝ }
-    ensures { λ t. ⌜ t ≡ edgeInto (r .0) (inSet (setOf (now (work .entry)) k)) (factAt (now (m .entry)) f) ⌝ }
-{
-    if fact_kind(m, f) != 2 {
-        return false;
-    }
-    if fact_name(m, f) != r.0 {
-        return false;
-    }
-    is_in(work, k, fact_other(m, f))
 }
 
 // Whether record f is a value of feature a from lo to hi.
@@ -111,113 +142,271 @@ fn is_value_within(m: &[u32], f: u32, a: FeatureNo, lo: u32, hi: u32) -> bool
     is_within(lo, hi, fact_other(m, f))
 }
 
-// Whether record f of the model shows that its individual has the conjunct at record k, a role's or a feature's.
-fn does_show(p: &[u32], m: &[u32], work: &[u32], k: u32, f: u32) -> bool
-    requires { ⌜ Stated (now m) f × Placed (now p) (now m) (now work) k × (workSize ≤ length (now work)) ⌝ }
-    ensures { λ r. ⌜ r ≡ shows (now (p .entry)) (now (m .entry)) k (factAt (now (m .entry)) f) ⌝ }
+// Puts record k, a feature's, into the set of the individual of record f of the model, where f is a value of it.
+fn mark_value(p: &[u32], m: &[u32], work: &mut [u32], k: u32, f: u32)
+    requires { ⌜ Stated (now m) f × Readable (now m) × (workSize ≤ length (now work)) ⌝ }
+    ensures { λ _. ⌜ now (work .exit) ≡ markedValue (now (p .entry)) (now (m .entry)) k (now (work .entry)) f ⌝ }
 {
-    let a = name_of(p, k);
-    if kind_of(p, k) == 3 {
-        is_edge_into(m, work, f, RoleNo(a), child_of(p, k))
-    } else {
-        is_value_within(m, f, FeatureNo(a), lo_of(p, k), hi_of(p, k))
+    let a = FeatureNo(name_of(p, k));
+    if is_value_within(m, f, a, lo_of(p, k), hi_of(p, k)) {
+        put(work, set_place(fact_owner(m, f)), SET_WORDS, k);
     }
 }
 
-// Puts the individual of record f into the set at record k, where f shows the conjunct and the next set has the individual.
-fn mark_shown(p: &[u32], m: &[u32], work: &mut [u32], k: u32, f: u32)
-    requires { ⌜ Stated (now m) f × Placed (now p) (now m) (now work) k × (workSize ≤ length (now work)) ⌝ }
-    ensures { λ _. ⌜ now (work .exit) ≡ markedShown (now (p .entry)) (now (m .entry)) k (now (work .entry)) f ⌝ }
-{
-    if !does_show(p, m, work, k, f) {
-        return;
-    }
-    keep(work, next_of(p, k), k, fact_owner(m, f));
-}
-
-// Puts the individuals of which a record of the model shows the conjunct at record k, a role's or a feature's, into its set.
-fn mark_all_shown(p: &[u32], m: &[u32], work: &mut [u32], k: u32)
-    requires { ⌜ Fillable (now m) (now work) × Placed (now p) (now m) (now work) k × Vacant (now work) k ⌝ }
-    ensures { λ _. ⌜ ShownMarked (now (p .entry)) (now (m .entry)) k (now (work .entry)) (now (work .exit)) ⌝ }
+// Puts record k, a feature's, into the sets of the individuals that have a value of it, by one walk over the records.
+fn mark_all_values(p: &[u32], m: &[u32], work: &mut [u32], k: u32)
+    requires { ⌜ Name mostRecords k × Interpreted (now m) (now work) ⌝ }
+    ensures { λ _. ⌜ ValuesMarked (now (p .entry)) (now (m .entry)) k (now (work .entry)) (now (work .exit)) ⌝ }
 {
     let mut f = first_fact(m);
     while f != 0 {
-        mark_shown(p, m, work, k, f);
+        mark_value(p, m, work, k, f);
         f = fact_next(m, f);
     }
 }
 
-// Puts individual i into the set at record k, where it is in the class and the next set has it.
-fn mark_member(p: &[u32], work: &mut [u32], k: u32, i: u32)
-    requires { ⌜ Name mostIndividuals i × Linked (now p) k × (workSize ≤ length (now work)) ⌝ }
-    ensures { λ _. ⌜ now (work .exit) ≡ markedMember (now (p .entry)) k (now (work .entry)) i ⌝ }
+// Puts record k into the sets that it is in whatever else holds: a class's and a feature's.
+fn mark(p: &[u32], m: &[u32], work: &mut [u32], k: u32)
+    requires { ⌜ Name mostRecords k × Interpreted (now m) (now work) ⌝ }
+    ensures { λ _. ⌜ EarlyMarked (now (p .entry)) (now (m .entry)) k (now (work .entry)) (now (work .exit)) ⌝ }
 {
-    if !is_member(work, i, ClassNo(name_of(p, k))) {
-        return;
-    }
-    keep(work, next_of(p, k), k, i);
-}
-
-// Puts the individuals in the class of the conjunct at record k into its set.
-fn mark_all_members(p: &[u32], m: &[u32], work: &mut [u32], k: u32)
-    requires { ⌜ Fillable (now m) (now work) × Placed (now p) (now m) (now work) k × Vacant (now work) k ⌝ }
-    ensures { λ _. ⌜ MembersMarked (now (p .entry)) (now (m .entry)) k (now (work .entry)) (now (work .exit)) ⌝ }
-{
-    let n = individual_count(m);
-    for i in 0..n {
-        mark_member(p, work, k, i + 1);
-    }
-}
-
-// The set at record k, from those of the records that its links lead to.
-fn settle(p: &[u32], m: &[u32], work: &mut [u32], k: u32)
-    requires { ⌜ Fillable (now m) (now work) × Placed (now p) (now m) (now work) k × Charted (now p) k ⌝ }
-    ensures { λ _. ⌜ Settled (now (p .entry)) (now (m .entry)) k (now (work .entry)) (now (work .exit)) ⌝ }
-{
-    let at = set_place(k);
-    clear(work, at, SET_WORDS);
     let kind = kind_of(p, k);
     match kind {
         1 => mark_all_members(p, m, work, k),
-        2 => {}
-        _ => mark_all_shown(p, m, work, k),
+        4 => mark_all_values(p, m, work, k),
+        _ => {}
     }
 }
 
-// Only a role has a child chain.
-fn child_at(p: &[u32], k: u32) -> u32
-    ensures { λ r. ⌜ r ≡ childAt (now (p .entry)) k ⌝ }
+// All records of classes and features.
+fn mark_all(p: &[u32], m: &[u32], work: &mut [u32])
+    requires { ⌜ Sized (now p) × Interpreted (now m) (now work) ⌝ }
+    ensures { λ _. ⌜ AllMarked (now (p .entry)) (now (m .entry)) (now (work .entry)) (now (work .exit)) ⌝ }
 {
-    if kind_of(p, k) == 3 {
-        child_of(p, k)
+    clear(work, SETS, ROWS);
+    let last = last_record(p);
+    for k in 0..last {
+        mark(p, m, work, k + 1);
+    }
+}
+
+fn greater(a: u32, b: u32) -> u32
+    ensures { λ r. ⌜ r ≡ max a b ⌝ }
+{
+    if a < b { b } else { a }
+}
+
+// How deep the conjunct at record k is: one deeper than the chain below it, where it is a role's. What is past the most is not reached.
+fn own_height(p: &[u32], work: &[u32], k: u32) -> u32
+    requires { ⌜ Sized (now p) × (workSize ≤ length (now work)) ⌝ }
+    ensures { λ r. ⌜ r ≡ ownHeight (now (p .entry)) (now (work .entry)) k ⌝ }
+{
+    if kind_of(p, k) != 3 {
+        return 1;
+    }
+    let below = work[HEIGHTS + place(link_of(p, k, child_of(p, k)))];
+    if below < MOST_DEPTH {
+        below + 1
     } else {
-        0
+        MOST_DEPTH
     }
 }
 
-// The sets at the records from k on, what a record's links lead to before the record.
-fn settle_all(p: &[u32], m: &[u32], work: &mut [u32], k: u32)
-    requires { ⌜ Fillable (now m) (now work) × Charted (now p) k ⌝ }
-    ensures { λ _. ⌜ Filled (now (p .entry)) (now (m .entry)) k (now (work .entry)) (now (work .exit)) ⌝ }
+// How deep the chain from record k on is, from those of the records that its links lead to.
+fn height(p: &[u32], work: &[u32], k: u32) -> u32
+    requires { ⌜ Sized (now p) × (workSize ≤ length (now work)) ⌝ }
+    ensures { λ r. ⌜ r ≡ heightAt (now (p .entry)) (now (work .entry)) k ⌝ }
 {
-    if k == 0 {
+    let own = own_height(p, work, k);
+    let rest = work[HEIGHTS + place(link_of(p, k, next_of(p, k)))];
+    greater(own, rest)
+}
+
+// How deep the chain from each record on is, from the last record to the first, and how deep the deepest.
+fn measure_all(p: &[u32], work: &mut [u32]) -> u32
+    requires { ⌜ Sized (now p) × (workSize ≤ length (now work)) ⌝ }
+    ensures { λ r. ⌜ AllMeasured (now (p .entry)) (now (work .entry)) (now (work .exit)) r ⌝ }
+{
+    work[HEIGHTS] = 0;
+    let mut top: u32 = 0;
+    let mut k = last_record(p);
+    while k != 0 {
+        let h = height(p, work, k);
+        work[HEIGHTS + place(k)] = h;
+        top = greater(top, h);
+        k -= 1;
+    }
+    top
+}
+
+// Whether the chain from record k on holds of individual i, by the set of i.
+fn does_hold(p: &[u32], work: &[u32], i: u32, k: u32) -> bool
+    requires { ⌜ Sized (now p) × Name mostIndividuals i × (k ≤ lastOf 6 (now p)) × (workSize ≤ length (now work)) ⌝ }
+    ensures { λ r. ⌜ Passes (now (p .entry)) (now (work .entry)) i k r ⌝ }
+{
+    let at = set_place(i);
+    let end = at + SET_WORDS;
+    let mut j = k;
+    while j != 0 {
+        if !has(&work[at..end], j) {
+            return false;
+        }
+        j = link_of(p, j, next_of(p, j));
+    }
+    true
+}
+
+// Whether record k is a role's, with a chain so deep below it.
+fn is_due(p: &[u32], work: &[u32], k: u32, n: u32) -> bool
+    requires { ⌜ Sized (now p) × (workSize ≤ length (now work)) ⌝ }
+    ensures { λ r. ⌜ r ≡ isDue (now (p .entry)) (now (work .entry)) k n ⌝ }
+{
+    if kind_of(p, k) != 3 {
+        return false;
+    }
+    work[HEIGHTS + place(link_of(p, k, child_of(p, k)))] == n
+}
+
+// Puts record k into the column of individual j, where the chain below the record holds of j.
+fn fill_cell(p: &[u32], work: &[u32], columns: &mut [u32], k: u32, j: u32)
+    requires { ⌜ Sized (now p) × Name mostIndividuals j × (workSize ≤ length (now work)) × (columnsEnd ≤ length (now columns)) ⌝ }
+    ensures { λ _. ⌜ CellFilled (now (p .entry)) (now (work .entry)) k j (now (columns .entry)) (now (columns .exit)) ⌝ }
+{
+    let child = link_of(p, k, child_of(p, k));
+    if does_hold(p, work, j, child) {
+        put(columns, column_place(j), SET_WORDS, k);
+    }
+}
+
+// Puts record k into the columns of the individuals of which the chain below it holds.
+fn fill_column(p: &[u32], m: &[u32], work: &[u32], columns: &mut [u32], k: u32)
+    requires { ⌜ Fillable (now p) (now m) (now work) (now columns) k ⌝ }
+    ensures { λ _. ⌜ ColumnFilled (now (p .entry)) (now (m .entry)) (now (work .entry)) k
+        (now (columns .entry)) (now (columns .exit)) ⌝ }
+{
+    let n = individual_count(m);
+    for j in 0..n {
+        fill_cell(p, work, columns, k, j + 1);
+    }
+}
+
+// Puts record k into the set of its role.
+fn fill_mask(p: &[u32], columns: &mut [u32], k: u32)
+    requires { ⌜ Name mostRecords k × (columnsEnd ≤ length (now columns)) ⌝ }
+    ensures { λ _. ⌜ MaskFilled (now (p .entry)) k (now (columns .entry)) (now (columns .exit)) ⌝ }
+{
+    let r = name_of(p, k);
+    if is_name(MOST_ROLES, r) {
+        put(columns, mask_place(RoleNo(r)), SET_WORDS, k);
+    }
+}
+
+// Puts record k into its columns and its role's set, where its turn has come.
+fn fill(p: &[u32], m: &[u32], work: &[u32], columns: &mut [u32], k: u32, n: u32) -> bool
+    requires { ⌜ Fillable (now p) (now m) (now work) (now columns) k ⌝ }
+    ensures { λ r. ⌜ RecordFilled (now (p .entry)) (now (m .entry)) (now (work .entry)) k n
+        (now (columns .entry)) (now (columns .exit)) r ⌝ }
+{
+    if !is_due(p, work, k, n) {
+        return false;
+    }
+    fill_column(p, m, work, columns, k);
+    fill_mask(p, columns, k);
+    true
+}
+
+// The columns and the roles' sets of the records whose turn has come, and whether there are any.
+fn fill_all(p: &[u32], m: &[u32], work: &[u32], columns: &mut [u32], n: u32) -> bool
+    requires { ⌜ Sized (now p) × Interpreted (now m) (now work) × (columnsEnd ≤ length (now columns)) ⌝ }
+    ensures { λ r. ⌜ AllFilled (now (p .entry)) (now (m .entry)) (now (work .entry)) n (now (columns .exit)) r ⌝ }
+{
+    clear(columns, 0, COLUMNS);
+    let mut any = false;
+    let last = last_record(p);
+    for k in 0..last {
+        let due = fill(p, m, work, columns, k + 1, n);
+        any = any | due;
+    }
+    any
+}
+
+// Puts those records of the set at a place of the columns that are in a second such set into the set at a place of the work slice.
+// No branch, so that it is done in a few wide steps.
+fn join(work: &mut [u32], at: usize, columns: &[u32], from: usize, mask: usize)
+    requires { ⌜ Joinable at from mask (now work) (now columns) ⌝ }
+    ensures { λ _. ⌜ Joined recordWords at from mask (now (columns .entry)) (now (work .entry)) (now (work .exit)) ⌝ }
+{
+    for i in 0..SET_WORDS {
+        work[at + i] = work[at + i] | columns[from + i] & columns[mask + i];
+    }
+}
+
+// Where record f is an edge, its owner has the records of its role that hold below its target. A role past the most has none.
+fn mark_edge(m: &[u32], work: &mut [u32], columns: &[u32], f: u32)
+    requires { ⌜ Stated (now m) f × Readable (now m) × (workSize ≤ length (now work)) × (columnsEnd ≤ length (now columns)) ⌝ }
+    ensures { λ _. ⌜ EdgeMarked (now (columns .entry)) (factAt (now (m .entry)) f) (now (work .entry)) (now (work .exit)) ⌝ }
+{
+    if fact_kind(m, f) != 2 {
         return;
     }
-    settle_all(p, m, work, child_at(p, k));
-    settle_all(p, m, work, next_of(p, k));
-    settle(p, m, work, k);
+    let r = fact_name(m, f);
+    if !is_name(MOST_ROLES, r) {
+        return;
+    }
+    let at = set_place(fact_owner(m, f));
+    let target = fact_other(m, f);
+    join(
+        work,
+        at,
+        columns,
+        column_place(target),
+        mask_place(RoleNo(r)),
+    );
+}
+
+// The records of roles whose turn has come, by one walk over the facts.
+fn mark_edges(m: &[u32], work: &mut [u32], columns: &[u32])
+    requires { ⌜ Readable (now m) × (workSize ≤ length (now work)) × (columnsEnd ≤ length (now columns)) ⌝ }
+    ensures { λ _. ⌜ EdgesMarked (now (m .entry)) (now (columns .entry)) (now (work .entry)) (now (work .exit)) ⌝ }
+{
+    let mut f = first_fact(m);
+    while f != 0 {
+        mark_edge(m, work, columns, f);
+        f = fact_next(m, f);
+    }
+}
+
+// The records whose chain below is n deep.
+fn settle(p: &[u32], m: &[u32], work: &mut [u32], columns: &mut [u32], n: u32)
+    requires { ⌜ Sized (now p) × Settled (now p) (now m) n (now work) × (columnsEnd ≤ length (now columns)) ⌝ }
+    ensures { λ _. ⌜ Settled (now (p .entry)) (now (m .entry)) (n + 1) (now (work .exit)) ⌝ }
+    ensures { λ _. ⌜ Only (Span setsAt setsEnd) (now (work .entry)) (now (work .exit)) ⌝ }
+{
+    if fill_all(p, m, work, columns, n) {
+        mark_edges(m, work, columns);
+    }
+}
+
+// All records, those of the deepest chains last.
+fn settle_all(p: &[u32], m: &[u32], work: &mut [u32], columns: &mut [u32], top: u32)
+    requires { ⌜ Sized (now p) × Settled (now p) (now m) 0 (now work) × (columnsEnd ≤ length (now columns)) ⌝ }
+    ensures { λ _. ⌜ Settled (now (p .entry)) (now (m .entry)) top (now (work .exit)) ⌝ }
+    ensures { λ _. ⌜ Only (Span setsAt setsEnd) (now (work .entry)) (now (work .exit)) ⌝ }
+{
+    for n in 0..top {
+        settle(p, m, work, columns, n);
+    }
 }
 
 // Whether individual 1 is in one of the policy's terms.
-fn is_in_some(p: &[u32], m: &[u32], work: &mut [u32]) -> bool
-    requires { ⌜ Fillable (now m) (now work) × Taken (now p) ⌝ }
-    ensures { λ r. ⌜ Extended (now (p .entry)) (now (m .entry)) (now (work .entry)) (now (work .exit)) r ⌝ }
+fn is_in_some(p: &[u32], m: &[u32], work: &[u32], top: u32) -> bool
+    requires { ⌜ Taken (now p) × Settled (now p) (now m) top (now work) × Topped (now p) top ⌝ }
+    ensures { λ r. ⌜ r ≡ isIn (factsOf (now (m .entry))) (policyOf (now (p .entry))) 1 ⌝ }
 {
     let mut k = first_term(p);
     while k != 0 {
         let conjuncts = child_of(p, k);
-        settle_all(p, m, work, conjuncts);
-        if is_in(work, conjuncts, FIRST) {
+        if does_hold(p, work, FIRST, conjuncts) {
             return true;
         }
         k = next_of(p, k);
@@ -225,11 +414,22 @@ fn is_in_some(p: &[u32], m: &[u32], work: &mut [u32]) -> bool
     false
 }
 
+// Whether individual 1 is in the policy, with columns to work in.
+fn is_inside_by(p: &[u32], m: &[u32], work: &mut [u32], columns: &mut [u32]) -> bool
+    requires { ⌜ Interpreted (now m) (now work) × Taken (now p) × (columnsEnd ≤ length (now columns)) ⌝ }
+    ensures { λ r. ⌜ Extended (now (p .entry)) (now (m .entry)) (now (work .entry)) (now (work .exit)) r ⌝ }
+{
+    mark_all(p, m, work);
+    let top = measure_all(p, work);
+    settle_all(p, m, work, columns, top);
+    is_in_some(p, m, work, top)
+}
+
 // Whether individual 1 is in the policy.
 pub fn is_inside(p: &[u32], m: &[u32], work: &mut [u32]) -> bool
     requires { ⌜ Interpreted (now m) (now work) × Taken (now p) ⌝ }
     ensures { λ r. ⌜ Extended (now (p .entry)) (now (m .entry)) (now (work .entry)) (now (work .exit)) r ⌝ }
 {
-    include_all(m, work);
-    is_in_some(p, m, work)
+    let mut columns = [0; COLUMNS];
+    is_inside_by(p, m, work, &mut columns)
 }

@@ -57,7 +57,7 @@ both zero (suc (suc y)) p q = absurd (omega arith)
 both (suc zero) (suc (suc y)) p q = absurd (omega arith)
 both (suc (suc x)) y p q = absurd (omega arith)
 
-bit-and : (a b k : ℕ) → testBit (bitAnd a b) k ≡ testBit a k && testBit b k
+pub bit-and : (a b k : ℕ) → testBit (bitAnd a b) k ≡ testBit a k && testBit b k
 bit-and a b k =
     ap (λ (x : ℕ). eqb x 1) (ap (λ (x : ℕ). x % 2) (and-shr a b k) ∙ and-mod (a / 2 ^ k) (b / 2 ^ k) 1)
     ∙ both (a / 2 ^ k % 2) (b / 2 ^ k % 2) (mod-lt (a / 2 ^ k) (zero-lt-suc 1)) (mod-lt (b / 2 ^ k) (zero-lt-suc 1))

@@ -58,21 +58,27 @@ valuePlace i n = valuesAt + (i - 1) * blockSize + n
 abbrev pub valuesEnd : ℕ
 valuesEnd = valuesAt + mostIndividuals * blockSize
 
--- a set of individuals for each record of a policy, the header among them, where the values stood
-abbrev pub individualWords : ℕ
-individualWords = mostIndividuals / 32
+-- a set of a policy's records for each individual, where the values stood, and a number for each record, the header among them
+abbrev pub recordWords : ℕ
+recordWords = mostRecords / 32
 
 abbrev pub setsAt : ℕ
 setsAt = valuesAt
 
 abbrev pub setPlace : ℕ → ℕ
-setPlace k = setsAt + individualWords * k
+setPlace i = setsAt + (i - 1) * recordWords
 
-abbrev pub setOf : List ℕ → ℕ → List ℕ
-setOf w k = rowAt individualWords w (setPlace k)
+abbrev pub recordsOf : List ℕ → ℕ → List ℕ
+recordsOf w i = rowAt recordWords w (setPlace i)
+
+abbrev pub heightsAt : ℕ
+heightsAt = setsAt + mostIndividuals * recordWords
+
+abbrev pub heightPlace : ℕ → ℕ
+heightPlace k = heightsAt + k
 
 abbrev pub setsEnd : ℕ
-setsEnd = setPlace (suc mostRecords)
+setsEnd = heightPlace (suc mostRecords)
 
 -- the words with x in the set of n words at a place
 abbrev pub putIn : ℕ → List ℕ → ℕ → ℕ → List ℕ

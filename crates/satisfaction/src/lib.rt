@@ -8,10 +8,11 @@
 //     what an individual has two values of             128    1 bit                  4,608                  5,760
 //     the record that first gave a value       512 times 16        1                  4,612                  5,764
 //     the end of these                                                              12,804                 13,956
-//     the individuals at a policy's record             513       16                  4,612                  5,764
-//     the end of these, of 16,384                                                   12,820                 13,972
+//     the policy's records that hold of an individual  512       16                  4,612                  5,764
+//     how deep the chain from a policy's record is     513        1                 12,804                 13,956
+//     the end of these, of 16,384                                                   13,317                 14,469
 //
-// The records of first values are needed no more when the individuals at a policy's records are put in their place. What a vocabulary
+// The records of first values are needed no more when the sets of a policy's records are put in their place. What a vocabulary
 // states is told by a walk over the facts for the classes, one for the ranges and eight for what is functional, whatever the number of
 // its records; then by one bit for each of these and, for a pair of classes, by a look at each individual.
 use frames::clear;
@@ -20,6 +21,7 @@ use meaning::FeatureNo;
 use meaning::RoleNo;
 use meaning::limits::MOST_FEATURES;
 use meaning::limits::MOST_INDIVIDUALS;
+use meaning::limits::MOST_RECORDS;
 use meaning::limits::MOST_ROLES;
 use model::fact_kind;
 use model::fact_name;
@@ -80,10 +82,12 @@ const BLOCK: usize = BLOCK_SIZE as usize;
 
 const VALUES: usize = CLASHES + CLASH_WORDS;
 
-// The sets of individuals, which crate extension makes where the values stood, and how many words each takes.
+// The sets of a policy's records, which crate extension makes where the values stood: how many words each takes, and what follows them.
 pub const SETS: usize = VALUES;
 
-pub const SET_WORDS: usize = INDIVIDUALS / 32;
+pub const SET_WORDS: usize = MOST_RECORDS / 32;
+
+pub const HEIGHTS: usize = SETS + INDIVIDUALS * SET_WORDS;
 
 // Puts x into the set of n words at a place.
 pub fn put(work: &mut [u32], at: usize, n: usize, x: u32)

@@ -1,10 +1,10 @@
+use borrow.Author.Needs.{needs}
 use Prim.Native.Nat.{_-_}
 use native.Mathlib.Omega.{arith}
-use borrow.Author.Needs.{needs}
-use Rattle.extension.proofs.Marking.{Telling, marking-ends, telling-on, telling-starts}
-use Rattle.extension.proofs.Sets.{ready-kept}
-use Rattle.extension.proofs.mark_all_members.Statement.{statement}
+use Rattle.extension.proofs.Marks.{Telling, marking-ends, telling-on, telling-starts}
+use Rattle.satisfaction.proofs.Classes.{interpreted-kept}
 use Rattle.satisfaction.proofs.Statements.{Counting, counting-ends, counting-on, counting-starts}
+use Rattle.extension.proofs.mark_all_members.Statement.{statement}
 use Rattle.extension.proofs.mark_all_members.Tie as tie
 
 abbrev Inv-loop : tie.InvT-loop
@@ -13,18 +13,13 @@ Inv-loop p m work₀ k n i₀ work i = Counting (Telling p m k work₀ work) n i
 abbrev μ-loop : tie.MeasureT-loop
 μ-loop p m work₀ k n i₀ work i = n - i
 
-mark-member-requires : tie.Need-mark-member-requires Inv-loop μ-loop
-mark-member-requires c κs =
-    let pre = c .before .before .before .before .before .before .before .pre in
-    ((omega arith, omega arith), pre .1 .linked, omega arith)
-
 loop-again : tie.Need-loop-again Inv-loop μ-loop
 loop-again c =
     let pre = c .before .before .before .before .before .before .before .before .before .before .pre in
     let args = c .before .before .before .before .before .before .before .before .before .before .args in
     let loop = c .before .before .before .before .before .loop in
     counting-on (loop .inv) (c .before .before .before .before .loop-test .taken)
-    (telling-on (args .p .now) (args .m .now) (args .k) (pre .1 .linked) (ready-kept (args .k) (loop .inv .holds .only) (pre .1 .linked .conjunct) (pre .0)) (omega arith) (c .before .before .mark-member .ensures))
+    (telling-on (args .p .now) (args .m .now) (args .k) (pre .0) (interpreted-kept (omega arith) (loop .inv .holds .only) (pre .1)) (omega arith, omega arith) (c .before .before .mark-member .ensures))
 
 pub mark-all-members-spec : {M : Type 1} → statement M
 mark-all-members-spec =
@@ -35,7 +30,7 @@ mark-all-members-spec =
     (λ c κs. search needs)
     (λ c. search (counting-starts, telling-starts))
     (λ c. search needs)
-    mark-member-requires
+    (λ c κs. let i = c .before .before .before .before .before .before .before .pre .1 .readable .individuals in let s = c .before .before .loop .inv .holds .only .size in let l = c .before .before .before .before .before .before .before .pre .1 .long in ((omega arith, omega arith), omega arith))
     (λ c. search needs)
     (λ c. search needs)
     loop-again

@@ -1,6 +1,6 @@
 use borrow.Author.Needs.{needs}
-use Rattle.extension.proofs.Marking.{member-one, not-member}
-use Rattle.extension.proofs.Sets.{kept-size}
+use Rattle.extension.proofs.Marks.{member-one, not-member}
+use Rattle.satisfaction.proofs.Rows.{put-size}
 use Rattle.extension.proofs.mark_member.Statement.{statement}
 use Rattle.extension.proofs.mark_member.Tie as tie
 
@@ -10,9 +10,9 @@ mark-member-spec =
     (tie.spec
     (λ c κs. search needs)
     (λ c κs. search needs)
+    (λ c κs. search needs)
+    (λ c κs. search needs)
+    (λ c. search put-size)
+    (λ c. search member-one)
     (λ c. search needs)
-    (λ c. search not-member)
-    (λ c κs. search needs)
-    (λ c κs. search needs)
-    (λ c. search kept-size)
-    (λ c. search member-one))
+    (λ c. search not-member))

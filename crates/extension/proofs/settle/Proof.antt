@@ -1,6 +1,7 @@
-use mathlib.Core.Path.{_∙_}
 use borrow.Author.Needs.{needs}
-use Rattle.extension.proofs.Settling.{settle-placed, settle-ready, settle-vacant, settled-class, settled-none, settled-other}
+use native.Mathlib.Omega.{arith}
+use Rattle.extension.proofs.Rounds.{settled-none, settled-on}
+use Rattle.frames.proofs.Frames.{only-none, only-span}
 use Rattle.extension.proofs.settle.Statement.{statement}
 use Rattle.extension.proofs.settle.Tie as tie
 
@@ -8,14 +9,11 @@ pub settle-spec : {M : Type 1} → statement M
 settle-spec =
     tie.close
     (tie.spec
-    (λ c κs. search needs)
-    (λ c κs. search needs)
-    (λ c κs. search needs)
-    (λ c κs. (search settle-ready, search settle-placed, search settle-vacant))
-    (λ c κs. (search settle-ready, search settle-placed, search settle-vacant))
-    (λ c. c .before .before .mark-all-members .ensures .only .size ∙ c .before .before .before .before .before .before .before .before .clear .ensures .only .size)
-    (λ c. search settled-class)
-    (λ c. c .before .before .before .before .clear .ensures .only .size)
-    (λ c. search settled-none)
-    (λ c. c .before .before .mark-all-shown .ensures .only .size ∙ c .before .before .before .before .before .before .before .before .clear .ensures .only .size)
-    (λ c. search settled-other))
+    (λ c κs. (c .before .before .before .before .before .before .pre .0, c .before .before .before .before .before .before .pre .1 .interpreted, c .before .before .before .before .before .before .pre .2))
+    (λ c κs. (c .before .before .before .before .before .before .before .before .before .before .before .before .pre .1 .interpreted .readable, c .before .before .before .before .before .before .before .before .before .before .before .before .pre .1 .interpreted .long, c .before .before .before .before .before .fill-all .ensures .room))
+    (λ c. c .before .before .mark-edges .ensures .only .size)
+    (λ c. search needs)
+    (λ c. (settled-on (c .before .before .before .before .before .before .before .before .before .before .before .before .before .before .before .pre .0) (c .before .before .before .before .before .before .before .before .before .before .before .before .before .before .before .pre .1) (c .before .before .before .before .before .before .before .before .fill-all .ensures) (c .before .before .mark-edges .ensures), only-span (c .before .before .mark-edges .ensures .only) (omega arith) (omega arith)))
+    (λ c. search needs)
+    (λ c. search needs)
+    (λ c. (settled-none (c .before .before .before .before .before .before .before .before .before .before .pre .0) (c .before .before .before .before .before .before .before .before .before .before .pre .1) (c .before .before .before .fill-all .ensures) (c .if1 .left), only-none)))
