@@ -1,5 +1,5 @@
 -- Laws of the columns and the roles' sets: one record after another, where its turn has come.
-use Prim.Native.Nat.{_*_, _+_, _-_, _<_, _≤_, suc, ℕ}
+use Prim.Native.Nat.{_+_, _≤_, suc, ℕ}
 use mathlib.Core.Bool.{Bool, _&&_, _||_, and-false, and-true, cond, false, not, or-comm, or-false, true}
 use mathlib.Core.List.{List, [], _∷_}
 use mathlib.Core.Path.{_∙_, _≡_, ap, refl, subst, sym}
@@ -8,22 +8,21 @@ use lib.ListN.{length}
 use native.Mathlib.Omega.{arith}
 use borrow.Author.Tests.{eq-eqb, eqb-false, eqb-true, ne-eqb, not-false, not-true}
 use Rattle.extension.proofs.Bits.{Row, row-inside, row-put, shuffle}
-use Rattle.extension.proofs.Conjuncts.{Cut, cut}
+use Rattle.extension.proofs.Conjuncts.{cut}
 use Rattle.extension.proofs.Links.{link-same, onward-goes}
 use Rattle.extension.proofs.Marks.{one-counted}
-use Rattle.extension.specs.Columns.{AllFilled, CellFilled, ColumnFilled, Fillable, FilledTo, MaskFilled, RecordFilled, below, columnOf}
+use Rattle.extension.specs.Columns.{CellFilled, ColumnFilled, FilledTo, MaskFilled, RecordFilled, below, columnOf}
 use Rattle.extension.specs.Columns.{columnPlace, columnsEnd, maskOf, maskPlace, masksAt}
 use Rattle.extension.specs.Depths.{Known, Passes, isDue, rank}
-use Rattle.extension.specs.Sets.{Charted, Linked, Sized, onward}
-use Rattle.frames.proofs.Frames.{only-none, only-span, only-then, row-before, row-behind}
+use Rattle.extension.specs.Sets.{Charted, Linked, onward}
+use Rattle.frames.proofs.Frames.{only-none, row-before, row-behind}
 use Rattle.frames.specs.Frames.{Cleared, Only, Span}
 use Rattle.meaning.proofs.Links.{onward-le, tests}
 use Rattle.meaning.proofs.Refusals.{cond-all}
 use Rattle.meaning.specs.Accepted.{depth}
 use Rattle.meaning.specs.Limits.{mostIndividuals, mostRecords, mostRoles}
 use Rattle.meaning.specs.Lists.{any, counting}
-use Rattle.meaning.specs.Model.{factsOf, individualCount}
-use Rattle.meaning.specs.ModelCheck.{holds}
+use Rattle.meaning.specs.Model.{individualCount}
 use Rattle.meaning.specs.Policy.{childOf, kindOf, nameOf}
 use Rattle.meaning.specs.Records.{Name, isName, lastOf}
 use Rattle.model.specs.Chain.{Readable}

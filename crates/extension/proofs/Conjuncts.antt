@@ -1,11 +1,10 @@
 -- Laws of a policy's records: what a chain tells from one on, how deep it is, and what its links lead to.
 use Prim.Native.Nat.{_≤_, max, suc, ℕ}
-use mathlib.Core.Bool.{Bool, _&&_, and-assoc, and-comm, and-false, cond, false}
+use mathlib.Core.Bool.{Bool, _&&_, and-assoc, and-comm, and-false, cond}
 use mathlib.Core.List.{List, [], _∷_}
-use mathlib.Core.Path.{_∙_, _≡_, refl, sym}
+use mathlib.Core.Path.{_≡_, refl, sym}
 use native.Mathlib.Omega.{arith}
 use lib.Dec.{eqb}
-use Rattle.extension.specs.Depths.{rank}
 use Rattle.extension.specs.Sets.{Charted, edgeInto, own, reached, valueWithin, valued}
 use Rattle.meaning.proofs.Terms.{chain-at}
 use Rattle.meaning.specs.Accepted.{ChainOf, Here, Reads, depth, reads-class, reads-end, reads-impossible, reads-interval, reads-some}

@@ -8,7 +8,7 @@ use lib.Dec.{eqb}
 use lib.ListN.{getD, length, set}
 use lib.Seq.{getD-set-other, getD-set-same}
 use native.Mathlib.Omega.{arith}
-use borrow.Author.Tests.{eq-eqb, eqb-false, eqb-true, ne-eqb, not-false, not-true}
+use borrow.Author.Tests.{eqb-false, eqb-true, not-false, not-true}
 use Rattle.extension.proofs.Bits.{Row, row-apart}
 use Rattle.extension.proofs.Marks.{at-set}
 use Rattle.extension.specs.Columns.{EdgeMarked, EdgesMarked, Joinable, Joined, columnOf, columnPlace, columnsEnd, hands, maskOf, maskPlace}

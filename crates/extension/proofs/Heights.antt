@@ -2,7 +2,7 @@
 use Prim.Native.Nat.{_+_, _-_, _<_, _≤_, max, suc, ℕ}
 use mathlib.Core.Bool.{Bool, cond, false, true}
 use mathlib.Core.List.{List, []}
-use mathlib.Core.Logic.{inl, inr, _⊎_}
+use mathlib.Core.Logic.{inl, inr}
 use mathlib.Core.Path.{_∙_, _≡_, ap, refl, sym}
 use lib.Dec.{eqb, ltb}
 use lib.ListN.{getD, length, length-set, set}
@@ -16,7 +16,7 @@ use Rattle.extension.specs.Sets.{Charted, Linked, Sized, onward}
 use Rattle.frames.proofs.Frames.{only-none, only-set, only-then}
 use Rattle.frames.specs.Frames.{Only, Span}
 use Rattle.meaning.specs.Accepted.{depth}
-use Rattle.meaning.specs.Limits.{mostDepth, mostRecords, workSize}
+use Rattle.meaning.specs.Limits.{mostDepth, workSize}
 use Rattle.meaning.specs.Policy.{childOf, kindOf, nextOf}
 use Rattle.meaning.specs.Records.{Onward, lastOf}
 use Rattle.policy.specs.Terms.{conjunctsAt}

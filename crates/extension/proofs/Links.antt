@@ -1,10 +1,10 @@
 -- Laws of a record's links: onward or 0.
 use Prim.Native.Nat.{_<_, _≤_, ℕ}
-use mathlib.Core.Bool.{Bool, _&&_, and-false, cond, false, true}
+use mathlib.Core.Bool.{and-false}
 use mathlib.Core.List.{List}
-use mathlib.Core.Logic.{_⊎_, inl, inr, ⊎-elim}
-use mathlib.Core.Path.{_∙_, _≡_, refl, subst, sym}
-use lib.Dec.{leb, ltb}
+use mathlib.Core.Logic.{inl, inr, ⊎-elim}
+use mathlib.Core.Path.{_∙_, _≡_, subst, sym}
+use lib.Dec.{ltb}
 use native.Mathlib.Omega.{arith}
 use borrow.Author.Tests.{le-leb, le-ltb, lt-leb, lt-ltb}
 use Rattle.extension.specs.Sets.{Linked, Sized, onward}

@@ -1,9 +1,9 @@
 -- Laws of the records that are put into the individuals' sets first: with some facts or individuals left, whose sets have the record or are
 -- still to come.
-use Prim.Native.Nat.{_*_, _+_, _<_, _≤_, ℕ}
-use mathlib.Core.Bool.{Bool, _&&_, _||_, and-false, and-true, cond, false, or-false, true}
+use Prim.Native.Nat.{_*_, _+_, _≤_, ℕ}
+use mathlib.Core.Bool.{Bool, _&&_, _||_, and-false, cond, false, or-false, true}
 use mathlib.Core.List.{List, [], _∷_}
-use mathlib.Core.Path.{_∙_, _≡_, ap, refl, subst, sym}
+use mathlib.Core.Path.{_∙_, _≡_, refl, subst, sym}
 use lib.Dec.{T, eqb, eqb-refl, eqb→eq}
 use lib.ListN.{length}
 use native.Mathlib.Omega.{arith}
@@ -22,7 +22,6 @@ use Rattle.meaning.specs.Model.{Fact, factAt, factOwner, factsOf, individualCou
 use Rattle.meaning.specs.Policy.{hiOf, kindOf, loOf, nameOf}
 use Rattle.meaning.specs.Records.{Name, lastOf}
 use Rattle.model.specs.Chain.{Readable, Stated}
-use Rattle.satisfaction.proofs.Classes.{interpreted-kept}
 use Rattle.satisfaction.proofs.Facts.{owner-at}
 use Rattle.satisfaction.proofs.Rows.{none-in}
 use Rattle.satisfaction.specs.Classes.{Interpreted, ownerOf}
@@ -98,9 +97,6 @@ module _ {A : Type 0} {who : A → ℕ} {test : A → Bool} {m : List ℕ} {k : 
 -- ---- over the facts, and over the individuals
 
 module _ (p m : List ℕ) (k : ℕ) where
-  abbrev values : Fact → Bool
-  values = valueWithin (nameOf p k) (loOf p k) (hiOf p k)
-
   abbrev pub Valuing : List ℕ → List ℕ → List Fact → Type 0
   Valuing w₀ w l = Marking ownerOf (valueWithin (nameOf p k) (loOf p k) (hiOf p k)) m k (valued p m k) w₀ w l
 

@@ -2,14 +2,14 @@
 use Prim.Native.Nat.{_<_, _≤_, max, suc, ℕ}
 use mathlib.Core.Bool.{Bool, _&&_, cond, false, not, true}
 use mathlib.Core.List.{List}
-use mathlib.Core.Path.{_∙_, _≡_, ap, refl, sym}
+use mathlib.Core.Path.{_∙_, _≡_, refl, sym}
 use lib.Dec.{eqb}
 use native.Mathlib.Omega.{arith}
 use borrow.Author.Tests.{not-false, not-true}
 use Rattle.extension.proofs.Conjuncts.{Cut, cut, no-more}
 use Rattle.extension.proofs.Links.{link-same, onward-goes}
 use Rattle.extension.specs.Depths.{Known, Passes, rank}
-use Rattle.extension.specs.Sets.{Charted, Linked, own}
+use Rattle.extension.specs.Sets.{Charted, Linked}
 use Rattle.meaning.proofs.Links.{falls, onward-le}
 use Rattle.meaning.specs.Accepted.{depth}
 use Rattle.meaning.specs.Model.{factsOf, individualCount}

@@ -3,25 +3,23 @@ use Prim.Native.Nat.{_+_, _<_, _≤_, suc, ℕ}
 use mathlib.Core.Bool.{Bool, _&&_, _||_, and-comm, and-false, cond, false, or-false, true}
 use mathlib.Core.List.{List, [], _∷_}
 use mathlib.Core.Logic.{inl, inr, ⊎-elim}
-use mathlib.Core.Path.{_∙_, _≡_, ap, refl, subst, sym}
+use mathlib.Core.Path.{_∙_, _≡_, ap, refl, sym}
 use lib.Dec.{eqb, eqb·suc-suc}
-use lib.ListN.{length}
 use native.Mathlib.Numerals.{add-one}
 use native.Mathlib.Omega.{arith}
 use borrow.Author.Tests.{eq-eqb, eqb-false, eqb-true, ne-eqb}
 use Rattle.extension.proofs.Columns.{due-child}
-use Rattle.extension.proofs.Conjuncts.{Cut, cut, inside}
+use Rattle.extension.proofs.Conjuncts.{cut, inside}
 use Rattle.extension.proofs.Heights.{measured-at}
 use Rattle.extension.proofs.Links.{link-same}
 use Rattle.extension.specs.Columns.{AllFilled, EdgesMarked, below, columnOf, hands, maskOf}
-use Rattle.extension.specs.Depths.{AllMeasured, Known, Measured, Settled, heightOf, isDue, rank}
+use Rattle.extension.specs.Depths.{AllMeasured, Measured, Settled, heightOf, isDue, rank}
 use Rattle.extension.specs.Sets.{AllMarked, Charted, Sized, early, edgeInto, onward, own, reached}
 use Rattle.frames.proofs.Frames.{only-behind, row-before}
-use Rattle.frames.specs.Frames.{Only, Span}
 use Rattle.meaning.proofs.Links.{tests}
 use Rattle.meaning.proofs.Rules.{order}
 use Rattle.meaning.specs.Accepted.{depth}
-use Rattle.meaning.specs.Limits.{mostIndividuals, mostRecords, mostRoles}
+use Rattle.meaning.specs.Limits.{mostRoles}
 use Rattle.meaning.specs.Lists.{any}
 use Rattle.meaning.specs.Model.{Fact, factAt, factName, factOther, factOwner, factsOf, individualCount}
 use Rattle.meaning.specs.Policy.{childOf, kindOf, nameOf}

@@ -10,11 +10,11 @@ use Rattle.extension.specs.Depths.{Known, Passes, isDue, rank}
 use Rattle.extension.specs.Sets.{Charted, Sized, onward}
 use Rattle.frames.specs.Frames.{Only, Span}
 use Rattle.frames.specs.Rows.{rowAt}
-use Rattle.meaning.specs.Limits.{mostIndividuals, mostRecords, mostRoles, workSize}
+use Rattle.meaning.specs.Limits.{mostIndividuals, mostRecords, mostRoles}
 use Rattle.meaning.specs.Lists.{any}
 use Rattle.meaning.specs.Model.{Fact, edge, factsOf, individualCount, member, value}
 use Rattle.meaning.specs.ModelCheck.{holds}
-use Rattle.meaning.specs.Policy.{childOf, kindOf, nameOf}
+use Rattle.meaning.specs.Policy.{childOf, nameOf}
 use Rattle.meaning.specs.Records.{Name, isName, lastOf}
 use Rattle.policy.specs.Terms.{conjunctsAt}
 use Rattle.satisfaction.specs.Classes.{Interpreted}
@@ -83,7 +83,8 @@ pub record RecordFilled (p m w : List ℕ) (k n : ℕ) (c c′ : List ℕ) (r : 
 -- the tables of the records up to l whose turn is the n-th
 pub record FilledTo (p m w : List ℕ) (n l : ℕ) (c : List ℕ) (r : Bool) : Type 0 where
   pub room : columnsEnd ≤ length c
-  pub column : Known p m n w → (k : ℕ) → Name l k → Charted p k → isDue p w k n ≡ true → rank p k ≡ n + 1 → (j : ℕ) → Name (individualCount m) j →
+  pub column : Known p m n w → (k : ℕ) → Name l k → Charted p k → isDue p w k n ≡ true → rank p k ≡ n + 1 → (j : ℕ) →
+      Name (individualCount m) j →
       inSet (columnOf c j) k ≡ below p m k j
   pub mask : (k : ℕ) → Name l k → (a : ℕ) → Name mostRoles a → inSet (maskOf c a) k ≡ isDue p w k n && eqb a (nameOf p k)
   pub columns : (k : ℕ) → l < k → (j : ℕ) → Name mostIndividuals j → inSet (columnOf c j) k ≡ false
@@ -118,4 +119,5 @@ pub record EdgeMarked (c : List ℕ) (x : Fact) (w w′ : List ℕ) : Type 0 whe
 
 pub record EdgesMarked (m c w w′ : List ℕ) : Type 0 where
   pub only : Only (Span setsAt heightsAt) w w′
-  pub bits : (i k : ℕ) → Name mostIndividuals i → Name mostRecords k → inSet (recordsOf w′ i) k ≡ inSet (recordsOf w i) k || any (hands c i k) (factsOf m)
+  pub bits : (i k : ℕ) → Name mostIndividuals i → Name mostRecords k →
+      inSet (recordsOf w′ i) k ≡ inSet (recordsOf w i) k || any (hands c i k) (factsOf m)

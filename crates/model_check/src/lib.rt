@@ -1,5 +1,6 @@
 // Model check: whether the interpretation that a model's words stand for satisfies the vocabulary and has its first individual in
-// the first policy and outside the second. Time grows with the model's records times the records of the vocabulary and of the policies.
+// the first policy and outside the second. Time grows with the model's records times the policies' depth and the number of their
+// features' records, and with the individuals times the records of the vocabulary and of the policies.
 use extension::is_inside;
 use frames::clear;
 use frames::work_refusal;

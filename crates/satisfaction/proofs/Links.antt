@@ -52,9 +52,6 @@ module _ {says : Fact → Link} {F : List Fact} {by gave : ℕ → ℕ} where
         past (there m) = m
 
     module _ {i j : ℕ} (e : says x ≡ link i j) where
-      first-named : Name mostIndividuals i
-      first-named = h .named i j (here (sym e))
-
       -- another value than the first
       pub clashing : (by i ≡ 0 → ⊥) → (gave i ≡ j → ⊥) → Single says F → ⊥
       clashing f g s = g (h .down s .0 i j (here (sym e)) f)

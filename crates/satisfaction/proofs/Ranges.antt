@@ -25,9 +25,9 @@ use Rattle.meaning.specs.Records.{Name, isName}
 use Rattle.meaning.specs.Vocabulary.{range}
 use Rattle.model.specs.Chain.{Stated}
 use Rattle.satisfaction.proofs.Classes.{interpreted-kept}
-use Rattle.satisfaction.proofs.Facts.{other-role, ranged-into, target-named, unranged}
+use Rattle.satisfaction.proofs.Facts.{other-role, ranged-into, unranged}
 use Rattle.satisfaction.specs.Classes.{Interpreted, isRanged}
-use Rattle.satisfaction.specs.Places.{classPlace, classesOf, rangePlace, rangeWords, rangesAt, rangesEnd, rangesOf}
+use Rattle.satisfaction.specs.Places.{classPlace, rangePlace, rangeWords, rangesAt, rangesEnd, rangesOf}
 use Rattle.satisfaction.specs.Ranges.{AllNarrowed, Intersected, Narrowed, Opened, Ranged}
 use Rattle.words.proofs.Bits.{bit-suc, bit-zero}
 use Rattle.words.proofs.Laws.{named-within}

@@ -21,7 +21,7 @@ use Rattle.satisfaction.proofs.Facts.{number-other, owner-at, owners-na
 use Rattle.satisfaction.proofs.Links.{Holding, clashing, first-seen, holding-ends, holding-same, repeated, skipped}
 use Rattle.satisfaction.proofs.Rows.{none-in, put-in, put-inside, put-only}
 use Rattle.satisfaction.specs.Classes.{ownerOf}
-use Rattle.satisfaction.specs.Links.{BlockCompared, Clashing, Comparable, Compared, Gives, InBlock, Link, NoneClash, Single, Tells, clash, first, firstOf, link}
+use Rattle.satisfaction.specs.Links.{BlockCompared, Clashing, Comparable, Compared, Gives, InBlock, NoneClash, Single, Tells, clash, first, firstOf, link}
 use Rattle.satisfaction.specs.Links.{linkOf, none, numberOf, otherOf, outside, same}
 use Rattle.satisfaction.specs.Places.{blockSize, clashWords, clashesAt, clashesOf, putIn, seriesCount, valuePlace, valuesAt, valuesEnd}
 use Rattle.words.specs.Sets.{inSet}

@@ -57,10 +57,12 @@ firstOf w base u i = getD w (valuePlace i (u - base - 1)) 0
 -- what record f of the model changes: it is the first of its number and individual, or has the first one's value, or another
 pub data Compared (m : List ℕ) (base : ℕ) (w w′ : List ℕ) (f u : ℕ) : Type 0 where
   outside : (InBlock base u → ⊥) → w′ ≡ w → Compared m base w w′ f u
-  first : InBlock base u → firstOf w base u (factOwner m f) ≡ 0 → w′ ≡ set w (valuePlace (factOwner m f) (u - base - 1)) f → Compared m base w w′ f u
-  same : InBlock base u → (firstOf w base u (factOwner m f) ≡ 0 → ⊥) → factOther m (firstOf w base u (factOwner m f)) ≡ factOther m f → w′ ≡ w →
+  first : InBlock base u → firstOf w base u (factOwner m f) ≡ 0 → w′ ≡ set w (valuePlace (factOwner m f) (u - base - 1)) f →
       Compared m base w w′ f u
-  clash : InBlock base u → (firstOf w base u (factOwner m f) ≡ 0 → ⊥) → (factOther m (firstOf w base u (factOwner m f)) ≡ factOther m f → ⊥) →
+  same : InBlock base u → (firstOf w base u (factOwner m f) ≡ 0 → ⊥) → factOther m (firstOf w base u (factOwner m f)) ≡ factOther m f →
+      w′ ≡ w → Compared m base w w′ f u
+  clash : InBlock base u → (firstOf w base u (factOwner m f) ≡ 0 → ⊥) →
+      (factOther m (firstOf w base u (factOwner m f)) ≡ factOther m f → ⊥) →
       w′ ≡ putIn clashWords w clashesAt u → Compared m base w w′ f u
 
 -- what the comparison of a record takes: its number, within the series, and a full work slice

@@ -30,7 +30,8 @@ pub record Intersected (n at from : ℕ) (w w′ : List ℕ) : Type 0 where
 -- of each role's set those classes are left that the target has, where the fact is an edge of the role
 pub record Narrowed (m w w′ : List ℕ) (x : Fact) : Type 0 where
   pub only : Only (Span rangesAt rangesEnd) w w′
-  pub rows : (r c : ℕ) → Name mostRoles r → Name mostClasses c → inSet (rangesOf w′ r) c ≡ inSet (rangesOf w r) c && isRanged (factsOf m) r c x
+  pub rows : (r c : ℕ) → Name mostRoles r → Name mostClasses c →
+      inSet (rangesOf w′ r) c ≡ inSet (rangesOf w r) c && isRanged (factsOf m) r c x
 
 -- the classes that all targets of a role's edges have
 pub record Ranged (m w : List ℕ) : Type 0 where

@@ -1,5 +1,3 @@
-use mathlib.Core.Path.{_∙_}
-use native.Mathlib.Omega.{arith}
 use borrow.Author.Needs.{needs}
 use Rattle.meaning.specs.Records.{falling, lastOf}
 use Rattle.model.proofs.Chain.{Scanning, scanning-ends, scanning-falls, scanning-on, scanning-starts, scanning-stated}
