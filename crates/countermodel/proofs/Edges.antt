@@ -8,7 +8,7 @@ use lib.Dec.{eqb, ltb}
 use borrow.Author.Tests.{eq-eqb, le-ltb, lt-ltb, ne-eqb}
 use Rattle.countermodel.specs.Facts.{edgeFacts, edgesFrom}
 use Rattle.layout.specs.Combination.{Below, Kin, nextSuccessor}
-use Rattle.layout.specs.Tables.{parentAt, roleAt}
+use Rattle.layout.specs.Tables.{parentAt, pieceAt, roleAt}
 use Rattle.layout.specs.declared.Tables.{Tables}
 use Rattle.meaning.specs.Countermodel.{edges, size}
 use Rattle.meaning.specs.Model.{Fact, edge}
@@ -90,7 +90,7 @@ module _ (K : Vocabulary) (w : List ℕ) (top : ℕ) where
       ∙ ap₂ (λ (F G : List Fact). F ++ G) (ap (edges next x) target) (ap (edgesFrom w x left) behind)))
 
 -- what is below individual x, whose rows start after it, has x's edges
-pub kin-edges : {K : Vocabulary} {w : List ℕ} {t : Tables} {x : ℕ} {ks : Successors} → Kin K w t x x ks → edgeFacts w (t .individuals) x ≡ edges ks x (suc x)
+pub kin-edges : {K : Vocabulary} {w : List ℕ} {t : Tables} {x : ℕ} {ks : Successors} → Kin (pieceAt w) K w t x x ks → edgeFacts w (t .individuals) x ≡ edges ks x (suc x)
 unfolding edgesFrom
 kin-edges {K} {w} {t} {x} {ks} k =
     let rows : t .individuals - x ≡ size ks + (t .individuals - (x + size ks)) = omega arith in

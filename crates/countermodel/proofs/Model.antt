@@ -10,7 +10,7 @@ use Rattle.frames.proofs.Rows.{length-row}
 use Rattle.layout.proofs.Successors.{kin-child, kin-individual, kin-inside, kin-rest}
 use Rattle.layout.specs.Combination.{Combined, Individual, Kin}
 use Rattle.layout.specs.Places.{individualPlace}
-use Rattle.layout.specs.Tables.{Above, Standing, setAt}
+use Rattle.layout.specs.Tables.{Above, Standing, pieceAt, setAt}
 use Rattle.layout.specs.declared.Tables.{Tables}
 use Rattle.meaning.proofs.Closure.{below-bounded}
 use Rattle.meaning.proofs.Rules.{all-any, any-out, isTrue}
@@ -45,14 +45,14 @@ module _ (K : Vocabulary) (few : K .classes ≤ mostClasses) (bounded : Bounded 
           and-false true = refl
           and-false false = refl
 
-  row-facts : (i : ℕ) (m : Node) (ks : Successors) → i < t .individuals → Individual K w (t .constraints) i m → NormalNode (Name (K .classes)) K m → Kin K w t (suc i) (suc i) ks →
+  row-facts : (i : ℕ) (m : Node) (ks : Successors) → i < t .individuals → Individual K w (t .constraints) i m → NormalNode (Name (K .classes)) K m → Kin (pieceAt w) K w t (suc i) (suc i) ks →
       factsAt w t i ≡ recordsOf K m ks (suc i)
   unfolding factsAt memberFacts valueFacts
   row-facts i m ks h own normal kin =
       let e : i + 1 ≡ suc i = omega arith in
       rw (e, classes-are i m h (own .classes) (normal .bounded), own .pieces, kin-edges kin)
 
-  below-facts : (x j : ℕ) (ks : Successors) (left : ℕ) → x ≤ j → Kin K w t x j ks → NormalSuccessors (Name (K .classes)) K ks →
+  below-facts : (x j : ℕ) (ks : Successors) (left : ℕ) → x ≤ j → Kin (pieceAt w) K w t x j ks → NormalSuccessors (Name (K .classes)) K ks →
       factsFrom w t (size ks + left) j ≡ recordsBelow K ks (suc j) ++ factsFrom w t left (j + size ks)
   unfolding factsFrom
   below-facts x j none left h kin normal =
@@ -73,7 +73,7 @@ module _ (K : Vocabulary) (few : K .classes ≤ mostClasses) (bounded : Bounded 
   table-facts-of u normal c =
       let n = c .count in
       let rows : t .individuals ≡ suc (size (u .successors) + 0) = omega arith in
-      let kin : Kin K w t 1 1 (u .successors) = record { below = c .below; fits = omega arith; ends = λ h. absurd (omega arith) } in
+      let kin : Kin (pieceAt w) K w t 1 1 (u .successors) = record { below = c .below; fits = omega arith; ends = λ h. absurd (omega arith) } in
       ap (λ (n : ℕ). factsFrom w t n 0) rows
       ∙ ap₂ (λ (F G : List Fact). F ++ G) (row-facts 0 (u .node) (u .successors) (omega arith) (c .root) (normal .node) kin)
       (below-facts 1 1 (u .successors) 0 (omega arith) kin (normal .successors) ∙ append-nil (recordsBelow K (u .successors) 2))

@@ -11,7 +11,7 @@ use borrow.Author.Tests.{eq-eqb, eqb-false, eqb-true, le-leb, le-ltb, leb-false,
 use Rattle.countermodel.proofs.Keys.{Low, before-key, key, least-above, none-above, pairs-have, pairs-low, pairs-only, pairs-rising}
 use Rattle.countermodel.proofs.Keys.{same-facts}
 use Rattle.countermodel.specs.Facts.{isAbove, isBetter, pairsAbove, valueFact, valueFacts, valuesFrom}
-use Rattle.layout.specs.Combination.{piecesFrom, piecesOf}
+use Rattle.layout.specs.Combination.{chosenFrom, piecesFrom, piecesOf}
 use Rattle.layout.specs.Places.{constraintPlace}
 use Rattle.layout.specs.Tables.{holderAt, pieceAt}
 use Rattle.meaning.proofs.Rules.{all-at, head, order, tail}
@@ -40,7 +40,7 @@ all-filter {P} p (s ∷ l) h = go (p s) (all-filter p l (tail h))
 
 module _ (w : List ℕ) (x : ℕ) where
   piece-in : (left m j : ℕ) → m ≤ j → j < m + left → holderAt w j ≡ x → pieceAt w j ∈ piecesFrom w x left m
-  unfolding piecesFrom
+  unfolding chosenFrom
   piece-in zero m j a b h = absurd (omega arith)
   piece-in (suc left) m j a b h = go (eqb (holderAt w m) x) refl (order m j) (λ c. piece-in left (suc m) j c (omega arith) h)
     where
@@ -54,7 +54,7 @@ module _ (w : List ℕ) (x : ℕ) where
           absurd (eqb-false (holderAt w m) x e (ap (holderAt w) (sym q) ∙ h))
 
   piece-out : (P : Constraint → Type 0) (left m : ℕ) → ((j : ℕ) → m ≤ j → j < m + left → holderAt w j ≡ x → P (pieceAt w j)) → All P (piecesFrom w x left m)
-  unfolding piecesFrom
+  unfolding chosenFrom
   piece-out P zero m f = nil
   piece-out P (suc left) m f =
       go (eqb (holderAt w m) x) refl (piece-out P left (suc m) (λ j a b. f j (omega arith) (omega arith)))

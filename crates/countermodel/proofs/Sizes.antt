@@ -7,7 +7,7 @@ use native.Mathlib.Omega.{arith}
 use lib.Dec.{eqb, ltb}
 use lib.ListN.{drop, length, length-append, length-map, length-take}
 use Rattle.countermodel.specs.Facts.{edgeFacts, edgesFrom, factsAt, factsFrom, memberFacts, recordCount, valueFact, valueFacts}
-use Rattle.layout.specs.Combination.{piecesFrom, piecesOf}
+use Rattle.layout.specs.Combination.{chosenFrom, piecesFrom, piecesOf}
 use Rattle.layout.specs.Places.{individualPlace}
 use Rattle.layout.specs.Tables.{Standing, holderAt, parentAt, pieceAt, roleAt, setAt}
 use Rattle.layout.specs.declared.Tables.{Tables}
@@ -34,7 +34,7 @@ pairs-few [] = omega arith
 pairs-few (s ∷ l) = omega (arith, insert-few s (pairs l), pairs-few l)
 
 pieces-few : (w : List ℕ) (x left m : ℕ) → length (piecesFrom w x left m) ≤ left
-unfolding piecesFrom
+unfolding chosenFrom
 pieces-few w x zero m = omega arith
 pieces-few w x (suc left) m = go (eqb (holderAt w m) x) (pieces-few w x left (suc m))
   where

@@ -11,6 +11,7 @@ use Rattle.decision.specs.Decisions.{Failed, Failure, exceeds}
 use Rattle.frames.proofs.Frames.{only-none, only-wider}
 use Rattle.frames.specs.Frames.{Only}
 use Rattle.functional.specs.declared.Functional.{Functional}
+use Rattle.layout.proofs.Nesting.{tabled-nested}
 use Rattle.layout.specs.Places.{InTables}
 use Rattle.layout.specs.Tables.{Pieces}
 use Rattle.layout.specs.declared.Tables.{Tables}
@@ -27,7 +28,7 @@ use Rattle.preparation.proofs.Laws.{prepared-kept}
 use Rattle.preparation.specs.Prepared.{Prepared}
 use Rattle.splitting.proofs.Callers.{full-clean, full-nonEmpty, product-at}
 use Rattle.splitting.specs.Ends.{Ends}
-use Rattle.splitting.specs.Odometer.{Splittable, firstConstraints}
+use Rattle.splitting.specs.Constraints.{Splittable, firstConstraints}
 use Rattle.tabulation.specs.Clean.{DecidesClean, cleanForm}
 use Rattle.tabulation.specs.Tabulation.{Shaped, Tabulated}
 use Rattle.trial.specs.Trials.{Triable, Tried}
@@ -128,7 +129,10 @@ module _ {v : List ℕ} {c : Chain} {f : Functional} {w w′ : List ℕ} {t : Ta
     term-triable {q} a n x =
         let i = d .tabled v g o .count in
         record {
-          askable = record { standing = d .standing; some = omega arith; vocabulary = v; accepted = a };
+          standing = d .standing;
+          nested = tabled-nested (d .tabled v g o);
+          some = omega arith;
+          policy = record { vocabulary = v; accepted = a };
           splittable = term-splittable;
           ends = n;
           few = rw (product-at (d .tabled v g o) (policyOf q)) (le-of (combinationCount (policyOf q) (normalForm K c)) (rw is-possible at x));

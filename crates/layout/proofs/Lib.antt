@@ -2,3 +2,4 @@
 pub mod Entries
 pub mod Successors
 pub mod Filling
+pub mod Nesting

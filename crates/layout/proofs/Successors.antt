@@ -1,15 +1,16 @@
 -- Laws of the walk over an individual's successors.
-use Prim.Native.Nat.{_+_, _-_, _<_, _≤_, suc, zero, ℕ}
+use Prim.Native.Nat.{_+_, _-_, _<_, _≤_, suc, ℕ}
 use mathlib.Core.List.{List}
 use mathlib.Core.Logic.{_⊎_, inl, inr}
-use mathlib.Core.Path.{_∙_, _≡_, ap, refl, subst}
+use mathlib.Core.Path.{_≡_, ap, subst}
 use native.Mathlib.Omega.{arith}
 use borrow.Author.Tests.{eq-eqb, le-ltb, lt-ltb, ne-eqb}
-use Rattle.layout.specs.Combination.{Below, Individual, Kin, nextSuccessor}
-use Rattle.layout.specs.Tables.{parentAt, roleAt}
+use Rattle.layout.specs.Combination.{BelowBy, IndividualBy, Kin, nextSuccessor}
+use Rattle.layout.specs.Tables.{parentAt}
 use Rattle.layout.specs.declared.Tables.{Tables}
 use Rattle.meaning.proofs.Rules.{order}
 use Rattle.meaning.specs.Countermodel.{size}
+use Rattle.meaning.specs.Intervals.{Constraint}
 use Rattle.meaning.specs.NormalForm.{Node, Successors, none, successor}
 use Rattle.meaning.specs.Vocabulary.{Vocabulary}
 
@@ -40,9 +41,9 @@ module _ (w : List ℕ) (x n : ℕ) where
 
 -- ---- one successor after another
 
-module _ (K : Vocabulary) (w : List ℕ) (top : ℕ) where
+module _ (v : ℕ → Constraint) (K : Vocabulary) (w : List ℕ) (top : ℕ) where
   -- every row of those below individual i has the parent i or one after it
-  parents : (ks : Successors) (i n : ℕ) → i ≤ n → Below K w top ks i n → (j : ℕ) → n ≤ j → j < n + size ks → i ≤ parentAt w j
+  pub parents : (ks : Successors) (i n : ℕ) → i ≤ n → BelowBy v K w top ks i n → (j : ℕ) → n ≤ j → j < n + size ks → i ≤ parentAt w j
   parents none i n h b j p q = absurd (omega arith)
   parents (successor r m under next) i n h b j p q =
       go (order n j) (order j (suc n + size under)) (λ c d. parents under (suc n) (suc n) (omega arith) (b .3) j c d)
@@ -54,39 +55,16 @@ module _ (K : Vocabulary) (w : List ℕ) (top : ℕ) where
       go (inl a) (inl d) f g = let u = f (omega arith) d in omega arith
       go (inl a) (inr d) f g = g d
 
-  -- rows with a greater parent are passed over
-  pub next-over : (x n e j : ℕ) → j ≤ e → e ≤ n → ((i : ℕ) → j ≤ i → i < e → x < parentAt w i) → nextSuccessor w x (n - j) j ≡ nextSuccessor w x (n - e) e
-  next-over x n e j a b f = go (e - j) j a refl f
-    where
-      go : (d j : ℕ) → j ≤ e → e - j ≡ d → ((i : ℕ) → j ≤ i → i < e → x < parentAt w i) → nextSuccessor w x (n - j) j ≡ nextSuccessor w x (n - e) e
-      go zero j a q f = let z : j ≡ e = omega arith in ap (λ (i : ℕ). nextSuccessor w x (n - i) i) z
-      go (suc d) j a q f =
-          let l = f j (omega arith) (omega arith) in
-          next-on w x n j (omega arith) (omega arith) (λ z. omega arith) ∙ go d (j + 1) (omega arith) (omega arith) (λ i p r. f i (omega arith) r)
-
-module _ {K : Vocabulary} {w : List ℕ} {t : Tables} {x j : ℕ} where
-  pub kin-none : Kin K w t x j none → nextSuccessor w x (t .individuals - j) j ≡ t .individuals
-  kin-none k = go (order j (t .individuals))
-    where
-      go : (j < t .individuals) ⊎ (t .individuals ≤ j) → nextSuccessor w x (t .individuals - j) j ≡ t .individuals
-      go (inl h) = let z : j + 0 ≡ j = omega arith in next-behind w x (t .individuals) j h (subst (λ (i : ℕ). parentAt w i < x) z (k .ends (omega arith)))
-      go (inr h) = let e : j ≡ t .individuals = omega arith in next-ends w x (t .individuals) j h ∙ e
-
-  module _ {r : ℕ} {m : Node} {under next : Successors} (k : Kin K w t x j (successor r m under next)) where
-    pub kin-first : nextSuccessor w x (t .individuals - j) j ≡ j
-    kin-first = next-here w x (t .individuals) j (omega arith) (k .below .0)
-
-    pub kin-role : roleAt w j ≡ r
-    kin-role = k .below .1
-
-    pub kin-individual : Individual K w (t .constraints) j m
+module _ {v : ℕ → Constraint} {K : Vocabulary} {w : List ℕ} {t : Tables} {x j : ℕ} where
+  module _ {r : ℕ} {m : Node} {under next : Successors} (k : Kin v K w t x j (successor r m under next)) where
+    pub kin-individual : IndividualBy v K w (t .constraints) j m
     kin-individual = k .below .2
 
     pub kin-inside : j < t .individuals
     kin-inside = omega arith
 
     -- what follows: the next successors, from after those below this one
-    pub kin-rest : Kin K w t x (suc j + size under) next
+    pub kin-rest : Kin v K w t x (suc j + size under) next
     kin-rest =
         let e : j + size (successor r m under next) ≡ suc j + size under + size next = omega arith in
         record {
@@ -96,7 +74,7 @@ module _ {K : Vocabulary} {w : List ℕ} {t : Tables} {x j : ℕ} where
         }
 
     module _ (own : x ≤ j) where
-      pub kin-child : Kin K w t (suc j) (suc j) under
+      pub kin-child : Kin v K w t (suc j) (suc j) under
       kin-child =
           record {
             below = k .below .3;
@@ -104,14 +82,9 @@ module _ {K : Vocabulary} {w : List ℕ} {t : Tables} {x j : ℕ} where
             ends = λ h. go next (kin-rest .below) (kin-rest .ends) h;
           }
         where
-          go : (ks : Successors) → Below K w (t .constraints) ks x (suc j + size under) →
+          go : (ks : Successors) → BelowBy v K w (t .constraints) ks x (suc j + size under) →
               (suc j + size under + size ks < t .individuals → parentAt w (suc j + size under + size ks) < x) →
               suc j + size under < t .individuals → parentAt w (suc j + size under) < suc j
           go none b e h = let z : suc j + size under + 0 ≡ suc j + size under = omega arith in
               let l = subst (λ (i : ℕ). parentAt w i < x) z (e (omega arith)) in omega arith
           go (successor q n un ks) b e h = omega arith
-
-      pub kin-next : nextSuccessor w x (t .individuals - (j + 1)) (j + 1) ≡ nextSuccessor w x (t .individuals - (suc j + size under)) (suc j + size under)
-      kin-next =
-          next-over K w (t .constraints) x (t .individuals) (suc j + size under) (j + 1) (omega arith) (omega arith)
-          (λ i p q. let l = parents K w (t .constraints) under (suc j) (suc j) (omega arith) (k .below .3) i (omega arith) q in omega arith)

@@ -13,12 +13,15 @@ use Rattle.meaning.specs.Vocabulary.{Vocabulary}
 
 -- ---- the words
 
--- the pieces of individual x among so many constraints from m on
-unfoldable pub piecesFrom : List ℕ → ℕ → ℕ → ℕ → List Constraint
-piecesFrom w x zero m = []
-piecesFrom w x (suc left) m = let rest = piecesFrom w x left (suc m) in cond (eqb (holderAt w m) x) (pieceAt w m ∷ rest) rest
+-- what v has in place of the constraints of individual x, among so many from m on
+unfoldable pub chosenFrom : (ℕ → Constraint) → List ℕ → ℕ → ℕ → ℕ → List Constraint
+chosenFrom v w x zero m = []
+chosenFrom v w x (suc left) m = let rest = chosenFrom v w x left (suc m) in cond (eqb (holderAt w m) x) (v m ∷ rest) rest
 
--- the pieces of individual x among the first n constraints
+-- the pieces of individual x among so many constraints from m on, and among the first n
+abbrev pub piecesFrom : List ℕ → ℕ → ℕ → ℕ → List Constraint
+piecesFrom w = chosenFrom (pieceAt w) w
+
 abbrev pub piecesOf : List ℕ → ℕ → ℕ → List Constraint
 piecesOf w n x = piecesFrom w x n 0
 
@@ -30,29 +33,40 @@ nextSuccessor w x (suc left) j =
     let on = nextSuccessor w x left (suc j) in
     cond (ltb (parentAt w j) x) (j + suc left) (cond (eqb (parentAt w j) x) j on)
 
--- ---- what they hold
+-- ---- what they hold, with what v has in place of each constraint
 
--- row n and n + 1's pieces, of so many constraints, are the individual's
-pub record Individual (K : Vocabulary) (w : List ℕ) (top n : ℕ) (m : Node) : Type 0 where
+-- row n and what is chosen for n + 1's constraints, of so many, are the individual's
+pub record IndividualBy (v : ℕ → Constraint) (K : Vocabulary) (w : List ℕ) (top n : ℕ) (m : Node) : Type 0 where
   pub classes : Above K (setAt w n) (m .classes)
-  pub pieces : piecesOf w top (suc n) ≡ m .constraints
+  pub pieces : chosenFrom v w (suc n) top 0 ≡ m .constraints
 
 -- the individuals below individual i have the rows from n on, "parent first, then each child's subtree in place order"
-abbrev pub Below : Vocabulary → List ℕ → ℕ → Successors → ℕ → ℕ → Type 0
-Below K w top none i n = Unit {0}
-Below K w top (successor r m under next) i n =
-    (parentAt w n ≡ i) × (roleAt w n ≡ r) × Individual K w top n m × Below K w top under (suc n) (suc n) × Below K w top next i (suc n + size under)
+abbrev pub BelowBy : (ℕ → Constraint) → Vocabulary → List ℕ → ℕ → Successors → ℕ → ℕ → Type 0
+BelowBy v K w top none i n = Unit {0}
+BelowBy v K w top (successor r m under next) i n =
+    (parentAt w n ≡ i) × (roleAt w n ≡ r) × IndividualBy v K w top n m × BelowBy v K w top under (suc n) (suc n) × BelowBy v K w top next i (suc n + size under)
 
--- the tables hold the combination
-pub record Combined (K : Vocabulary) (u : Form) (w : List ℕ) (t : Tables) : Type 0 where
+-- the tables hold the form u
+pub record CombinedBy (v : ℕ → Constraint) (K : Vocabulary) (u : Form) (w : List ℕ) (t : Tables) : Type 0 where
   pub count : t .individuals ≡ individuals u
-  pub root : Individual K w (t .constraints) 0 (u .node)
-  pub below : Below K w (t .constraints) (u .successors) 1 1
+  pub root : IndividualBy v K w (t .constraints) 0 (u .node)
+  pub below : BelowBy v K w (t .constraints) (u .successors) 1 1
+
+-- ---- the combination: with the pieces
+
+abbrev pub Individual : Vocabulary → List ℕ → ℕ → ℕ → Node → Type 0
+Individual K w = IndividualBy (pieceAt w) K w
+
+abbrev pub Below : Vocabulary → List ℕ → ℕ → Successors → ℕ → ℕ → Type 0
+Below K w = BelowBy (pieceAt w) K w
+
+abbrev pub Combined : Vocabulary → Form → List ℕ → Tables → Type 0
+Combined K u w t = CombinedBy (pieceAt w) K u w t
 
 -- ---- for a walk over the successors of an individual
 
 -- the individuals ks are all that is below individual x from row j on, among so many rows: they end there, or a smaller parent's row follows
-pub record Kin (K : Vocabulary) (w : List ℕ) (t : Tables) (x j : ℕ) (ks : Successors) : Type 0 where
-  pub below : Below K w (t .constraints) ks x j
+pub record Kin (v : ℕ → Constraint) (K : Vocabulary) (w : List ℕ) (t : Tables) (x j : ℕ) (ks : Successors) : Type 0 where
+  pub below : BelowBy v K w (t .constraints) ks x j
   pub fits : j + size ks ≤ t .individuals
   pub ends : j + size ks < t .individuals → parentAt w (j + size ks) < x

@@ -1,4 +1,4 @@
--- The numbers from one on: two runs of them, which are among them, what a function makes of them, and a loop over them that stops where a test fails.
+-- The numbers from one on: two runs of them, which are among them, what a function makes of them, a loop over them that stops where a test fails, and whether one of them passes a test.
 use Prim.Native.Nat.{_+_, _-_, _<_, _≤_, suc, zero, ℕ}
 use mathlib.Core.Bool.{Bool, _&&_, false, true}
 use mathlib.Core.List.{List, [], _++_, _∷_, map}
@@ -6,8 +6,8 @@ use mathlib.Core.Logic.{_⊎_, inl, inr}
 use mathlib.Core.Path.{_∙_, _≡_, ap, ap₂, refl, sym}
 use native.Mathlib.Numerals.{add-one}
 use native.Mathlib.Omega.{arith}
-use Rattle.meaning.proofs.Rules.{order}
-use Rattle.meaning.specs.Lists.{_∈_, all, counting, here, there}
+use Rattle.meaning.proofs.Rules.{any-at, any-in, any-out, at-any, isTrue, order, same-test}
+use Rattle.meaning.specs.Lists.{_∈_, all, any, counting, here, there}
 
 pub counting-append : (k m n : ℕ) → counting k (m + n) ≡ counting k m ++ counting (k + m) n
 counting-append k zero n = rw (zero-add n) (ap (λ (i : ℕ). counting i n) (omega arith))
@@ -63,3 +63,26 @@ module _ {p : ℕ → Bool} {n i : ℕ} (t : Testing p n i) where
 
     pub testing-on : p i ≡ true → Testing p n (i + 1)
     testing-on e = record { within = omega arith; same = first ∙ rw e }
+
+-- ---- whether one of them passes a test
+
+module _ (p : ℕ → Bool) (n : ℕ) where
+  pub some-below : (j : ℕ) → j < n → p j ≡ true → any p (counting 0 n) ≡ true
+  some-below j h e = same-test (any p (counting 0 n)) true (λ _. tt) (λ _. any-in p (at-any (in-counting 0 n j (omega arith) (omega arith)) (isTrue e)))
+
+  pub none-below : ((j : ℕ) → j < n → p j ≡ false) → any p (counting 0 n) ≡ false
+  none-below f = go 0 n (λ j h. f j (omega arith))
+    where
+      go : (o n : ℕ) → ((j : ℕ) → j < o + n → p j ≡ false) → any p (counting o n) ≡ false
+      go o zero f = refl
+      go o (suc n) f = rw (f o (omega arith)) (go (suc o) n (λ j h. f j (omega arith)))
+
+  pub below-some : any p (counting 0 n) ≡ true → (j : ℕ) × (j < n) × (p j ≡ true)
+  below-some e =
+      let a = any-at (any-out p (counting 0 n) (isTrue e)) in
+      let b = counting-in 0 n (a .1) in
+      (a .0, omega arith, same-test (p (a .0)) true (λ _. tt) (λ _. a .2))
+    where
+      counting-in : (o n : ℕ) {z : ℕ} → z ∈ counting o n → z < o + n
+      counting-in o (suc n) (here e) = omega arith
+      counting-in o (suc n) (there i) = let h = counting-in (suc o) n i in omega arith

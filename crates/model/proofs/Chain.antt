@@ -16,7 +16,7 @@ use Rattle.meaning.specs.Model.{modelRefusal, soundFact}
 use Rattle.meaning.specs.Records.{Name, Onward, falling, isName, lastOf}
 use Rattle.meaning.specs.Vocabulary.{classCount, featureCount, roleCount, vocabularyRefusal}
 use Rattle.model.specs.Chain.{Readable, Stated, factLinks}
-use Rattle.records.proofs.Chains.{Walking, read-along, walking-ends, walking-falls, walking-found, walking-on, walking-sound}
+use Rattle.records.proofs.Chains.{Walking, read-along, walking-ends, walking-falls, walking-on, walking-sound}
 use Rattle.records.proofs.Chains.{walking-starts}
 
 module _ (v m : List ℕ) (most : classCount v ≤ mostClasses) where
@@ -68,11 +68,6 @@ module _ {T : List Fact → Type 0} {m : List ℕ} {k : ℕ} where
       pub scanning-stated : Stated m k
       unfolding factLinks
       scanning-stated = walking-sound (s .walk) n
-
-      -- what this one settles, whatever follows
-      pub scanning-found : {B : Type 0} → ((l : List Fact) → T (factAt m k ∷ l) → B) → B
-      unfolding factLinks
-      scanning-found f = walking-found (s .walk) n f
 
       module _ {x : ℕ} (z : x ≡ factNext m k) where
         pub scanning-on : {U : List Fact → Type 0} → ((l : List Fact) → T (factAt m k ∷ l) → U l) → Scanning U m x

@@ -1,5 +1,5 @@
 -- What callers cite: an accepted policy's ends can be collected, the constraints of the tables are the form's, none of a clean
--- form's is empty, the odometer keeps the tables, and what they stand at is the combination of the definition.
+-- form's is empty, and turning pieces keeps the tables.
 use Prim.Native.Nat.{_+_, _<_, _≤_, suc, zero, ℕ}
 use mathlib.Core.Bool.{_&&_, true}
 use mathlib.Core.List.{List, [], _∷_, map}
@@ -23,8 +23,7 @@ use Rattle.meaning.specs.Splitting.{combinationCount, constraintsOf, product}
 use Rattle.meaning.specs.Vocabulary.{Vocabulary}
 use Rattle.splitting.proofs.Storing.{full-kept}
 use Rattle.splitting.specs.Ends.{Collectable, endWords}
-use Rattle.splitting.specs.Odometer.{Full, Splittable, firstConstraints}
-pub use Rattle.splitting.proofs.Places.{stands-combination, stands-lt}
+use Rattle.splitting.specs.Constraints.{Full, Splittable, firstConstraints}
 pub use Rattle.splitting.proofs.Storing.{constraints-kept}
 pub use Rattle.splitting.proofs.Whole.{widened-form}
 

@@ -9,7 +9,6 @@ pub mod Pieces
 pub mod Storing
 pub mod Ways
 pub mod Most
-pub mod Turning
-pub mod Places
+pub mod Starting
 pub mod Whole
 pub mod Callers

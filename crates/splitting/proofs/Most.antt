@@ -22,7 +22,7 @@ use Rattle.splitting.proofs.Pieces.{filtered}
 use Rattle.splitting.proofs.Ranking.{rising-tail}
 use Rattle.splitting.proofs.Ways.{ways, ways-product}
 use Rattle.splitting.specs.Ends.{Ends, endsOn, keyOf}
-use Rattle.splitting.specs.Odometer.{Few}
+use Rattle.splitting.specs.Constraints.{Few}
 
 -- ---- X has lo, hi and at most every end
 

@@ -1,6 +1,6 @@
 -- The number of combinations, one constraint after another.
 use Prim.Native.Nat.{_*_, _+_, _-_, _<_, _≤_, min, suc, zero, ℕ}
-use mathlib.Core.List.{List, [], _++_, _∷_, map}
+use mathlib.Core.List.{List, [], _∷_}
 use mathlib.Core.Path.{_∙_, _≡_, ap, ap₂, refl, subst, sym}
 use native.Mathlib.Nat.{mul-le-mul-left, mul-le-mul-right, mul-one, suc-add, zero-add}
 use native.Mathlib.Numerals.{add-one}
@@ -8,37 +8,23 @@ use native.Mathlib.Omega.{arith}
 use lib.ListN.{length}
 use Rattle.layout.specs.Tables.{constraintAt, intervalOf}
 use Rattle.meaning.proofs.Count.{pieces-some, product-append}
+use Rattle.meaning.proofs.Counting.{counted-more}
 use Rattle.meaning.specs.Intervals.{Constraint, NonEmpty}
 use Rattle.meaning.specs.Limits.{mostCombinations}
-use Rattle.meaning.specs.Lists.{counting}
 use Rattle.meaning.specs.Policy.{Policy}
 use Rattle.meaning.specs.Splitting.{pieces, product}
-use Rattle.splitting.specs.Odometer.{Splittable, firstConstraints, pieceCount}
+use Rattle.splitting.specs.Constraints.{Splittable, firstConstraints, pieceCount}
 
 -- how many combinations the first i constraints have
 abbrev pub ways : Policy → List ℕ → ℕ → ℕ
 ways Q w zero = 1
 ways Q w (suc i) = ways Q w i * pieceCount Q w i
 
-pub ways-same : (Q : Policy) (w v : List ℕ) (i : ℕ) → ((j : ℕ) → constraintAt v j ≡ constraintAt w j) → ways Q v i ≡ ways Q w i
-ways-same Q w v zero h = refl
-ways-same Q w v (suc i) h = ap₂ (λ (x : ℕ) (s : Constraint). x * length (pieces Q s)) (ways-same Q w v i h) (h i)
-
--- one constraint more, after the others
-pub counted-more : (w : List ℕ) (n : ℕ) → firstConstraints w (suc n) ≡ firstConstraints w n ++ (constraintAt w n ∷ [])
-counted-more w n = go 0 n ∙ ap (λ (x : ℕ). firstConstraints w n ++ (constraintAt w x ∷ [])) (zero-add n)
-  where
-    go : (o n : ℕ) → map (constraintAt w) (counting o (suc n)) ≡ map (constraintAt w) (counting o n) ++ (constraintAt w (o + n) ∷ [])
-    go o zero = ap (λ (x : ℕ). constraintAt w x ∷ []) (omega arith)
-    go o (suc n) =
-        ap (λ l. constraintAt w o ∷ l)
-        (go (suc o) n ∙ ap (λ (x : ℕ). map (constraintAt w) (counting (suc o) n) ++ (constraintAt w x ∷ [])) (omega arith))
-
 pub ways-product : (Q : Policy) (w : List ℕ) (i : ℕ) → ways Q w i ≡ product Q (firstConstraints w i)
 ways-product Q w zero = refl
 ways-product Q w (suc i) =
     ap₂ (λ (x y : ℕ). x * y) (ways-product Q w i) (sym (mul-one _))
-    ∙ (sym (product-append Q (firstConstraints w i) (constraintAt w i ∷ [])) ∙ ap (product Q) (sym (counted-more w i)))
+    ∙ (sym (product-append Q (firstConstraints w i) (constraintAt w i ∷ [])) ∙ ap (product Q) (sym (counted-more (constraintAt w) i) ∙ ap (firstConstraints w) (add-one i)))
 
 -- ---- the loop's turns
 

@@ -15,7 +15,7 @@ use Rattle.meaning.specs.Lists.{counting}
 use Rattle.meaning.specs.NormalForm.{Form, Node, Successors, none, successor}
 use Rattle.meaning.specs.Splitting.{constraintsBelow, constraintsOf}
 use Rattle.splitting.proofs.Storing.{constraint-kept, piece-other, pieces-more, put-kept}
-use Rattle.splitting.specs.Odometer.{Widened, firstConstraints}
+use Rattle.splitting.specs.Constraints.{Widened, firstConstraints}
 
 -- ---- the loop
 

@@ -1,3 +1,3 @@
--- The ends of the other policy, and the combination that the tables stand at.
+-- The ends of the other policy, and the constraints of the tables.
 pub mod Ends
-pub mod Odometer
+pub mod Constraints

@@ -1,8 +1,7 @@
-// Splitting: the ends of the second policy, the pieces of a constraint between them, and the odometer over the combinations.
+// Splitting: the ends of the second policy, and the pieces of a constraint between them.
 // A piece needs no more than its two ends: the one after it starts at the next number, and a search among the ends, which rise, tells
 // where it stops.
 use layout::feature_of;
-use layout::piece_hi;
 use layout::put_piece;
 use meaning::FeatureNo;
 use meaning::limits::MOST_COMBINATIONS;
@@ -25,7 +24,7 @@ ghost use Rattle.meaning.specs.Policy.{Policy, policyOf};
 ghost use Rattle.meaning.specs.Splitting.{pieces};
 ghost use Rattle.policy.specs.Terms.{conjunctOf, conjunctsAt};
 ghost use Rattle.splitting.specs.Ends.{Chained, Collectable, Collected, Ends, Gathered, NextEnd, NextUpper, Ranked, keyOf, keysOf};
-ghost use Rattle.splitting.specs.Odometer.{Few, Multiplied, Splittable, Started, Stepped, Widened};
+ghost use Rattle.splitting.specs.Constraints.{Few, Multiplied, Splittable, Started, Widened};
 
 // A feature and an end as one number: keys rise by feature, then by end.
 fn key(f: FeatureNo, x: u32) -> u64
@@ -163,7 +162,7 @@ pub fn next_upper(ends: &[u64], f: FeatureNo, hi: u32, p: u32) -> u32
 }
 
 // How many pieces the constraint lo..hi on f has.
-fn count(ends: &[u64], f: FeatureNo, lo: u32, hi: u32) -> usize
+pub fn count(ends: &[u64], f: FeatureNo, lo: u32, hi: u32) -> usize
     requires { ⌜ NonEmpty lo hi ⌝ }
     ensures { λ r. ⌜ (1 ≤ r) × (r ≤ 4294967296) ⌝ }
     ensures { λ r. ⌜ ((Q : Policy) → Ends Q (now (ends .entry)) → r ≡ length (pieces Q (intervalOf (f .0) lo hi))) ⌝ }
@@ -233,26 +232,4 @@ pub fn start(work: &mut [u32], n: usize)
         let lo = layout::lo_of(work, i);
         put_piece(work, i, lo, lo);
     }
-}
-
-// From combination q, counted from 1, to the next, whose number is told, or 0 after the last: the last constraint that has a next
-// piece takes it, and those after it start again.
-pub fn step(ends: &[u64], work: &mut [u32], n: usize, q: u32) -> u32
-    requires { ⌜ Splittable (now work) n × (q < 4294967295) ⌝ }
-    ensures { λ r. ⌜ Stepped (now (ends .entry)) n q (now (work .entry)) (now (work .exit)) r ⌝ }
-{
-    let mut i = n;
-    while 0 < i {
-        i -= 1;
-        let hi = layout::hi_of(work, i);
-        let p = piece_hi(work, i);
-        if p < hi {
-            let up = next_upper(ends, feature_of(work, i), hi, p);
-            put_piece(work, i, p + 1, up);
-            return q + 1;
-        }
-        let lo = layout::lo_of(work, i);
-        put_piece(work, i, lo, lo);
-    }
-    0
 }

@@ -1,4 +1,5 @@
 -- The laws that the functions' proofs cite.
 pub mod Passing
-pub mod Whole
+pub mod Searching
+pub mod Starting
 pub mod Trying

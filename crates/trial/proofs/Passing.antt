@@ -1,64 +1,81 @@
 -- Laws of the test of one combination against the terms of the other policy, one after another.
-use Prim.Native.Nat.{_+_, _≤_, ℕ}
+use Prim.Native.Nat.{_+_, _<_, ℕ}
 use mathlib.Core.Bool.{Bool, _||_, false, true}
-use mathlib.Core.List.{List, [], _∷_}
+use mathlib.Core.List.{List}
 use mathlib.Core.Path.{_∙_, _≡_, ap, refl, sym}
-use Rattle.layout.specs.Combination.{Combined}
+use Rattle.layout.specs.Tables.{pieceAt}
 use Rattle.layout.specs.declared.Tables.{Tables}
-use Rattle.meaning.proofs.Rules.{all-of, any-in, at-any, head, isTrue, same-test, tail}
-use Rattle.meaning.specs.Accepted.{Reads, depth}
-use Rattle.meaning.specs.Containment.{passes}
+use Rattle.meaning.proofs.Rules.{all-of, head, tail}
 use Rattle.meaning.specs.Limits.{mostDepth}
 use Rattle.meaning.specs.Lists.{All, _∈_, any}
-use Rattle.meaning.specs.NormalForm.{Form}
-use Rattle.meaning.specs.Policy.{Policy, childOf, policyOf, termAt}
-use Rattle.meaning.specs.Subsumption.{subsumed}
-use Rattle.meaning.specs.Vocabulary.{Vocabulary}
+use Rattle.meaning.specs.Policy.{Policy, childOf, firstTerm, nextOf, policyOf, termAt}
+use Rattle.meaning.specs.Records.{falling, lastOf}
+use Rattle.policy.proofs.Terms.{Asking, asking-ends, asking-falls, asking-found, asking-on, asking-starts, asking-term}
 use Rattle.policy.specs.Terms.{conjunctsAt}
-use Rattle.subsumption.proofs.Callers.{root-tells}
-use Rattle.subsumption.specs.Tests.{DecidesAll, Testable}
+use Rattle.subsumption.specs.Tests.{TellsAll, Testable, holdsAt}
+use Rattle.subsumption.specs.declared.Reason.{Reason}
 use Rattle.trial.specs.Trials.{Askable, Taker, Term}
+use Rattle.trial.specs.declared.Taken.{Taken}
 
--- the rest are terms of q, and of whatever combination the tables hold, what the rest tells is what all tell
+-- the rest are terms of q, and what they tell is what all tell
 pub record Rest (q w : List ℕ) (t : Tables) (s : ℕ) (l : Policy) : Type 0 where
   pub within : All (λ c. c ∈ policyOf q) l
-  pub told : (K : Vocabulary) (u : Form) → Combined K u w t → any (λ c. subsumed K c (u .node) (u .successors)) l ≡ passes K (policyOf q) u
+  pub told : any (λ c. holdsAt (pieceAt w) w t c 1) l ≡ any (λ c. holdsAt (pieceAt w) w t c 1) (policyOf q)
 
-module _ (q w : List ℕ) (t : Tables) where
-  pub rest-starts : Rest q w t 1 (policyOf q)
-  unfolding passes
-  rest-starts = record { within = all-of (policyOf q) (λ c m. m); told = λ K u d. refl }
+-- a term whose test is known
+module _ {q dials w : List ℕ} {t : Tables} (k : ℕ) {j : ℕ} (e : j ≡ childOf q k) where
+  pub term-testable : Askable q dials w t → Term q k → Testable q dials w t mostDepth j
+  term-testable a m = record { testing = a .testing; reads = rw e (m .reads); shallow = rw e (m .shallow) }
 
-  pub rest-ends : (s : ℕ) → Rest q w t s [] → Taker q w t 0
-  rest-ends s r = record { known = λ z. absurd (z refl); takes = λ z. absurd (z refl); none = λ z K u d. sym (r .told K u d) }
+  module _ {one : Reason} (f : TellsAll q dials w t j 1 one) where
+    tells : one .holds ≡ holdsAt (pieceAt w) w t (termAt q k) 1
+    tells = f .tells .holds ∙ ap (λ (i : ℕ). holdsAt (pieceAt w) w t (conjunctsAt q i) 1) e
 
-  -- the term at record k
-  module _ (k : ℕ) {j : ℕ} (e : j ≡ childOf q k) where
-    pub testable-term : Askable q w t → Reads q (childOf q k) (termAt q k) → depth (termAt q k) ≤ mostDepth → Testable q w t mostDepth j
-    testable-term a r h = record { standing = a .standing; reads = rw e r; shallow = rw e h }
+    pub term-takes : {r : Taken} → (k ≡ 0 → ⊥) → Term q k → r .term ≡ k → r .dials ≡ one .dials → one .holds ≡ true → Taker q dials w t r
+    term-takes {r} n m et ed h = record {
+      known = λ _. rw et m;
+      takes = λ _ v c a. rw et (ap (λ (i : ℕ). holdsAt v w t (conjunctsAt q i) 1) (sym e) ∙ f .tells .relies h v c (rw ed at a));
+      none = λ z. absurd (n (sym et ∙ z));
+    }
 
-    module _ {b : Bool} (f : DecidesAll q w t j 1 b) where
-      tells-term : (K : Vocabulary) (u : Form) → Combined K u w t → b ≡ subsumed K (termAt q k) (u .node) (u .successors)
-      tells-term K u d = root-tells d q j f ∙ ap (λ (i : ℕ). subsumed K (conjunctsAt q i) (u .node) (u .successors)) e
+-- the terms from record k on are still to be asked
+pub record Seeking (q dials w : List ℕ) (t : Tables) (k : ℕ) : Type 0 where
+  pub vocabulary : List ℕ
+  pub place : ℕ
+  pub asking : Asking (Rest q w t) vocabulary q place k
 
-      pub term-takes : b ≡ true → (k ≡ 0 → ⊥) → Term q k → Taker q w t k
-      term-takes h n m = record { known = λ z. m; takes = λ z K u d. sym (tells-term K u d) ∙ h; none = λ z. absurd (n z) }
+pub seeking-starts : {q dials w : List ℕ} {t : Tables} {k : ℕ} → Askable q dials w t → k ≡ firstTerm q → Seeking q dials w t k
+seeking-starts {q} a e = record {
+  vocabulary = a .policy .vocabulary;
+  place = 1;
+  asking = asking-starts (a .policy .accepted) e (record { within = all-of (policyOf q) (λ c m. m); told = refl });
+}
 
-      module _ (s : ℕ) (l : Policy) (r : Rest q w t s (termAt q k ∷ l)) where
-        pub rest-found : b ≡ true → (k ≡ 0 → ⊥) → Reads q (childOf q k) (termAt q k) → depth (termAt q k) ≤ mostDepth → Taker q w t k
-        rest-found h n i d = term-takes h n (record { reads = i; shallow = d; within = head (r .within) })
+module _ {q dials w : List ℕ} {t : Tables} {k : ℕ} (s : Seeking q dials w t k) where
+  pub seeking-ends : {r : Taken} → r .term ≡ 0 → k ≡ 0 → Taker q dials w t r
+  seeking-ends z h = record { known = λ n. absurd (n z); takes = λ n. absurd (n z); none = λ _. sym (asking-ends (s .asking) h .told) }
 
-        pub rest-on : b ≡ false → Rest q w t (s + 1) l
-        rest-on h = record {
-          within = tail (r .within);
-          told = λ K u d.
-              ap (λ (x : Bool). x || any (λ c. subsumed K c (u .node) (u .successors)) l) (sym h ∙ tells-term K u d) ∙ r .told K u d;
+  module _ (n : k ≡ 0 → ⊥) where
+    pub seeking-term : Term q k
+    seeking-term = asking-found (s .asking) n (λ l r. record { reads = asking-term (s .asking) n .reads; shallow = asking-term (s .asking) n .shallow; within = head (r .within) })
+
+    pub seeking-falls : {x : ℕ} → x ≡ nextOf q k → falling (lastOf 6 q) x < falling (lastOf 6 q) k
+    seeking-falls e = asking-falls (s .asking) n e
+
+    module _ {j : ℕ} (e : j ≡ childOf q k) where
+      pub seeking-testable : Askable q dials w t → Testable q dials w t mostDepth j
+      seeking-testable a = term-testable k e a seeking-term
+
+      module _ {one : Reason} (f : TellsAll q dials w t j 1 one) where
+        pub seeking-found : {r : Taken} → r .term ≡ k → r .dials ≡ one .dials → one .holds ≡ true → Taker q dials w t r
+        seeking-found et ed h = term-takes k e f n seeking-term et ed h
+
+        pub seeking-on : {x : ℕ} → one .holds ≡ false → x ≡ nextOf q k → Seeking q dials w t x
+        seeking-on h z = record {
+          vocabulary = s .vocabulary;
+          place = s .place + 1;
+          asking = asking-on (s .asking) n z (λ l r. record {
+            within = tail (r .within);
+            told = ap (λ (b : Bool). b || any (λ c. holdsAt (pieceAt w) w t c 1) l) (sym h ∙ tells k e f) ∙ r .told;
+          });
         }
-
--- what one of them takes passes
-pub taken : {q w : List ℕ} {t : Tables} {k : ℕ} → Taker q w t k → (k ≡ 0 → ⊥) →
-    (K : Vocabulary) (u : Form) → Combined K u w t → passes K (policyOf q) u ≡ true
-unfolding passes
-taken {q} a n K u d =
-    let s = any-in (λ c. subsumed K c (u .node) (u .successors)) (at-any (a .known n .within) (isTrue (a .takes n K u d))) in
-    same-test (passes K (policyOf q) u) true (λ x. tt) (λ x. s)

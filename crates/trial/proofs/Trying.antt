@@ -1,221 +1,269 @@
--- Laws of the trial: the combinations before the one that the tables stand at have passed.
-use Prim.Native.Nat.{_-_, _<_, suc, zero, ℕ}
-use mathlib.Core.Bool.{false, true}
+-- Laws of the trial: what is known at the combination that the tables stand at, and how the search goes on and ends.
+use Prim.Native.Nat.{_+_, _-_, _<_, _≤_, suc, zero, ℕ}
+use mathlib.Core.Bool.{Bool, _||_, true}
 use mathlib.Core.List.{List, [], _∷_}
-use mathlib.Core.Path.{_∙_, _≡_, ap, refl, subst, sym}
-use lib.ListN.{drop, length}
+use mathlib.Core.Logic.{⊎-elim}
+use mathlib.Core.Path.{_∙_, _≡_, ap, ap₂, fun-ext, refl, subst, sym}
+use native.Mathlib.Nat.{zero-mul}
 use native.Mathlib.Omega.{arith}
+use lib.Dec.{T, eqb}
+use lib.ListN.{getD, length}
 use Rattle.frames.proofs.Frames.{only-none, only-then}
 use Rattle.frames.specs.Frames.{Only}
 use Rattle.layout.proofs.Filling.{combined}
-use Rattle.layout.specs.Combination.{Combined}
-use Rattle.layout.specs.Tables.{Pieces, Tabled, pieceAt}
+use Rattle.layout.proofs.Nesting.{nested-kept}
+use Rattle.layout.specs.Tables.{Pieces, Tabled, constraintAt, pieceAt}
 use Rattle.layout.specs.declared.Tables.{Tables}
-use Rattle.meaning.proofs.Count.{count-combinations}
 use Rattle.meaning.proofs.Filling.{fill}
-use Rattle.meaning.proofs.Picks.{AllNonEmpty}
-use Rattle.meaning.proofs.Whole.{whole-passes}
+use Rattle.meaning.proofs.Odometer.{at-lt}
+use Rattle.meaning.proofs.Points.{Inside, pieces-part}
+use Rattle.meaning.proofs.Rules.{and-T, any-in, at-any, eqb-of, head, isTrue, order, same-test, tail}
 use Rattle.meaning.specs.Containment.{passes}
+use Rattle.meaning.specs.Intervals.{Constraint, NonEmpty, isInside}
 use Rattle.meaning.specs.Limits.{mostCombinations}
-use Rattle.meaning.specs.Lists.{At, atHere, atThere, firstFailing, found, nowhere}
+use Rattle.meaning.specs.Lists.{All, At, any, atHere, atThere, firstFailing, found}
 use Rattle.meaning.specs.NormalForm.{Form}
 use Rattle.meaning.specs.Policy.{Policy, policyOf}
-use Rattle.meaning.specs.Splitting.{combinationCount, combinations, constraintsOf, product}
+use Rattle.meaning.specs.Splitting.{combinations, constraintsOf, pieces, product}
+use Rattle.meaning.specs.Subsumption.{includes}
 use Rattle.meaning.specs.Vocabulary.{Vocabulary}
+use Rattle.odometer.proofs.Dials.{one-piece}
+use Rattle.odometer.proofs.Digits.{behind-first, mask-bit}
+use Rattle.odometer.proofs.Numbers.{low-lt, value-split}
+use Rattle.odometer.proofs.Weights.{product-span}
+use Rattle.odometer.specs.Digits
+use Rattle.odometer.specs.Digits.{Covers, Valid, inMask, span, value}
+use Rattle.odometer.specs.Odometer.{Dialled, Outcome, Skippable, Skipped, Standing, StandsAt}
 use Rattle.splitting.proofs.Callers.{constraints-at, splittable-kept, tabled-turned}
-use Rattle.splitting.proofs.Places.{stands-combination, stands-lt}
-use Rattle.splitting.proofs.Storing.{constraints-kept}
-use Rattle.splitting.proofs.Whole.{widened-form}
-use Rattle.splitting.specs.Odometer.{Splittable, Stands, Started, Stepped, Turned, Widened, firstConstraints}
-use Rattle.trial.proofs.Whole.{constraints-nonEmpty}
-use Rattle.trial.specs.Trials.{Askable, Triable, Tried}
+use Rattle.splitting.proofs.Storing.{constraint-kept, constraints-kept}
+use Rattle.splitting.specs.Constraints.{firstConstraints, pieceCount}
+use Rattle.subsumption.proofs.Callers.{holds-filled}
+use Rattle.subsumption.specs.Tests.{Agrees, Chooses, holdsAt}
+use Rattle.trial.proofs.Searching.{Passes, at-same, chosen, chosen-at, placed, search-ends, search-fails}
+use Rattle.trial.specs.Trials.{Askable, Failure, Known, Searchable, Taker, Tried}
+use Rattle.trial.specs.declared.Taken.{Taken}
 
--- ---- the list of combinations, from one place on
+at-all : {A : Type 0} {P : A → Type 0} {x : A} {l : List A} {i : ℕ} → All P l → At x l i → P x
+at-all {P = P} h (atHere e) = subst P (sym e) (head h)
+at-all h (atThere a) = at-all (tail h) a
 
-module _ {A : Type 0} {x : A} where
-  drop-at : {l : List A} {k : ℕ} → At x l k → drop k l ≡ x ∷ drop (suc k) l
-  drop-at (atHere {l = l} e) = ap (λ y. y ∷ l) (sym e)
-  drop-at (atThere a) = drop-at a
+-- ---- a piece lies inside its constraint
 
-  drop-end : {l : List A} {k : ℕ} → At x l k → suc k ≡ length l → drop (suc k) l ≡ []
-  drop-end (atHere {l = []} e) h = refl
-  drop-end (atHere {l = y ∷ l} e) h = absurd (omega arith)
-  drop-end (atThere a) h = drop-end a (omega arith)
+module _ (Q : Policy) (s p : Constraint) (f : NonEmpty (s .lo) (s .hi)) {d : ℕ} (a : At p (pieces Q s) d) where
+  inside : Inside s p
+  inside = at-all (pieces-part Q s f) a .inside
 
--- at counter c, counted from 1: those before c have passed; at 0 all have
-abbrev pub Going : Vocabulary → Policy → Form → ℕ → Type 0
-Going K Q F zero = firstFailing (passes K Q) 1 (combinations Q F) ≡ nowhere
-Going K Q F (suc k) = firstFailing (passes K Q) 1 (combinations Q F) ≡ firstFailing (passes K Q) (suc k) (drop k (combinations Q F))
+  piece-inside : T (includes (s .feature) (s .lo) (s .hi) p)
+  piece-inside = and-T (eqb (s .feature) (p .feature)) (isInside (s .lo) (s .hi) (p .lo) (p .hi)) (eqb-of (s .feature) (p .feature) (sym (inside .same))) (inside .inside)
 
-module _ (K : Vocabulary) (Q : Policy) (F u : Form) (k : ℕ) (a : At u (combinations Q F) k) (g : Going K Q F (suc k)) where
-  fails : passes K Q u ≡ false → firstFailing (passes K Q) 1 (combinations Q F) ≡ found (suc k) u
-  fails e = g ∙ ap (firstFailing (passes K Q) (suc k)) (drop-at a) ∙ rw e
+-- ---- what the terms take passes
 
-  goes : passes K Q u ≡ true → Going K Q F (suc (suc k))
-  goes e = g ∙ ap (firstFailing (passes K Q) (suc k)) (drop-at a) ∙ rw e
+pub passes-held : (Q : Policy) {K : Vocabulary} {F : Form} {w : List ℕ} {t : Tables} → Tabled K F w t → (v : ℕ → Constraint) →
+    any (λ c. holdsAt v w t c 1) Q ≡ passes K Q (fill v F)
+unfolding passes
+passes-held [] h v = refl
+passes-held (c ∷ l) h v = ap₂ (λ (a b : Bool). a || b) (holds-filled h v c) (passes-held l h v)
 
-  ends : passes K Q u ≡ true → suc k ≡ length (combinations Q F) → Going K Q F 0
-  ends e h = goes e ∙ ap (firstFailing (passes K Q) (suc (suc k))) (drop-end a h)
+pub taken-any : {q dials w : List ℕ} {t : Tables} {taken : Taken} → Taker q dials w t taken → (taken .term ≡ 0 → ⊥) → (v : ℕ → Constraint) → Chooses v w (t .constraints) →
+    Agrees dials w (taken .dials) v → any (λ c. holdsAt v w t c 1) (policyOf q) ≡ true
+taken-any {q} {w = w} {t = t} a some v c g =
+    same-test (any (λ c. holdsAt v w t c 1) (policyOf q)) true (λ _. tt)
+    (λ _. any-in (λ c. holdsAt v w t c 1) (at-any (a .known some .within) (isTrue (a .takes some v c g))))
 
-counted : (Q : Policy) (F : Form) → length (combinations Q F) ≡ product Q (constraintsOf F)
-unfolding combinationCount
-counted Q F = count-combinations Q F
+-- ---- the first combination
+
+value-none : (s : ℕ → ℕ) (n : ℕ) → value s (λ i. 0) n ≡ 0
+value-none s zero = refl
+value-none s (suc n) = rw (value-none s n) (omega (arith, zero-mul (s n)))
 
 -- ---- the loop
 
-askable-kept : {q w w′ : List ℕ} {t : Tables} {n : ℕ} → Only (Pieces n) w w′ → Askable q w t → Askable q w′ t
-askable-kept k a = record {
-  standing = record { long = omega arith; individuals = a .standing .individuals; constraints = a .standing .constraints };
-  some = a .some;
-  vocabulary = a .vocabulary;
-  accepted = a .accepted;
-}
+-- what is asked of combinations by their digits is so where some term of q takes their pieces
+abbrev Admits : List ℕ → List ℕ → Tables → ((ℕ → ℕ) → Bool) → Type 0
+Admits q w₀ t P = (w : List ℕ) → Only (Pieces (t .constraints)) w₀ w → (e : ℕ → ℕ) → Valid (pieceCount (policyOf q) w₀) (t .constraints) e →
+    any (λ c. holdsAt (chosen (policyOf q) w₀ e) w t c 1) (policyOf q) ≡ true → P e ≡ true
 
--- the tables stand at combination c, counted from 1; at 0 nothing is left
-abbrev pub StandsAt : Policy → List ℕ → ℕ → ℕ → Type 0
-StandsAt Q w n zero = Unit {0}
-StandsAt Q w n (suc k) = Stands Q w n k
+-- at counter c, counted from 1, the tables stand at that combination, and those before it are known to pass; at 0 all are. Term k took the last one
+pub record Trying (q dials earlier w₀ w : List ℕ) (t : Tables) (c k : ℕ) : Type 0 where
+  pub only : Only (Pieces (t .constraints)) w₀ w
+  pub size : length earlier ≡ length dials
+  pub last : Known q k
+  pub state : (P : (ℕ → ℕ) → Bool) → Admits q w₀ t P → Outcome (policyOf q) P dials earlier w (t .constraints) c
 
--- how many are left
+-- how many may be left
 abbrev pub left : ℕ → ℕ
 left zero = 0
 left (suc k) = suc (mostCombinations - k)
 
--- nothing but pieces has changed, and what was tried has passed, for whatever form the tables held at first
-pub record Trying (q w₀ w : List ℕ) (t : Tables) (c : ℕ) : Type 0 where
-  pub only : Only (Pieces (t .constraints)) w₀ w
-  pub standing : StandsAt (policyOf q) w (t .constraints) c
-  pub going : (K : Vocabulary) (F : Form) → Tabled K F w₀ t → Going K (policyOf q) F c
-
-module _ {q e w₀ : List ℕ} {t : Tables} (r : Triable q e w₀ t) where
+module _ {q e dials counts earlier₀ w₀ : List ℕ} {t : Tables} (r : Searchable q e dials counts earlier₀ w₀ t) where
   abbrev Q : Policy
   Q = policyOf q
 
   abbrev n : ℕ
   n = t .constraints
 
-  pub trying-starts : {w : List ℕ} → Started n w w₀ → Trying q w₀ w₀ t 1
-  trying-starts s = record { only = only-none; standing = s .stands Q; going = λ K F h. refl }
+  pub trying-starts : Trying q dials earlier₀ w₀ w₀ t 1 0
+  trying-starts = record {
+    only = only-none;
+    size = r .size;
+    last = λ z. absurd (z refl);
+    state = λ P a. (
+      λ i. 0,
+      record {
+        stands = r .first Q;
+        number = ap suc (value-none (pieceCount Q w₀) n);
+        known = λ d h. behind-first refl;
+      },
+    );
+  }
 
-  module _ {w : List ℕ} {c : ℕ} (y : Trying q w₀ w t c) where
-    pub trying-askable : Askable q w t
-    trying-askable = askable-kept (y .only) (r .askable)
+  module _ {earlier w : List ℕ} {c k : ℕ} (y : Trying q dials earlier w₀ w t c k) where
+    sizes : pieceCount Q w ≡ pieceCount Q w₀
+    sizes = fun-ext (λ j. ap (λ x. length (pieces Q x)) (constraint-kept (y .only) j))
 
-    pub trying-splittable : Splittable w n
-    trying-splittable = splittable-kept (y .only) (r .splittable)
+    there : (e : ℕ → ℕ) → Valid (pieceCount Q w) n e → Valid (pieceCount Q w₀) n e
+    there e v = subst (λ (s : ℕ → ℕ). Valid s n e) sizes v
 
-    -- the form that the tables held at first, with the pieces that they hold now
+    back : (e : ℕ → ℕ) → Valid (pieceCount Q w₀) n e → Valid (pieceCount Q w) n e
+    back e v = subst (λ (s : ℕ → ℕ). Valid s n e) (sym sizes) v
+
+    full-now : (m : ℕ) → m < n → NonEmpty (constraintAt w m .lo) (constraintAt w m .hi)
+    full-now m h = rw (constraint-kept (y .only) m) (r .turnable .triable .splittable .full m h)
+
+    now-dialled : Dialled dials w n
+    now-dialled = record {
+      dial = λ d h. rw (constraint-kept (y .only) (getD dials d 0)) (r .turnable .dialled .dial d h);
+      rising = r .turnable .dialled .rising;
+      all = λ m h l. r .turnable .dialled .all m h (rw (constraint-kept (y .only) m) at l);
+    }
+
+    -- a constraint that is no dial has one piece
+    still : (j : ℕ) → j < n → ((d : ℕ) → d < length dials → getD dials d 0 ≡ j → ⊥) → pieceCount Q w₀ j ≡ 1
+    still j h f = ⊎-elim
+        (λ a. let x = r .turnable .dialled .all j h a in absurd (f (x .0) (x .1) (x .2)))
+        (λ a. let b = r .turnable .triable .splittable .full j h in one-piece Q (constraintAt w₀ j) (omega arith)) (order (constraintAt w₀ j .lo) (constraintAt w₀ j .hi))
+
+    -- ---- the form that the tables held at first
+
     module _ (K : Vocabulary) (F : Form) (h : Tabled K F w₀ t) where
-      now-tabled : Tabled K F w t
-      now-tabled = tabled-turned h (y .only) (r .askable .standing .individuals, r .askable .standing .constraints)
+      same : constraintsOf F ≡ firstConstraints w₀ n
+      same = sym (constraints-at h)
 
-      now-combined : Combined K (fill (pieceAt w) F) w t
-      now-combined = combined K F w t now-tabled
+      tabled-now : (w : List ℕ) → Only (Pieces n) w₀ w → Tabled K F w t
+      tabled-now w o = tabled-turned h o (r .turnable .triable .standing .individuals, r .turnable .triable .standing .constraints)
 
-      constraints-now : constraintsOf F ≡ firstConstraints w n
-      constraints-now = sym (constraints-at now-tabled)
+      admits : Admits q w₀ t (Passes K Q F w₀ n same)
+      admits w o e v h = sym (passes-held Q (tabled-now w o) (chosen Q w₀ e)) ∙ h
 
     pub trying-ends : c ≡ 0 → Tried Q w₀ w t 0
-    trying-ends z = record { told = λ K F h. rw z at (y .going K F h); only = y .only }
-
-  -- at a combination
-  module _ {w : List ℕ} (k : ℕ) (y : Trying q w₀ w t (suc k)) where
-    here : (K : Vocabulary) (F : Form) → Tabled K F w₀ t → At (fill (pieceAt w) F) (combinations Q F) k
-    here K F h = stands-combination Q F w n k (constraints-now y K F h) (y .standing)
-
-    below : k < mostCombinations
-    below = let l = stands-lt Q w n k (y .standing) in omega (arith, ap (product Q) (constraints-kept (y .only) n))
-
-    fails-here : ((K : Vocabulary) (u : Form) → Combined K u w t → passes K Q u ≡ false) → Tried Q w₀ w t (suc k)
-    fails-here p = record {
-      told = λ K F h.
-          let d = now-combined y K F h in
-          (fill (pieceAt w) F, fails K Q F _ k (here K F h) (y .going K F h) (p K _ d), d);
+    trying-ends z = record {
+      told = λ K F h. search-ends K Q F w₀ n (same K F h) (λ e v. subst (Outcome Q (Passes K Q F w₀ n (same K F h)) dials earlier w n) z (y .state _ (admits K F h)) e (back e v));
       only = y .only;
     }
 
-    module _ {w′ : List ℕ} {d : ℕ} (s : Stepped e n (suc k) w w′ d) where
-      last : Turned Q n w w′ (suc k) 0 → (K : Vocabulary) (F : Form) → Tabled K F w₀ t → suc k ≡ length (combinations Q F)
-      last m K F h = m ∙ ap (product Q) (sym (constraints-now y K F h)) ∙ sym (counted Q F)
+    -- ---- at a combination
 
-      on-here : ((K : Vocabulary) (u : Form) → Combined K u w t → passes K Q u ≡ true) → Trying q w₀ w′ t d
-      on-here p = go d (s .turned Q k (r .ends) refl (y .standing))
+    module _ (z : c ≡ 0 → ⊥) where
+      standing : (P : (ℕ → ℕ) → Bool) → Admits q w₀ t P → (d : ℕ → ℕ) × Standing Q P dials earlier w n d c
+      standing P a = go c z (y .state P a)
         where
-          go : (d : ℕ) → Turned Q n w w′ (suc k) d → Trying q w₀ w′ t d
-          go zero m = record {
+          go : (c : ℕ) → (c ≡ 0 → ⊥) → Outcome Q P dials earlier w n c → (d : ℕ → ℕ) × Standing Q P dials earlier w n d c
+          go zero z o = absurd (z refl)
+          go (suc c) z o = o
+
+      plain : (d : ℕ → ℕ) × Standing Q (λ e. true) dials earlier w n d c
+      plain = standing (λ e. true) (λ w o e v h. refl)
+
+      pub trying-askable : Askable q dials w t
+      trying-askable = record {
+        testing = record {
+          standing = record { long = omega (arith, y .only .size, r .turnable .triable .standing .long); individuals = r .turnable .triable .standing .individuals; constraints = r .turnable .triable .standing .constraints };
+          nested = nested-kept (y .only) (r .turnable .triable .standing .individuals) (r .turnable .triable .nested);
+          split = λ m h. piece-inside Q (constraintAt w m) (pieceAt w m) (full-now m h) (plain .1 .stands m h);
+          full = λ m h. inside Q (constraintAt w m) (pieceAt w m) (full-now m h) (plain .1 .stands m h) .nonEmpty;
+          known = now-dialled .all;
+          few = r .turnable .few;
+        };
+        some = r .turnable .triable .some;
+        policy = r .turnable .triable .policy;
+      }
+
+      few-now : product Q (firstConstraints w n) ≤ mostCombinations
+      few-now = rw (constraints-kept (y .only) n) (r .turnable .triable .few)
+
+      below : c ≤ mostCombinations
+      below =
+          let d = plain .0 in
+          let s = pieceCount Q w in
+          let v : (j : ℕ) → j < 0 + n → d j < s j = λ j l. at-lt (plain .1 .stands j (omega arith)) in
+          let a = value-split s d 0 n in
+          let l = low-lt s d 0 n v in
+          let x : 0 + n ≡ n = omega arith in
+          let b = ap (value s d) x in
+          omega (arith, a, l, b, zero-mul (span s 0 n), plain .1 .number, product-span Q w n, few-now)
+
+      pub trying-skippable : Skippable e dials counts earlier w n c
+      trying-skippable = record {
+        split = record { splittable = splittable-kept (y .only) (r .turnable .triable .splittable); policy = Q; ends = r .turnable .triable .ends; few = few-now };
+        dialled = now-dialled;
+        few = r .turnable .few;
+        counted = record { size = r .counted .size; count = λ P a d h. r .counted .count P a d h ∙ ap (λ x. length (pieces P x)) (sym (constraint-kept (y .only) (getD dials d 0))) };
+        size = y .size;
+        number = (omega arith, below);
+      }
+
+      -- no term takes it
+      pub trying-fails : {taken : Taken} → Taker q dials w t taken → taken .term ≡ 0 → Tried Q w₀ w t c
+      trying-fails {taken} a h = record { told = λ K F g. go K F g c z refl; only = y .only }
+        where
+          go : (K : Vocabulary) (F : Form) → Tabled K F w₀ t → (i : ℕ) → (i ≡ 0 → ⊥) → i ≡ c → Failure K Q F w t i
+          go K F g zero f e = absurd (f refl)
+          go K F g (suc i) f e =
+              let s = standing (Passes K Q F w₀ n (same K F g)) (admits K F g) in
+              let d = s .0 in
+              let u = fill (pieceAt w) F in
+              let here : (j : ℕ) → j < n → At (pieceAt w j) (pieces Q (constraintAt w₀ j)) (d j) =
+              λ j l. subst (λ x. At (pieceAt w j) (pieces Q x) (d j)) (constraint-kept (y .only) j) (s .1 .stands j l) in
+              let k : suc (value (pieceCount Q w₀) d n) ≡ suc i = ap (λ (x : ℕ → ℕ). suc (value x d n)) (sym sizes) ∙ s .1 .number ∙ sym e in
+              let known : Digits.Known (pieceCount Q w₀) n (Passes K Q F w₀ n (same K F g)) dials earlier d =
+              subst (λ (x : ℕ → ℕ). Digits.Known x n (Passes K Q F w₀ n (same K F g)) dials earlier d) sizes (s .1 .known) in (
+                u,
+                subst (λ (x : ℕ). firstFailing (passes K Q) 1 (combinations Q F) ≡ found x u) k
+                    (search-fails K Q F w₀ n (same K F g) dials earlier (r .turnable .dialled) still d (λ j l. at-lt (here j l)) known u
+                    (placed K Q F w₀ n (same K F g) d (pieceAt w) here) (sym (passes-held Q (tabled-now K F g w (y .only)) (pieceAt w)) ∙ a .none h)),
+                combined K F w t (tabled-now K F g w (y .only)),
+              )
+
+      -- a term takes it: the search goes on behind what that covers
+      module _ {taken : Taken} (a : Taker q dials w t taken) (some : taken .term ≡ 0 → ⊥) where
+        covers : (P : (ℕ → ℕ) → Bool) → Admits q w₀ t P → (d : ℕ → ℕ) → StandsAt Q w n d → Covers (pieceCount Q w) n P d n (inMask dials (taken .dials))
+        covers P admit d stands = record { pass = λ e v agree. admit w (y .only) e (there e v) (held e v agree) }
+          where
+            held : (e : ℕ → ℕ) → Valid (pieceCount Q w) n e → ((j : ℕ) → j < n → inMask dials (taken .dials) j ≡ true → e j ≡ d j) →
+                any (λ c. holdsAt (chosen Q w₀ e) w t c 1) Q ≡ true
+            held e v agree =
+                let at : (j : ℕ) → j < n → At (chosen Q w₀ e j) (pieces Q (constraintAt w j)) (e j) =
+                λ j l. subst (λ x. At (chosen Q w₀ e j) (pieces Q x) (e j)) (sym (constraint-kept (y .only) j)) (chosen-at Q w₀ n e (there e v) j l) in
+                taken-any a some (chosen Q w₀ e) (λ m l. piece-inside Q (constraintAt w m) (chosen Q w₀ e m) (full-now m l) (at m l))
+                (record {
+                  same = λ f l m. let g = now-dialled .dial f l in
+                      at-same (at (getD dials f 0) (g .0)) (subst (At (pieceAt w (getD dials f 0)) (pieces Q (constraintAt w (getD dials f 0))))
+                      (sym (agree (getD dials f 0) (g .0) (mask-bit dials (taken .dials) (getD dials f 0) f l refl m))) (stands (getD dials f 0) (g .0)));
+                })
+
+        module _ {w′ earlier′ : List ℕ} {c′ : ℕ} (s : Skipped e dials earlier earlier′ n (taken .dials) c w w′ c′) where
+          pub trying-on : {k′ : ℕ} → k′ ≡ taken .term → Trying q dials earlier′ w₀ w′ t c′ k′
+          trying-on z = record {
             only = only-then (y .only) (s .only);
-            standing = tt;
-            going = λ K F h. ends K Q F _ k (here K F h) (y .going K F h) (p K _ (now-combined y K F h)) (last m K F h);
-          }
-          go (suc j) m = record {
-            only = only-then (y .only) (s .only);
-            standing = rw (m .0) (m .1);
-            going = λ K F h. rw (m .0) (goes K Q F _ k (here K F h) (y .going K F h) (p K _ (now-combined y K F h)));
+            size = s .size ∙ y .size;
+            last = λ f. rw z (a .known (λ v. f (z ∙ v)));
+            state = λ P admit. let x = standing P admit in s .told Q P (x .0) (r .turnable .triable .ends) (x .1) (covers P admit (x .0) (x .1 .stands));
           }
 
-      falls-here : left d < left (suc k)
-      falls-here = go d (s .turned Q k (r .ends) refl (y .standing))
-        where
-          go : (d : ℕ) → Turned Q n w w′ (suc k) d → left d < left (suc k)
-          go zero m = omega arith
-          go (suc j) m = let l = below in omega arith
-
-  -- the same for a counter that is not 0
-  module _ {w : List ℕ} {c : ℕ} (y : Trying q w₀ w t c) (z : c ≡ 0 → ⊥) where
-    pub trying-below : c < 4294967295
-    trying-below = go c y z
-      where
-        go : (c : ℕ) → Trying q w₀ w t c → (c ≡ 0 → ⊥) → c < 4294967295
-        go zero y z = absurd (z refl)
-        go (suc k) y z = omega (arith, below k y)
-
-    pub trying-fails : ((K : Vocabulary) (u : Form) → Combined K u w t → passes K Q u ≡ false) → Tried Q w₀ w t c
-    trying-fails p = go c y z
-      where
-        go : (c : ℕ) → Trying q w₀ w t c → (c ≡ 0 → ⊥) → Tried Q w₀ w t c
-        go zero y z = absurd (z refl)
-        go (suc k) y z = fails-here k y p
-
-    module _ {w′ : List ℕ} {d : ℕ} (s : Stepped e n c w w′ d) where
-      pub trying-on : ((K : Vocabulary) (u : Form) → Combined K u w t → passes K Q u ≡ true) → Trying q w₀ w′ t d
-      trying-on p = go c y z s
-        where
-          go : (c : ℕ) → Trying q w₀ w t c → (c ≡ 0 → ⊥) → Stepped e n c w w′ d → Trying q w₀ w′ t d
-          go zero y z s = absurd (z refl)
-          go (suc k) y z s = on-here k y s p
-
-      pub trying-falls : left d < left c
-      trying-falls = go c y z s
-        where
-          go : (c : ℕ) → Trying q w₀ w t c → (c ≡ 0 → ⊥) → Stepped e n c w w′ d → left d < left c
-          go zero y z s = absurd (z refl)
-          go (suc k) y z s = falls-here k y s
-
--- ---- before the first combination stands there
-
-module _ {q e w w₀ : List ℕ} {t : Tables} (r : Triable q e w t) (k : Only (Pieces (t .constraints)) w w₀) where
-  pub kept-triable : Triable q e w₀ t
-  kept-triable = record {
-    askable = askable-kept k (r .askable);
-    splittable = splittable-kept k (r .splittable);
-    ends = r .ends;
-    few = rw (constraints-kept k (t .constraints)) (r .few);
-  }
-
-  pub kept-tried : {w′ : List ℕ} {c : ℕ} → Tried (policyOf q) w₀ w′ t c → Tried (policyOf q) w w′ t c
-  kept-tried y = record {
-    told = λ K F h. y .told K F (tabled-turned h k (r .askable .standing .individuals, r .askable .standing .constraints));
-    only = only-then k (y .only);
-  }
-
--- the constraints whole have passed
-pub whole-tried : {q e w w′ : List ℕ} {t : Tables} → Triable q e w t → (a : Widened (t .constraints) w w′) →
-    ((K : Vocabulary) (u : Form) → Combined K u w′ t → passes K (policyOf q) u ≡ true) → Tried (policyOf q) w w′ t 0
-whole-tried {q} {w = w} {w′ = w′} {t = t} r a p = record {
-  told = λ K F h.
-      let g : Tabled K F w′ t = tabled-turned h (a .only) (r .askable .standing .individuals, r .askable .standing .constraints) in
-      let e : fill (pieceAt w′) F ≡ F = widened-form a F (sym (constraints-at g)) in
-      whole-passes K (policyOf q) F (subst AllNonEmpty (constraints-at h) (constraints-nonEmpty w (t .constraints) (r .splittable .full)))
-      (rw e at (p K (fill (pieceAt w′) F) (combined K F w′ t g)));
-  only = a .only;
-}
+          pub trying-falls : left c′ < left c
+          trying-falls = go c z below c′ (s .rises)
+            where
+              go : (c : ℕ) → (c ≡ 0 → ⊥) → c ≤ mostCombinations → (d : ℕ) → ((d ≡ 0 → ⊥) → c < d) → left d < left c
+              go zero f b d h = absurd (f refl)
+              go (suc c) f b zero h = omega arith
+              go (suc c) f b (suc d) h = let l = h (λ v. omega arith) in omega arith

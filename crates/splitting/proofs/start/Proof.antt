@@ -3,9 +3,9 @@ use borrow.Author.Needs.{needs}
 use Prim.Native.Nat.{_-_, _≤_}
 use mathlib.Core.Path.{_≡_}
 use native.Mathlib.Omega.{arith}
-use Rattle.splitting.proofs.Turning.{started-more, started-none}
+use Rattle.splitting.proofs.Starting.{started-more, started-none}
 use Rattle.splitting.proofs.start.Statement.{statement}
-use Rattle.splitting.specs.Odometer.{Started}
+use Rattle.splitting.specs.Constraints.{Started}
 use Rattle.splitting.proofs.start.Tie as tie
 
 abbrev Inv-loop : tie.InvT-loop

@@ -5,7 +5,7 @@ use mathlib.Core.Path.{_≡_}
 use native.Mathlib.Omega.{arith}
 use Rattle.splitting.proofs.Whole.{widened-more, widened-none}
 use Rattle.splitting.proofs.widen.Statement.{statement}
-use Rattle.splitting.specs.Odometer.{Widened}
+use Rattle.splitting.specs.Constraints.{Widened}
 use Rattle.splitting.proofs.widen.Tie as tie
 
 abbrev Inv-loop : tie.InvT-loop

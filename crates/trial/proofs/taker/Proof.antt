@@ -1,29 +1,22 @@
--- `taker`: the last one takes the combination, or all are asked.
-use native.Mathlib.Omega.{arith}
+-- `taker`: the term that took the last combination first, then all.
 use borrow.Author.Needs.{needs}
-use Rattle.trial.proofs.Passing.{term-takes, testable-term}
+use mathlib.Core.Path.{refl}
+use native.Mathlib.Omega.{arith}
+use Rattle.trial.proofs.Passing.{term-takes, term-testable}
 use Rattle.trial.proofs.taker.Statement.{statement}
 use Rattle.trial.proofs.taker.Tie as tie
 
-is-subsumed-requires : tie.Need-is-subsumed-requires
-is-subsumed-requires c κs =
-    let s = c .before .before .before .before in
-    let p = s .pre in
-    (testable-term _ _ _ (s .args .last) (c .child-of .ensures) (p .0) (p .1 (c .before .if1 .taken) .reads) (p .1 (c .before .if1 .taken) .shallow), omega arith, p .0 .some)
+test-requires : tie.Need-test-requires
+test-requires c κs =
+    let s = c .before .before .before .before .before in
+    (term-testable (s .args .last) (c .child-of .ensures) (s .pre .0) (s .pre .1 (c .before .if1 .taken)), omega arith, s .pre .0 .some)
 
 returns : tie.Need-returns
 returns c =
-    let s = c .before .before .before .before .before .before in
-    let n = c .before .before .before .if1 .taken in
-    let e = c .before .before .child-of .ensures in
-    term-takes _ _ _ (s .args .last) e (c .before .is-subsumed .ensures) (c .if2 .taken) n (s .pre .1 n)
+    let d = c .before .before in
+    let s = d .before .before .before .before .before in
+    let n = d .before .if1 .taken in
+    term-takes (s .args .last) (d .child-of .ensures) (c .before .test .ensures) n (s .pre .1 n) refl refl (c .if2 .taken)
 
 pub taker-spec : {M : Type 1} → statement M
-taker-spec =
-    tie.close
-    (tie.spec
-    (λ c κs. search needs)
-    is-subsumed-requires
-    returns
-    (λ c κs. c .before .before .before .pre .0)
-    (λ c. c .first-taker .ensures))
+taker-spec = tie.close (tie.spec (λ c κs. search needs) test-requires returns (λ c κs. search needs) (λ c. search needs))

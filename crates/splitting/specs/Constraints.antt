@@ -1,5 +1,5 @@
--- Document 01, "Splitting": the constraints of the tables, and the combination that stands beside them.
-use Prim.Native.Nat.{_*_, _+_, _<_, _≤_, min, suc, zero, ℕ}
+-- Document 01, "Splitting": the constraints of the tables, how many combinations they have, and the pieces that stand beside them.
+use Prim.Native.Nat.{_<_, _≤_, min, suc, ℕ}
 use mathlib.Core.List.{List, map}
 use mathlib.Core.Path.{_≡_}
 use lib.ListN.{length}
@@ -21,7 +21,7 @@ firstConstraints w n = map (constraintAt w) (counting 0 n)
 abbrev pub Full : List ℕ → ℕ → Type 0
 Full w n = (m : ℕ) → m < n → NonEmpty (constraintAt w m .lo) (constraintAt w m .hi)
 
--- what the odometer asks of the tables
+-- what splitting asks of the tables
 pub record Splittable (w : List ℕ) (n : ℕ) : Type 0 where
   pub few : n ≤ mostRecords
   pub long : tablesEnd ≤ length w
@@ -39,29 +39,12 @@ Few e n = (Q : Policy) → Ends Q e → (w : List ℕ) → product Q (firstConst
 abbrev pub Multiplied : List ℕ → List ℕ → ℕ → ℕ → Type 0
 Multiplied e w n r = (Q : Policy) → Ends Q e → r ≡ min (product Q (firstConstraints w n)) (suc mostCombinations)
 
--- the pieces of the first n constraints are those of combination k, counted from 0, "the last varying fastest":
--- the last one's piece stands at place d, and those before it are of combination j
-abbrev pub Stands : Policy → List ℕ → ℕ → ℕ → Type 0
-Stands Q w zero k = k ≡ 0
-Stands Q w (suc m) k =
-    (j : ℕ) × (d : ℕ) × (k ≡ j * pieceCount Q w m + d) × At (pieceAt w m) (pieces Q (constraintAt w m)) d × Stands Q w m j
-
 -- the piece of each of the first n constraints is the constraint
 pub record Widened (n : ℕ) (w w′ : List ℕ) : Type 0 where
   pub whole : (m : ℕ) → m < n → pieceAt w′ m ≡ constraintAt w′ m
   pub only : Only (Pieces n) w w′
 
--- what a step's answer says, from combination q, counted from 1: the next one's number, and 0 after the last
-abbrev pub Turned : Policy → ℕ → List ℕ → List ℕ → ℕ → ℕ → Type 0
-Turned Q n w w′ q zero = q ≡ product Q (firstConstraints w n)
-Turned Q n w w′ q (suc r) = (r ≡ q) × Stands Q w′ n q
-
--- the first combination, whatever the second policy is
+-- each of the first n constraints is at its first piece, whatever the second policy is
 pub record Started (n : ℕ) (w w′ : List ℕ) : Type 0 where
-  pub stands : (Q : Policy) → Stands Q w′ n 0
-  pub only : Only (Pieces n) w w′
-
--- one step, for whatever policy the pairs are the ends of
-pub record Stepped (e : List ℕ) (n q : ℕ) (w w′ : List ℕ) (r : ℕ) : Type 0 where
-  pub turned : (Q : Policy) (k : ℕ) → Ends Q e → q ≡ suc k → Stands Q w n k → Turned Q n w w′ q r
+  pub first : (Q : Policy) (m : ℕ) → m < n → At (pieceAt w′ m) (pieces Q (constraintAt w′ m)) 0
   pub only : Only (Pieces n) w w′

@@ -1,0 +1,3 @@
+-- Combinations by digits, and what the odometer leaves.
+pub mod Digits
+pub mod Odometer

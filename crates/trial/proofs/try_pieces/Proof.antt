@@ -1,0 +1,28 @@
+-- `try_pieces`.
+use borrow.Author.Needs.{needs}
+use Rattle.trial.proofs.Starting.{tried-kept, triable-split, turnable-kept, turnable-searchable}
+use Rattle.trial.proofs.try_pieces.Statement.{statement}
+use Rattle.trial.proofs.try_pieces.Tie as tie
+
+count-pieces-requires : tie.Need-count-pieces-requires
+count-pieces-requires c κs =
+    let r = c .before .before .before .before .before .before .before .before .before .before .before .before .pre in
+    let k = turnable-kept (r .0) (c .before .before .before .before .start .ensures .only) in
+    (triable-split (k .triable), k .dialled, r .1 .0)
+
+search-requires : tie.Need-search-requires
+search-requires c κs =
+    let r = c .before .before .before .before .before .before .before .before .before .before .before .before .before .before .before .before .before .before .pre in
+    turnable-searchable (r .0) (c .before .before .before .before .before .before .before .before .before .before .start .ensures) (c .before .before .before .before .before .count-pieces .ensures) (r .1 .1)
+
+pub try-pieces-spec : {M : Type 1} → statement M
+try-pieces-spec =
+    tie.close
+    (tie.spec
+    (λ c κs. search needs)
+    count-pieces-requires
+    search-requires
+    (λ c. search needs)
+    (λ c. search needs)
+    (λ c. search needs)
+    (λ c. tried-kept (c .before .before .before .before .before .before .before .before .before .before .before .before .before .before .before .before .before .before .before .before .before .before .before .pre .0) (c .before .before .before .before .before .before .before .before .before .before .before .before .before .before .before .start .ensures .only) (c .before .before .before .before .search .ensures)))
