@@ -2,7 +2,7 @@
 
 pub mod konclude;
 
-use reasoner::random::{damage, limits, Case};
+use reasoner::random::{damage, limits, slow, Case};
 use std::collections::BTreeMap;
 use std::ops::Range;
 use std::sync::atomic::{AtomicU64, Ordering};
@@ -25,7 +25,7 @@ pub enum Given<'a> {
     Seed(u64),
 }
 
-/// The cases at every limit and one for every directed fault, with their names.
+/// The cases at every limit, the slow models and one for every directed fault, with their names.
 fn directed() -> Vec<(String, Case)> {
     let limits =
         limits::cases().into_iter().map(|(name, case)| (format!("limit \"{name}\""), case));
@@ -34,7 +34,9 @@ fn directed() -> Vec<(String, Case)> {
         (fault.apply)(&mut case);
         (format!("fault \"{}\"", fault.name), case)
     });
-    limits.chain(faults).collect()
+    let slow =
+        slow::model_check().into_iter().map(|(name, case)| (format!("slow \"{name}\""), case));
+    limits.chain(slow).chain(faults).collect()
 }
 
 /// The answers so far, with how many cases had each.

@@ -4,12 +4,15 @@
 //! Konclude's is the time of one command for the first four pairs of the row, over their number, reading and start included: it
 //! answers three questions of each pair. Nothing here is a test; the answers are held to one another elsewhere.
 //!
+//! `bench slow SECONDS` looks for slow pairs for so long, by changing policies where that takes the library longer, and prints the slowest.
+//!
 //! `bench pairs SECONDS` decides everyday pairs with the library for so long, and prints how many.
 
 use gimbuka::Verdict;
 use judges::konclude::{empty_classes, Missing};
 use reasoner::random::everyday::{sized, Answer};
-use reasoner::random::{limits, Case};
+use reasoner::random::slow::{self, Pair};
+use reasoner::random::{limits, Case, Rng};
 use reasoner::FULL_WORK;
 use std::hint::black_box;
 use std::process::{Command, Stdio};
@@ -177,6 +180,46 @@ fn at_limits() {
     }
 }
 
+fn slowest() {
+    heading("the slowest inputs known");
+    for (name, case) in slow::compliance() {
+        row(&format!("compliance, {name}"), complied(&[case]), None);
+    }
+    for (name, case) in slow::model_check() {
+        row(&format!("model check, {name}"), checked(&[case]), None);
+    }
+}
+
+/// Microseconds of the library for a pair; none where a policy is too long.
+fn cost(pair: &Pair, lent: &mut Lent) -> Option<f64> {
+    let case = pair.case()?;
+    let mut round = || {
+        let start = Instant::now();
+        black_box(gimbuka::compliance(&case.v, &case.p, &case.q, &mut lent.work, &mut lent.out));
+        start.elapsed().as_secs_f64() * 1e6
+    };
+    Some(round().min(round()))
+}
+
+/// The slowest pair that a search of so many seconds finds, from several starts.
+fn search(seconds: f64) {
+    let mut lent = Lent { work: vec![0; FULL_WORK], out: vec![0; ROOM] };
+    for seed in 0..4 {
+        let mut rng = Rng::new(seed);
+        let mut pair = Pair::start(&mut rng);
+        let mut slow = cost(&pair, &mut lent).unwrap_or(0.0);
+        let start = Instant::now();
+        while start.elapsed().as_secs_f64() < seconds / 4.0 {
+            let other = pair.changed(&mut rng);
+            match cost(&other, &mut lent) {
+                Some(time) if time > slow => (pair, slow) = (other, time),
+                _ => {}
+            }
+        }
+        println!("from start {seed}: {slow:.0} microseconds, {pair}");
+    }
+}
+
 /// Everyday pairs that the library decides in so many seconds, half of them compliant.
 fn decide(seconds: f64) -> u64 {
     let cases: [[Case; 25]; 2] =
@@ -224,9 +267,11 @@ fn main() {
             everyday();
             growth();
             at_limits();
+            slowest();
             rate();
         }
         ["pairs", seconds] => println!("{}", decide(seconds.parse().expect("seconds"))),
-        _ => eprintln!("usage: bench | bench pairs SECONDS"),
+        ["slow", seconds] => search(seconds.parse().expect("seconds")),
+        _ => eprintln!("usage: bench | bench slow SECONDS | bench pairs SECONDS"),
     }
 }

@@ -70,19 +70,19 @@ fn makers() -> Vec<Maker> {
     ]
 }
 
-fn class(number: u32) -> Conjunct {
+pub(super) fn class(number: u32) -> Conjunct {
     Conjunct::Class(ClassNo(number))
 }
 
-fn within(feature: u32, lo: u32, hi: u32) -> Conjunct {
+pub(super) fn within(feature: u32, lo: u32, hi: u32) -> Conjunct {
     Conjunct::Within(FeatureNo(feature), lo, hi)
 }
 
-fn reaches(role: u32, inner: Term) -> Conjunct {
+pub(super) fn reaches(role: u32, inner: Term) -> Conjunct {
     Conjunct::Reaches(RoleNo(role), inner)
 }
 
-fn names(classes: u32, roles: u32, features: u32) -> Vocabulary {
+pub(super) fn names(classes: u32, roles: u32, features: u32) -> Vocabulary {
     Vocabulary { classes, roles, features, axioms: Vec::new() }
 }
 

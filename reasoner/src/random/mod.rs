@@ -12,6 +12,7 @@ pub mod limits;
 pub mod models;
 pub mod rng;
 pub mod shrink;
+pub mod slow;
 pub mod valid;
 
 use crate::FULL_WORK;
