@@ -10,6 +10,17 @@ use std::thread;
 
 const THREADS: usize = 2;
 
+/// The operations, in document 01's order.
+pub const OPERATIONS: [&str; 7] = [
+    "read_vocabulary",
+    "read_policy",
+    "read_second_policy",
+    "possible",
+    "compliance",
+    "equality",
+    "model_check",
+];
+
 /// The seeds that the words of a command line ask for, `[FIRST [COUNT]]`: from 0, and `usual` many, where nothing is said.
 pub fn seeds(words: impl Iterator<Item = String>, usual: u64) -> Range<u64> {
     let mut numbers = words.map(|word| word.parse::<u64>().expect("a number"));

@@ -5,7 +5,7 @@
 //! the case, made as small as still differs, and fails. An answer that no case has is a failure too: then the cases do not
 //! reach it.
 
-use judges::{Given, Tally};
+use judges::{Given, Tally, OPERATIONS};
 use reasoner::random::{shrink::shrink, Case};
 use std::process::ExitCode;
 
@@ -16,16 +16,6 @@ struct Told {
     work: [Vec<u32>; 4],
     out: [Vec<u32>; 2],
 }
-
-const OPERATIONS: [&str; 7] = [
-    "read_vocabulary",
-    "read_policy",
-    "read_second_policy",
-    "possible",
-    "compliance",
-    "equality",
-    "model_check",
-];
 
 /// What a side answers, given the slices as they are lent. Both sides have the same functions, so one text calls either.
 macro_rules! told {

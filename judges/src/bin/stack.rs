@@ -3,6 +3,7 @@
 //! `stack` calls every operation, for every case at a limit and every slow model, on a thread whose stack was painted, and prints the most
 //! bytes that each one touched, the thread's own among them. It fails where one touches more than a thread of 128 KB has.
 
+use judges::OPERATIONS;
 use reasoner::random::{limits, slow, Case};
 use reasoner::FULL_WORK;
 use std::alloc::{alloc, Layout};
@@ -18,16 +19,6 @@ const PAINTED: usize = 1 << 20;
 const MOST: usize = 128 << 10;
 const PAINT: u8 = 0xa5;
 const PAGE: usize = 4096;
-
-const OPERATIONS: [&str; 7] = [
-    "read_vocabulary",
-    "read_policy",
-    "read_second_policy",
-    "possible",
-    "compliance",
-    "equality",
-    "model_check",
-];
 
 /// Threads of POSIX.
 mod c {
