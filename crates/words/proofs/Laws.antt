@@ -16,7 +16,7 @@ use Rattle.meaning.proofs.Rules.{order}
 use Rattle.meaning.specs.Lists.{_∈_, counting, filter}
 use Rattle.meaning.specs.Records.{isName}
 use Rattle.words.proofs.Bits.{bit-none, bit-or, bit-pow}
-use Rattle.words.proofs.Lists.{Rising, filter-within, in-filter, rising-counting, rising-filter}
+use Rattle.words.proofs.Lists.{Rising, filter-in, filter-within, in-filter, rising-counting, rising-filter}
 use Rattle.words.proofs.Lists.{tally-add, tally-most, tally-ones, tally-shift}
 use Rattle.words.specs.Members.{members, setBits}
 use Rattle.words.specs.Sets.{capacity, inSet, including, testBit, unionOf}
@@ -144,6 +144,11 @@ in-union ws vs h (suc k) =
 pub members-rising : (ws : List ℕ) → Rising 0 (members ws)
 unfolding members
 members-rising ws = rising-filter (inSet ws) 0 (counting 1 (capacity ws)) (rising-counting 0 (capacity ws))
+
+-- what is listed is in the set
+pub listed-in : (ws : List ℕ) (c : ℕ) → c ∈ members ws → inSet ws c ≡ true
+unfolding members
+listed-in ws c i = filter-in (inSet ws) c (counting 1 (capacity ws)) i
 
 -- what is in the set has a bit in the words
 pub in-within : (ws : List ℕ) (c : ℕ) → inSet ws c ≡ true → (1 ≤ c) × (c ≤ capacity ws)

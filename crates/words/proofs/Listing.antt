@@ -1,21 +1,21 @@
 -- The members in rising order, each from the one before: what `next` says, and how it is found. Assumes nothing.
 use Prim.Native.Nat.{_%_, _*_, _+_, _-_, _/_, _<_, _^_, _≤_, suc, zero, ℕ}
 use lib.Count.{trailingZeros}
-use lib.Dec.{ltb}
-use lib.ListN.{getD}
+use lib.Dec.{eqb, ltb}
+use lib.ListN.{getD, length}
 use lib.Pow.{shr-le}
-use mathlib.Core.Bool.{false, true, true≢false}
+use mathlib.Core.Bool.{Bool, cond, false, true, true≢false}
 use mathlib.Core.List.{List, [], _∷_}
 use mathlib.Core.Logic.{⊎-elim}
 use mathlib.Core.Path.{_∙_, _≡_, ap, ap₂, refl, sym}
 use native.Mathlib.Omega.{arith}
-use borrow.Author.Tests.{le-ltb, lt-ltb}
+use borrow.Author.Tests.{eqb-false, eqb-true, le-ltb, lt-ltb}
 use Rattle.meaning.proofs.Rules.{order}
 use Rattle.meaning.specs.Lists.{counting}
 use Rattle.words.proofs.Bits.{below-lowest, bit-none, bit-past, bit-shift, lowest-set}
 use Rattle.words.proofs.Laws.{in-listed, in-past, members-rising}
 use Rattle.words.proofs.Lists.{above-all, above-first, above-least, above-rest, filter-none, filter-same}
-use Rattle.words.specs.Members.{members, membersAbove, membersFrom, nextMember}
+use Rattle.words.specs.Members.{listing, members, membersAbove, membersFrom, nextMember}
 use Rattle.words.specs.Sets.{capacity, inSet, testBit}
 
 -- ---- what it is
@@ -72,6 +72,28 @@ from-more ws (suc i) n = ap (λ (l : List ℕ). suc i ∷ l) (sym (from-next ws 
 pub from-end : (ws : List ℕ) (c : ℕ) → c ≡ 0 → membersFrom ws c ≡ []
 unfolding membersFrom
 from-end ws c e = rw e
+
+pub listing-above : (most : ℕ) (ws : List ℕ) (c : ℕ) → length (membersAbove ws c) ≤ most → listing most ws c ≡ membersAbove ws c
+unfolding listing
+listing-above zero ws c h = go (membersAbove ws c) h
+  where
+    go : (l : List ℕ) → length l ≤ 0 → [] ≡ l
+    go [] h = refl
+    go (x ∷ l) h = absurd (omega arith)
+listing-above (suc most) ws c h = go (eqb (nextMember ws c) 0) refl (λ l. listing-above most ws (nextMember ws c) l)
+  where
+    go : (b : Bool) → eqb (nextMember ws c) 0 ≡ b
+        → (length (membersAbove ws (nextMember ws c)) ≤ most → listing most ws (nextMember ws c) ≡ membersAbove ws (nextMember ws c))
+        → cond b [] (nextMember ws c ∷ listing most ws (nextMember ws c)) ≡ membersAbove ws c
+    go true e ih = sym (next-none ws c (eqb-true (nextMember ws c) 0 e))
+    go false e ih =
+        let s = next-some ws c (eqb-false (nextMember ws c) 0 e) in
+        let fewer = ap length s in
+        ap (λ (l : List ℕ). nextMember ws c ∷ l) (ih (omega arith)) ∙ sym s
+
+-- asked from 0 on, the next member visits exactly the members, rising
+pub listing-all : (most : ℕ) (ws : List ℕ) → length (members ws) ≤ most → listing most ws 0 ≡ members ws
+listing-all most ws h = listing-above most ws 0 (rw (above-zero ws) h) ∙ above-zero ws
 
 -- ---- how it is found
 

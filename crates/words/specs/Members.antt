@@ -1,8 +1,9 @@
 -- The members of a set of numbers, in rising order.
 use Prim.Native.Nat.{_+_, suc, zero, ℕ}
+use mathlib.Core.Bool.{cond}
 use mathlib.Core.List.{List, [], _∷_}
 use lib.Count.{onesIn}
-use lib.Dec.{ltb}
+use lib.Dec.{eqb, ltb}
 use lib.ListN.{getD}
 use Rattle.meaning.specs.Lists.{counting, filter}
 use Rattle.words.specs.Sets.{capacity, inSet}
@@ -23,6 +24,14 @@ nextMember ws c = getD (membersAbove ws c) 0 0
 unfoldable pub membersFrom : List ℕ → ℕ → List ℕ
 membersFrom ws zero = []
 membersFrom ws (suc i) = suc i ∷ membersAbove ws (suc i)
+
+-- the answers of nextMember from c on, each asked above the one before; at most so many
+unfoldable pub listing : ℕ → List ℕ → ℕ → List ℕ
+listing zero ws c = []
+listing (suc most) ws c =
+    let x = nextMember ws c in
+    let rest = x ∷ listing most ws x in
+    cond (eqb x 0) [] rest
 
 -- how many bits are set, word by word
 unfoldable pub setBits : List ℕ → ℕ
