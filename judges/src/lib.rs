@@ -30,13 +30,16 @@ pub fn seeds(words: impl Iterator<Item = String>, usual: u64) -> Range<u64> {
 
 /// What a judge is given: a case that no seed makes, or a seed.
 pub enum Given<'a> {
-    /// A case at a limit, or with a directed fault.
+    /// A case at a limit, one made to be slow, or one with a directed fault.
     Directed(&'a Case),
     /// A seed, to make a case of.
     Seed(u64),
 }
 
-/// The cases at every limit, the slow models and one for every directed fault, with their names.
+/// How many equal terms the slow pairs have here: with as many as fit some take seconds.
+const EQUAL: usize = 3;
+
+/// The cases at every limit, the slow pairs and models, and one for every directed fault, with their names.
 fn directed() -> Vec<(String, Case)> {
     let limits =
         limits::cases().into_iter().map(|(name, case)| (format!("limit \"{name}\""), case));
@@ -45,8 +48,9 @@ fn directed() -> Vec<(String, Case)> {
         (fault.apply)(&mut case);
         (format!("fault \"{}\"", fault.name), case)
     });
-    let slow =
-        slow::model_check().into_iter().map(|(name, case)| (format!("slow \"{name}\""), case));
+    let pairs = slow::compliance(EQUAL).into_iter().chain(slow::uncovered(EQUAL));
+    let models = slow::model_check().into_iter().map(|(name, case)| (name.to_owned(), case));
+    let slow = pairs.chain(models).map(|(name, case)| (format!("slow \"{name}\""), case));
     limits.chain(slow).chain(faults).collect()
 }
 

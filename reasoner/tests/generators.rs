@@ -5,7 +5,7 @@ mod common;
 use common::literal::{normal_form, read_kb, read_simple_policies, Kb, Simple, C};
 use reasoner::random::everyday::{self, Answer};
 use reasoner::random::shrink::shrink;
-use reasoner::random::{limits, Case, Family, Rng};
+use reasoner::random::{limits, slow, Case, Family, Rng};
 use reasoner::*;
 use std::collections::BTreeMap;
 
@@ -82,6 +82,20 @@ fn the_mix_has_every_answer() {
     for (what, count) in least {
         assert!(seen.get(what).is_some_and(|&seen| seen >= count), "{what}: {seen:?}");
     }
+}
+
+#[test]
+fn slow_pairs_pass_and_fail() {
+    let (mut compliant, mut early, mut late) = (0, 0, 0);
+    for (name, case) in slow::compliance(2).into_iter().chain(slow::uncovered(2)) {
+        match compliance(&case.v, &case.p, &case.q, &mut case.work(), &mut case.out()) {
+            Verdict::Compliant => compliant += 1,
+            Verdict::Outside(_, combination, _) if combination > 1_000 => late += 1,
+            Verdict::Outside(..) => early += 1,
+            Verdict::Refused(number) => panic!("{name}: refused {number}"),
+        }
+    }
+    assert!(compliant >= 20 && early >= 10 && late >= 8, "{compliant} {early} {late}");
 }
 
 #[test]

@@ -182,7 +182,7 @@ fn at_limits() {
 
 fn slowest() {
     heading("the slowest inputs known");
-    for (name, case) in slow::compliance() {
+    for (name, case) in slow::compliance(slow::MOST_EQUAL) {
         row(&format!("compliance, {name}"), complied(&[case]), None);
     }
     for (name, case) in slow::model_check() {
@@ -270,8 +270,11 @@ fn main() {
             slowest();
             rate();
         }
+        ["everyday"] => everyday(),
+        ["limits"] => at_limits(),
+        ["slowest"] => slowest(),
         ["pairs", seconds] => println!("{}", decide(seconds.parse().expect("seconds"))),
         ["slow", seconds] => search(seconds.parse().expect("seconds")),
-        _ => eprintln!("usage: bench | bench slow SECONDS | bench pairs SECONDS"),
+        _ => eprintln!("usage: bench | bench everyday | bench limits | bench slowest | bench slow SECONDS | bench pairs SECONDS"),
     }
 }

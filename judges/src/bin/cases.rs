@@ -1,9 +1,9 @@
 //! The proved library beside the reasoner, in one process.
 //!
 //! `cases [FIRST [COUNT]]` holds every operation's answer, and what it leaves in the lent slices, to the reasoner's: for every
-//! case at a limit, every directed fault, and COUNT seeded cases from seed FIRST on (100,000 from 0). On a difference it prints
-//! the case, made as small as still differs, and fails. An answer that no case has is a failure too: then the cases do not
-//! reach it.
+//! case at a limit, every slow pair and model, every directed fault, and COUNT seeded cases from seed FIRST on (100,000 from 0). On a
+//! difference it prints the case, made as small as still differs, and fails. An answer that no case has is a failure too: then the
+//! cases do not reach it.
 
 use judges::{Given, Tally, OPERATIONS};
 use reasoner::random::{shrink::shrink, Case};
@@ -107,7 +107,7 @@ fn main() -> ExitCode {
     match told {
         Err((name, case)) => report(&name, &shrink(&case, &mut differs)),
         Ok(tally) => {
-            println!("{count} seeded cases, those at the limits and the directed faults: library and reasoner agree");
+            println!("{count} seeded cases, those at the limits, the slow ones and the directed faults: library and reasoner agree");
             if tally.has_all(answers()) {
                 return ExitCode::SUCCESS;
             }

@@ -1,9 +1,9 @@
 //! The proved program as a process, beside the reasoner's function from bytes to bytes.
 //!
-//! `program PATH [FIRST [COUNT]]` runs the program PATH on the bytes of every case at a limit, every directed fault, and COUNT seeds
-//! from FIRST on (5,000 from 0): cases whole and damaged, random bytes, and lengths about the longest. Standard output must be the
-//! reasoner's to the byte, standard error empty and the exit status 0. On a difference it writes the input into the current folder
-//! and fails. An answer that no input has is a failure too.
+//! `program PATH [FIRST [COUNT]]` runs the program PATH on the bytes of every case at a limit, every slow pair, every directed fault,
+//! and COUNT seeds from FIRST on (5,000 from 0): cases whole and damaged, random bytes, and lengths about the longest. Standard output
+//! must be the reasoner's to the byte, standard error empty and the exit status 0. On a difference it writes the input into the current
+//! folder and fails. An answer that no input has is a failure too.
 
 use judges::Given;
 use reasoner::random::{damage, Case, Rng};
@@ -156,7 +156,7 @@ fn main() -> ExitCode {
             }
         }
         Ok(tally) => {
-            println!("{count} seeded inputs, those at the limits and the directed faults: program and reasoner agree");
+            println!("{count} seeded inputs, those at the limits, the slow ones and the directed faults: program and reasoner agree");
             if tally.has_all(answers()) {
                 return ExitCode::SUCCESS;
             }

@@ -1,9 +1,10 @@
 //! Seeded inputs for differential tests of the operations.
 //!
 //! [`Case::generate`] makes one case of a [`Family`]; [`Case::any`] picks the family by the seed;
-//! [`everyday::case`] makes the pairs of the benchmarks; [`limits::cases`] lists the cases at every limit; [`damage::faults`] lists one fault for every
-//! refusal; [`shrink::shrink`] makes a case smaller while it still differs. A case prints itself
-//! as words.
+//! [`everyday::case`] makes the pairs of the benchmarks; [`limits::cases`] lists the cases at every
+//! limit; [`slow::compliance`], [`slow::uncovered`] and [`slow::model_check`] list those that are
+//! made to be slow; [`damage::faults`] lists one fault for every refusal; [`shrink::shrink`] makes
+//! a case smaller while it still differs. A case prints itself as words.
 
 pub mod boxes;
 pub mod damage;

@@ -7,10 +7,12 @@ use crate::classes::{ClassNo, RoleNo};
 use crate::encode::{policy_words, vocabulary_words};
 use crate::policy::{Conjunct, Term};
 use crate::vocabulary::{Axiom, Vocabulary};
-use std::fmt;
+use std::{fmt, iter};
 
 /// As many records as a policy may have.
 const RECORDS: usize = 512;
+/// As many equal terms of two spans as fit into a policy.
+pub const MOST_EQUAL: usize = RECORDS / 3;
 /// As many individuals as a model may have.
 const INDIVIDUALS: u32 = 512;
 /// Edges or values of a model that has room for each individual's classes too.
@@ -53,9 +55,9 @@ fn side(rng: &mut Rng, feature: u32) -> Conjunct {
     within(feature, value, value)
 }
 
-/// Every compliance case with its name.
+/// Every compliance case with its name. First policies of equal terms have `equal` of them, at most [`MOST_EQUAL`]: the time grows so.
 #[must_use]
-pub fn compliance() -> Vec<(String, Case)> {
+pub fn compliance(equal: usize) -> Vec<(String, Case)> {
     let mut all = Vec::new();
     for count in [4, 8, 16] {
         let combinations = 1 << count;
@@ -66,17 +68,52 @@ pub fn compliance() -> Vec<(String, Case)> {
     let rng = &mut rng;
     all.push(("65,536 combinations covered by turns".into(), binary(16, true)));
     all.push(("240 terms that never pass, two that cover".into(), never()));
-    all.push(("170 terms of 2,003 pieces, two takers".into(), ends()));
-    all.push(("85 stretches by 84 steps, 170 terms".into(), steps(rng, 85, 84, 0)));
-    all.push(("60 stretches by 25 steps, idle ends, 170 terms".into(), steps(rng, 60, 25, 145)));
-    all.push(("8 dials by 85 stretches, 51 terms".into(), sweeps(rng, 8, 85, 51)));
-    all.push(("a grid of 12 by 12 boxes, 170 terms".into(), grid(rng, 12)));
+    all.push((format!("{equal} terms of 2,003 pieces, two takers"), ends(equal)));
+    let name = format!("85 stretches by 84 steps, {equal} terms");
+    all.push((name, steps(rng, 85, 84, 0, equal)));
+    let name = format!("60 stretches by 25 steps, idle ends, {equal} terms");
+    all.push((name, steps(rng, 60, 25, 145, equal)));
+    // A term of eight dials and a span takes more records.
+    let fewer = equal.min(51);
+    all.push((format!("8 dials by 85 stretches, {fewer} terms"), sweeps(rng, 8, 85, fewer)));
+    all.push((format!("a grid of 12 by 12 boxes, {equal} terms"), grid(rng, 12, equal)));
     for width in [2, 3, 4] {
         all.push((format!("random terms of {width} of 16 dials"), cubes(rng, width)));
     }
     all.push(("16 individuals with a dial each".into(), spread(rng, 1, 2)));
     all.push(("16 dials 7 deep".into(), deep(rng, 7)));
+    let name = "50 stretches behind a term that tries 100 roles on 240 individuals";
+    all.push((name.into(), behind(rng)));
+    let fewer = equal.min(22);
+    let name = format!("14 stretches behind 160 roles tried on 10 dials, {fewer} terms");
+    all.push((name, opens(rng, 14, 160, fewer)));
     all
+}
+
+/// The compliance cases with a consent term less, the one in the middle or the last: many of them fail, some at a late combination.
+#[must_use]
+pub fn uncovered(equal: usize) -> Vec<(String, Case)> {
+    let mut all = Vec::new();
+    for (name, case) in compliance(equal) {
+        let links = term_links(&case.q);
+        for place in [(links.len() - 1) / 2, links.len() - 1] {
+            let mut less = case.clone();
+            less.q[links[place]] = case.q[next(&case.q, links[place])];
+            all.push((format!("{name}, consent term {} left out", place + 1), less));
+        }
+    }
+    all
+}
+
+/// Where the term that stands behind this link has its own.
+fn next(policy: &[u32], link: usize) -> usize {
+    6 * policy[link] as usize + 5
+}
+
+/// Where a policy's words have a link to a term.
+fn term_links(policy: &[u32]) -> Vec<usize> {
+    let links = iter::successors(Some(0), |&link| Some(next(policy, link)));
+    links.take_while(|&link| policy[link] != 0).collect()
 }
 
 /// 504 spans asked of each of 165 individuals, of which the last alone passes; then it fails by the dial that turns fastest.
@@ -107,14 +144,14 @@ fn never() -> Case {
 }
 
 /// As many ends as there can be, in a term that never passes.
-fn ends() -> Case {
-    let first = vec![vec![within(1, 0, 4_000_000_000), within(2, 5, 5)]; 170];
+fn ends(equal: usize) -> Case {
+    let first = vec![vec![within(1, 0, 4_000_000_000), within(2, 5, 5)]; equal];
     let idle = (0..500).map(|k| within(1, 4 * k, 4 * k + 2)).collect();
     case(&first, &[idle, vec![within(1, 0, 1000)], vec![within(1, 1001, 4_000_000_000)]])
 }
 
 /// Two dials of many pieces: each stretch of the inner one is taken by one of two terms, by where the outer one stands.
-fn steps(rng: &mut Rng, stretches: u32, borders: u32, idle: u32) -> Case {
+fn steps(rng: &mut Rng, stretches: u32, borders: u32, idle: u32, equal: usize) -> Case {
     let (most, end) = (3 * borders + 2, 10 * stretches);
     let mut second: Vec<Term> = Vec::new();
     for k in 0..stretches {
@@ -126,11 +163,11 @@ fn steps(rng: &mut Rng, stretches: u32, borders: u32, idle: u32) -> Case {
     if idle > 0 {
         second.push((0..idle).map(|k| within(2, (4 * k + 2) % end, (4 * k + 4) % end)).collect());
     }
-    case(&vec![vec![within(1, 0, most), within(2, 0, end - 1)]; 170], &second)
+    case(&vec![vec![within(1, 0, most), within(2, 0, end - 1)]; equal], &second)
 }
 
 /// Dials of two pieces, and an inner one of many: each of its stretches is taken by one of two terms, by another dial.
-fn sweeps(rng: &mut Rng, outer: u32, stretches: u32, copies: usize) -> Case {
+fn sweeps(rng: &mut Rng, outer: u32, stretches: u32, equal: usize) -> Case {
     let mut first = dials(outer);
     first.push(within(64, 0, 10 * stretches - 1));
     let mut second: Vec<Term> = Vec::new();
@@ -141,11 +178,50 @@ fn sweeps(rng: &mut Rng, outer: u32, stretches: u32, copies: usize) -> Case {
         }
     }
     rng.shuffle(&mut second);
+    case(&vec![first; equal], &second)
+}
+
+/// Sweeps, behind a term that tries each of its roles on many individuals before it fails by the inner dial.
+fn behind(rng: &mut Rng) -> Case {
+    let (outer, stretches) = (8, 50);
+    let mut first = dials(outer);
+    first.extend((1..=240).map(|value| reaches(3, vec![within(40, value, value)])));
+    first.push(within(64, 0, 10 * stretches - 1));
+    let mut slow = vec![reaches(3, vec![within(40, 240, 250)]); 100];
+    slow.push(within(64, 10 * stretches, 10 * stretches));
+    let mut second: Vec<Term> = Vec::new();
+    for k in 0..stretches {
+        for value in 0..2 {
+            let stretch = within(64, 10 * k, 10 * k + 9);
+            second.push(vec![stretch, within(1 + k % outer, value, value)]);
+        }
+    }
+    rng.shuffle(&mut second);
+    second.insert(0, slow);
+    case(&[first], &second)
+}
+
+/// Sweeps over dials at successors, behind a term that tries each of its roles on all of them before it fails by the inner dial.
+fn opens(rng: &mut Rng, stretches: u32, tries: usize, copies: usize) -> Case {
+    let arms = 10;
+    let mut first: Term = (1..=arms).map(|k| reaches(3, vec![within(k, 0, 1)])).collect();
+    first.push(reaches(4, vec![within(64, 0, 10 * stretches - 1)]));
+    let mut slow = vec![reaches(3, vec![within(arms, 0, 0)]); tries];
+    slow.push(reaches(4, vec![within(64, 0, 0)]));
+    let mut second: Vec<Term> = Vec::new();
+    for k in 0..stretches {
+        for value in 0..2 {
+            let arm = reaches(3, vec![within(1 + k % arms, value, value)]);
+            second.push(vec![reaches(4, vec![within(64, 10 * k, 10 * k + 9)]), arm]);
+        }
+    }
+    rng.shuffle(&mut second);
+    second.insert(0, slow);
     case(&vec![first; copies], &second)
 }
 
 /// A grid of boxes over two dials of many pieces.
-fn grid(rng: &mut Rng, size: u32) -> Case {
+fn grid(rng: &mut Rng, size: u32, equal: usize) -> Case {
     let mut second: Vec<Term> = Vec::new();
     for row in 0..size {
         for column in 0..size {
@@ -159,7 +235,7 @@ fn grid(rng: &mut Rng, size: u32) -> Case {
     let idle = (RECORDS - 2 - records(&second)) as u32;
     second.push((0..idle).map(|k| within(1 + k % 2, 1 + 2 * k, 2 + 2 * k)).collect());
     let end = 20 * size - 1;
-    case(&vec![vec![within(1, 0, end), within(2, 0, end)]; 170], &second)
+    case(&vec![vec![within(1, 0, end), within(2, 0, end)]; equal], &second)
 }
 
 /// Terms on so many of 16 dials, by chance.
