@@ -1,5 +1,5 @@
 -- Laws of the columns and the roles' sets: one record after another, where its turn has come.
-use Prim.Native.Nat.{_+_, _≤_, suc, ℕ}
+use Prim.Native.Nat.{_*_, _+_, _≤_, suc, ℕ}
 use mathlib.Core.Bool.{Bool, _&&_, _||_, and-false, and-true, cond, false, not, or-comm, or-false, true}
 use mathlib.Core.List.{List, [], _∷_}
 use mathlib.Core.Path.{_∙_, _≡_, ap, refl, subst, sym}
@@ -7,12 +7,11 @@ use lib.Dec.{eqb}
 use lib.ListN.{length}
 use native.Mathlib.Omega.{arith}
 use borrow.Author.Tests.{eq-eqb, eqb-false, eqb-true, ne-eqb, not-false, not-true}
-use Rattle.extension.proofs.Bits.{Row, row-inside, row-put, shuffle}
 use Rattle.extension.proofs.Conjuncts.{cut}
 use Rattle.extension.proofs.Links.{link-same, onward-goes}
 use Rattle.extension.proofs.Marks.{one-counted}
 use Rattle.extension.specs.Columns.{CellFilled, ColumnFilled, FilledTo, MaskFilled, RecordFilled, below, columnOf}
-use Rattle.extension.specs.Columns.{columnPlace, columnsEnd, maskOf, maskPlace, masksAt}
+use Rattle.extension.specs.Columns.{columnPlace, columnsAt, columnsEnd, maskOf, maskPlace}
 use Rattle.extension.specs.Depths.{Known, Passes, isDue, rank}
 use Rattle.extension.specs.Sets.{Charted, Linked, onward}
 use Rattle.frames.proofs.Frames.{only-none, row-before, row-behind}
@@ -29,14 +28,15 @@ use Rattle.model.specs.Chain.{Readable}
 use Rattle.policy.specs.Terms.{conjunctsAt}
 use Rattle.satisfaction.proofs.Rows.{none-in}
 use Rattle.satisfaction.specs.Places.{putIn, recordWords}
+use Rattle.spans.proofs.Rows.{Row, row-inside, row-put, shuffle}
 use Rattle.words.proofs.Laws.{named-within}
 use Rattle.words.specs.Sets.{inSet}
 
-pub at-column : (j : ℕ) → Name mostIndividuals j → Row 0 mostIndividuals j (columnPlace j)
-at-column j n = record { named = n; place = omega arith }
+pub at-column : (j : ℕ) → Name mostIndividuals j → Row columnsAt mostIndividuals j (columnPlace j)
+at-column j n = record { named = n; place = refl }
 
-pub at-mask : (r : ℕ) → Name mostRoles r → Row masksAt mostRoles r (maskPlace r)
-at-mask r n = record { named = n; place = refl }
+pub at-mask : (r : ℕ) → Name mostRoles r → Row 0 mostRoles r (maskPlace r)
+at-mask r n = record { named = n; place = omega arith }
 
 pub link-inside : {p : List ℕ} {k x l : ℕ} → Linked p k x l → l ≤ lastOf 6 p
 link-inside {p} {k} {x} e = rw (e .link) (onward-le (lastOf 6 p) k (onward p k x) (onward-goes p k x))
@@ -62,7 +62,7 @@ due-child p k n = go (eqb (kindOf p k) 3) refl
 
 -- with the individuals l left
 pub record Filling (p m w : List ℕ) (k : ℕ) (c₀ c : List ℕ) (l : List ℕ) : Type 0 where
-  pub only : Only (Span 0 masksAt) c₀ c
+  pub only : Only (Span columnsAt columnsEnd) c₀ c
   pub left : (n : ℕ) → Known p m n w → Charted p k → rank p k ≡ n + 1 → (d : ℕ) → Name (individualCount m) d →
       inSet (columnOf c d) k || any (λ e. eqb d e && below p m k e) l ≡ inSet (columnOf c₀ d) k || below p m k d
   pub others : (d j : ℕ) → Name mostIndividuals d → (j ≡ k → ⊥) → inSet (columnOf c d) j ≡ inSet (columnOf c₀ d) j
@@ -71,7 +71,7 @@ module _ {p m w : List ℕ} {k : ℕ} where
   pub filling-starts : {c : List ℕ} {n : ℕ} → n ≡ individualCount m → Filling p m w k c c (counting 1 n)
   filling-starts {n = n} e = record {
     only = only-none;
-    left = λ q y h r d nd. rw (one-counted p m k (below p m k) n d (omega arith));
+    left = λ q y h r d nd. rw (one-counted (below p m k) n d (omega arith));
     others = λ d j nd h. refl;
   }
 
@@ -81,7 +81,7 @@ module _ {p m w : List ℕ} {k : ℕ} where
   pub filling-on : {c₀ c c′ : List ℕ} {i : ℕ} → Readable m → Name mostRecords k → columnsEnd ≤ length c → Name (individualCount m) i → CellFilled p w k i c c′ →
       (l : List ℕ) → Filling p m w k c₀ c (i ∷ l) → Filling p m w k c₀ c′ l
   filling-on {c₀} {c} {c′} {i} rm nk room ni x l t = record {
-    only = rw (x .words) (cond-all (Only (Span 0 masksAt) c₀) (x .test) (row-inside c k (at-column i named) nk (omega arith) (omega arith) (omega arith) refl (t .only)) (t .only));
+    only = rw (x .words) (cond-all (Only (Span columnsAt columnsEnd) c₀) (x .test) (row-inside c k (at-column i named) nk (omega arith) (omega arith) (omega arith) refl (t .only)) (t .only));
     left = λ n y h r d nd. rw (x .words) (go d nd (x .test) (test-is n y h r) (t .left n y h r d nd));
     others = λ d j nd h. rw (x .words) (off d j nd h (x .test)) ∙ t .others d j nd h;
   }
@@ -139,7 +139,7 @@ module _ {p c : List ℕ} {k a : ℕ} {b : Bool} (ea : a ≡ nameOf p k) (e : b 
     others = λ r j n h. put r j n ∙ rw (ne-eqb j k h, and-false (eqb r a));
   }
     where
-      here : Row masksAt mostRoles a (maskPlace a)
+      here : Row 0 mostRoles a (maskPlace a)
       here = at-mask a (mask-named e t)
 
       put : (r j : ℕ) → Name mostRoles r → inSet (maskOf c′ r) j ≡ (eqb r a && eqb j k) || inSet (maskOf c r) j
@@ -147,63 +147,61 @@ module _ {p c : List ℕ} {k a : ℕ} {b : Bool} (ea : a ≡ nameOf p k) (e : b 
 
 -- ---- both
 
-pub fill-none : {p w : List ℕ} (m : List ℕ) {k n : ℕ} (c : List ℕ) {b : Bool} → b ≡ isDue p w k n → not b ≡ true → RecordFilled p m w k n c c false
-fill-none m {k} c {b} e h = record {
-  due = sym (not-true b h) ∙ e;
+pub fill-none : {p w : List ℕ} (m : List ℕ) {k n : ℕ} (c : List ℕ) {b : Bool} → b ≡ isDue p w k n → not b ≡ true → RecordFilled p m w k n c c
+fill-none {p} {w} m {k} {n} c {b} e h = record {
   size = refl;
-  column = λ t. absurd (let y : _≡_ {A = ℕ} 0 1 = cc in omega arith);
+  column = λ t. absurd (let v : true ≡ false = sym t ∙ undue in let y : _≡_ {A = ℕ} 0 1 = cc in omega arith);
   columns = λ j d n q. refl;
-  mask = λ a n. sym (or-false (inSet (maskOf c a) k));
+  mask = λ a n. rw undue (sym (or-false (inSet (maskOf c a) k)));
   masks = λ a d n q. refl;
 }
+  where
+    undue : isDue p w k n ≡ false
+    undue = sym e ∙ not-true b h
 
 module _ {p m w c c₁ c₂ : List ℕ} {k : ℕ} (x : ColumnFilled p m w k c c₁) (y : MaskFilled p k c₁ c₂) where
-  column-kept : (j : ℕ) → Name mostIndividuals j → columnOf c₂ j ≡ columnOf c₁ j
-  column-kept j q = row-before (y .only) recordWords (columnPlace j) (omega arith)
+  column-kept : (j : ℕ) → columnOf c₂ j ≡ columnOf c₁ j
+  column-kept j = row-behind (y .only) recordWords (columnPlace j) (omega arith)
 
-  mask-kept : (a : ℕ) → maskOf c₁ a ≡ maskOf c a
-  mask-kept a = row-behind (x .only) recordWords (maskPlace a) (omega arith)
+  mask-kept : (a : ℕ) → Name mostRoles a → maskOf c₁ a ≡ maskOf c a
+  mask-kept a q = row-before (x .only) recordWords (maskPlace a) (omega arith)
 
-  pub fill-both : {n : ℕ} {b : Bool} → Readable m → b ≡ isDue p w k n → not b ≡ false → RecordFilled p m w k n c c₂ true
-  fill-both {n} {b} r e h = record {
-    due = sym (not-false b h) ∙ e;
+  pub fill-both : {n : ℕ} {b : Bool} → b ≡ isDue p w k n → not b ≡ false → RecordFilled p m w k n c c₂
+  fill-both {n} {b} e h = record {
     size = y .only .size ∙ x .only .size;
-    column = λ _ q z t j i. let g = r .individuals in ap (λ (s : List ℕ). inSet s k) (column-kept j (omega arith)) ∙ x .tells n q z t j i;
-    columns = λ j d q z. ap (λ (s : List ℕ). inSet s d) (column-kept j q) ∙ x .others j d q z;
-    mask = λ a q. y .tells a q ∙ rw (mask-kept a);
-    masks = λ a d q z. y .others a d q z ∙ ap (λ (s : List ℕ). inSet s d) (mask-kept a);
+    column = λ _ q z t j i. ap (λ (s : List ℕ). inSet s k) (column-kept j) ∙ x .tells n q z t j i;
+    columns = λ j d q z. ap (λ (s : List ℕ). inSet s d) (column-kept j) ∙ x .others j d q z;
+    mask = λ a q. y .tells a q ∙ rw (mask-kept a q, ← e, not-false b h);
+    masks = λ a d q z. y .others a d q z ∙ ap (λ (s : List ℕ). inSet s d) (mask-kept a q);
   }
 
 -- ---- one record after another
 
-module _ {p m w c c₁ : List ℕ} {n : ℕ} where
-  pub filled-starts : columnsEnd ≤ length c → Cleared 0 columnsEnd c c₁ → FilledTo p m w n 0 c₁ false
-  filled-starts room x = record {
+module _ {p m w c c₁ : List ℕ} {n i : ℕ} where
+  pub filled-starts : columnsEnd ≤ length c → i ≡ individualCount m → Cleared 0 (columnsAt + i * recordWords) c c₁ → FilledTo p m w n 0 c₁
+  filled-starts room e x = record {
     room = let s = x .only .size in omega arith;
     column = λ y k q. absurd (omega arith);
     mask = λ k q. absurd (omega arith);
     columns = λ k l j q. none-in recordWords c₁ (columnPlace j) (λ i a b. x .zeros i (omega arith) (omega arith)) k;
     masks = λ k l a q. none-in recordWords c₁ (maskPlace a) (λ i a b. x .zeros i (omega arith) (omega arith)) k;
-    none = λ _ k q. absurd (omega arith);
   }
 
-module _ {p m w c c′ : List ℕ} {n l : ℕ} {r b : Bool} (rm : Readable m) (t : FilledTo p m w n l c r) (x : RecordFilled p m w (l + 1) n c c′ b) where
-  pub filled-on : FilledTo p m w n (l + 1) c′ (r || b)
+module _ {p m w c c′ : List ℕ} {n l : ℕ} (rm : Readable m) (t : FilledTo p m w n l c) (x : RecordFilled p m w (l + 1) n c c′) where
+  pub filled-on : FilledTo p m w n (l + 1) c′
   filled-on = record {
     room = let s = x .size in let h = t .room in omega arith;
     column = λ y k q z d e j i. col y k q z d e j i (eqb k (l + 1)) refl;
     mask = λ k q a i. msk k q a i (eqb k (l + 1)) refl;
-    columns = λ k h j q. x .columns j k q (λ e. omega arith) ∙ t .columns k (omega arith) j q;
+    columns = λ k h j q. let g = rm .individuals in x .columns j k (omega arith) (λ e. omega arith) ∙ t .columns k (omega arith) j q;
     masks = λ k h a q. x .masks a k q (λ e. omega arith) ∙ t .masks k (omega arith) a q;
-    none = λ f k q. non f k q (eqb k (l + 1)) refl;
   }
     where
       col : Known p m n w → (k : ℕ) → Name (l + 1) k → Charted p k → isDue p w k n ≡ true → rank p k ≡ n + 1 → (j : ℕ) → Name (individualCount m) j → (b : Bool) → eqb k (l + 1) ≡ b →
           inSet (columnOf c′ j) k ≡ below p m k j
       col y k q z d e j i true g =
           let s = eqb-true k (l + 1) g in
-          let h = rm .individuals in
-          rw s (x .column (x .due ∙ rw s at d) y (rw s at z) (rw s at e) j i ∙ rw (t .columns (l + 1) (omega arith) j (omega arith)))
+          rw s (x .column (rw s at d) y (rw s at z) (rw s at e) j i ∙ rw (t .columns (l + 1) (omega arith) j i))
       col y k q z d e j i false g =
           let s = eqb-false k (l + 1) g in
           let h = rm .individuals in
@@ -212,15 +210,7 @@ module _ {p m w c c′ : List ℕ} {n l : ℕ} {r b : Bool} (rm : Readable m) (t
       msk : (k : ℕ) → Name (l + 1) k → (a : ℕ) → Name mostRoles a → (b : Bool) → eqb k (l + 1) ≡ b → inSet (maskOf c′ a) k ≡ isDue p w k n && eqb a (nameOf p k)
       msk k q a i true g =
           let s = eqb-true k (l + 1) g in
-          rw s (x .mask a i ∙ rw (t .masks (l + 1) (omega arith) a i, x .due))
+          rw s (x .mask a i ∙ rw (t .masks (l + 1) (omega arith) a i))
       msk k q a i false g =
           let s = eqb-false k (l + 1) g in
           x .masks a k i s ∙ t .mask k (omega arith) a i
-
-      neither : (r b : Bool) → r || b ≡ false → (r ≡ false) × (b ≡ false)
-      neither false b e = (refl, e)
-      neither true b e = absurd (let y : _≡_ {A = ℕ} 0 1 = cc in omega arith)
-
-      non : r || b ≡ false → (k : ℕ) → Name (l + 1) k → (g : Bool) → eqb k (l + 1) ≡ g → isDue p w k n ≡ false
-      non f k q true g = let s = eqb-true k (l + 1) g in rw s (sym (x .due) ∙ neither r b f .1)
-      non f k q false g = let s = eqb-false k (l + 1) g in t .none (neither r b f .0) k (omega arith)

@@ -1,7 +1,5 @@
 -- The laws that the functions' proofs cite.
-pub mod Bits
 pub mod Marks
-pub mod Facts
 pub mod Links
 pub mod Conjuncts
 pub mod Heights

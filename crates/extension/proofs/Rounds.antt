@@ -1,7 +1,7 @@
 -- Laws of the rounds: after each the records that wait no longer are right.
 use Prim.Native.Nat.{_+_, _<_, _≤_, suc, ℕ}
 use mathlib.Core.Bool.{Bool, _&&_, _||_, and-comm, and-false, cond, false, or-false, true}
-use mathlib.Core.List.{List, [], _∷_}
+use mathlib.Core.List.{List, []}
 use mathlib.Core.Logic.{inl, inr, ⊎-elim}
 use mathlib.Core.Path.{_∙_, _≡_, ap, refl, sym}
 use lib.Dec.{eqb, eqb·suc-suc}
@@ -13,7 +13,7 @@ use Rattle.extension.proofs.Conjuncts.{cut, inside}
 use Rattle.extension.proofs.Heights.{measured-at}
 use Rattle.extension.proofs.Links.{link-same}
 use Rattle.extension.specs.Columns.{AllFilled, EdgesMarked, below, columnOf, hands, maskOf}
-use Rattle.extension.specs.Depths.{AllMeasured, Measured, Settled, heightOf, isDue, rank}
+use Rattle.extension.specs.Depths.{AllMeasured, Measured, NoneDueTo, Settled, heightOf, isDue, rank}
 use Rattle.extension.specs.Sets.{AllMarked, Charted, Sized, early, edgeInto, onward, own, reached}
 use Rattle.frames.proofs.Frames.{only-behind, row-before}
 use Rattle.meaning.proofs.Links.{tests}
@@ -21,16 +21,15 @@ use Rattle.meaning.proofs.Rules.{order}
 use Rattle.meaning.specs.Accepted.{depth}
 use Rattle.meaning.specs.Limits.{mostRoles}
 use Rattle.meaning.specs.Lists.{any}
-use Rattle.meaning.specs.Model.{Fact, factAt, factName, factOther, factOwner, factsOf, individualCount}
+use Rattle.meaning.specs.Model.{factName, factOther, factOwner, factsOf, individualCount}
 use Rattle.meaning.specs.Policy.{childOf, kindOf, nameOf}
 use Rattle.meaning.specs.Records.{Name, isName, lastOf}
-use Rattle.model.specs.Chain.{Readable, Stated, factLinks}
 use Rattle.policy.specs.Terms.{conjunctsAt}
-use Rattle.records.specs.Chains.{Along, along-end, along-more}
 use Rattle.satisfaction.proofs.Classes.{interpreted-kept}
 use Rattle.satisfaction.proofs.Facts.{by-kind}
 use Rattle.satisfaction.specs.Classes.{Interpreted, ownerOf}
 use Rattle.satisfaction.specs.Places.{heightPlace, recordWords, recordsOf, setPlace}
+use Rattle.spans.proofs.Joining.{any-stated, never}
 use Rattle.words.proofs.Laws.{named-within}
 use Rattle.words.specs.Sets.{inSet}
 
@@ -58,14 +57,6 @@ module _ {p w : List ℕ} (t : Measured p w) {k : ℕ} (z : k ≡ 0 → ⊥) (c 
 
 -- ---- what the edges hand over
 
-any-stated : {m : List ℕ} (f g : Fact → Bool) → Readable m → ((k : ℕ) → Stated m k → f (factAt m k) ≡ g (factAt m k)) → any f (factsOf m) ≡ any g (factsOf m)
-unfolding factLinks
-any-stated {m} f g r h = go (r .facts)
-  where
-    go : {k : ℕ} {F : List Fact} → Along (factLinks m) k F → any f F ≡ any g F
-    go (along-end e) = refl
-    go (along-more n o s l) = rw (h _ s, go l)
-
 eqb-swap : (u v : ℕ) → eqb v u ≡ eqb u v
 eqb-swap u v = go (eqb u v) refl
   where
@@ -73,11 +64,7 @@ eqb-swap u v = go (eqb u v) refl
     go true e = eq-eqb v u (sym (eqb-true u v e))
     go false e = ne-eqb v u (λ d. eqb-false u v e (sym d))
 
-never : (F : List Fact) → any (λ x. false) F ≡ false
-never [] = refl
-never (x ∷ F) = never F
-
-module _ {p m w c : List ℕ} {n : ℕ} {r : Bool} (sz : Sized p) (s : Settled p m n w) (x : AllFilled p m w n c r) {k : ℕ} (z : k ≡ 0 → ⊥) (ch : Charted p k) (i : ℕ) where
+module _ {p m w c : List ℕ} {n : ℕ} (s : Settled p m n w) (x : AllFilled p m w n c) {k : ℕ} (z : k ≡ 0 → ⊥) (ch : Charted p k) (i : ℕ) where
   named : Name (lastOf 6 p) k
   named = (omega arith, inside ch)
 
@@ -114,9 +101,19 @@ module _ {p m w c : List ℕ} {n : ℕ} {r : Bool} (sz : Sized p) (s : Settled p
 
 -- ---- one round
 
-module _ {p m w c : List ℕ} {n : ℕ} {r : Bool} (sz : Sized p) (s : Settled p m n w) (x : AllFilled p m w n c r) where
-  pub settled-none : r ≡ false → Settled p m (n + 1) w
-  settled-none e = record {
+pub undue-starts : {p w : List ℕ} {n : ℕ} → NoneDueTo p w n 0
+undue-starts = record { undue = λ k q. absurd (omega arith) }
+
+pub undue-on : {p w : List ℕ} {n l : ℕ} {b : Bool} → NoneDueTo p w n l → b ≡ isDue p w (l + 1) n → b ≡ false → NoneDueTo p w n (l + 1)
+undue-on {p} {w} {n} {l} t e h = record { undue = λ k q. go k q (eqb k (l + 1)) refl }
+  where
+    go : (k : ℕ) → Name (l + 1) k → (b : Bool) → eqb k (l + 1) ≡ b → isDue p w k n ≡ false
+    go k q true g = let s = eqb-true k (l + 1) g in rw s (sym e ∙ h)
+    go k q false g = let s = eqb-false k (l + 1) g in t .undue k (omega arith)
+
+module _ {p m w : List ℕ} {n : ℕ} (s : Settled p m n w) where
+  pub settled-none : NoneDueTo p w n (lastOf 6 p) → Settled p m (n + 1) w
+  settled-none x = record {
     interpreted = s .interpreted;
     measured = s .measured;
     known = record {
@@ -127,12 +124,13 @@ module _ {p m w c : List ℕ} {n : ℕ} {r : Bool} (sz : Sized p) (s : Settled p
     where
       other : (k : ℕ) → (k ≡ 0 → ⊥) → Charted p k → rank p k ≡ n + 1 → ⊥
       other k z ch d =
-          let v : true ≡ false = sym (due-rank (s .measured) z ch n d) ∙ x .none e k (omega arith, inside ch) in
+          let v : true ≡ false = sym (due-rank (s .measured) z ch n d) ∙ x .undue k (omega arith, inside ch) in
           let u : _≡_ {A = ℕ} 0 1 = cc in omega arith
 
       go : (k : ℕ) → rank p k ≤ n + 1 → (rank p k ≡ n + 1 → ⊥) → rank p k ≤ n
       go k h d = omega arith
 
+module _ {p m w c : List ℕ} {n : ℕ} (sz : Sized p) (s : Settled p m n w) (x : AllFilled p m w n c) where
   pub settled-on : {w′ : List ℕ} → EdgesMarked m c w w′ → Settled p m (n + 1) w′
   settled-on {w′} e = record {
     interpreted = interpreted-kept (omega arith) (e .only) (s .interpreted);
@@ -142,7 +140,7 @@ module _ {p m w c : List ℕ} {n : ℕ} {r : Bool} (sz : Sized p) (s : Settled p
     };
     known = record {
       right = λ k i z ch h q. right k i z ch h q (eqb (rank p k) (n + 1)) refl;
-      blank = λ k i z ch h q. let d : rank p k ≡ n + 1 → ⊥ = λ d. omega arith in bits k i z ch q ∙ rw (s .known .blank k i z ch (omega arith) q) (handed-none sz s x z ch i d);
+      blank = λ k i z ch h q. let d : rank p k ≡ n + 1 → ⊥ = λ d. omega arith in bits k i z ch q ∙ rw (s .known .blank k i z ch (omega arith) q) (handed-none s x z ch i d);
     };
   }
     where
@@ -159,10 +157,10 @@ module _ {p m w c : List ℕ} {n : ℕ} {r : Bool} (sz : Sized p) (s : Settled p
       right : (k i : ℕ) → (k ≡ 0 → ⊥) → Charted p k → rank p k ≤ n + 1 → Name (individualCount m) i → (b : Bool) → eqb (rank p k) (n + 1) ≡ b → inSet (recordsOf w′ i) k ≡ own p m k i
       right k i z ch h q true g =
           let d = eqb-true (rank p k) (n + 1) g in
-          bits k i z ch q ∙ rw (s .known .blank k i z ch (omega arith) q) (handed-due sz s x z ch i d ∙ role-own k i (due-child p k n d .0))
+          bits k i z ch q ∙ rw (s .known .blank k i z ch (omega arith) q) (handed-due s x z ch i d ∙ role-own k i (due-child p k n d .0))
       right k i z ch h q false g =
           let d = eqb-false (rank p k) (n + 1) g in
-          bits k i z ch q ∙ rw (handed-none sz s x z ch i d, or-false (inSet (recordsOf w i) k)) (s .known .right k i z ch (omega arith) q)
+          bits k i z ch q ∙ rw (handed-none s x z ch i d, or-false (inSet (recordsOf w i) k)) (s .known .right k i z ch (omega arith) q)
 
 -- ---- before the first
 

@@ -1,43 +1,43 @@
--- The tables beside the work slice: the records that hold below an individual, and a role's records; and what an edge makes of them.
+-- The tables beside the work slice: a role's records, and the records that hold below an individual; and what an edge makes of them.
 use Prim.Native.Nat.{_*_, _+_, _-_, _<_, _≤_, ℕ}
 use mathlib.Core.Bool.{Bool, _&&_, _||_, cond, false, true}
 use mathlib.Core.List.{List}
 use mathlib.Core.Path.{_≡_}
-use lib.Bits.{bitAnd, bitOr}
 use lib.Dec.{eqb}
-use lib.ListN.{getD, length}
+use lib.ListN.{length}
 use Rattle.extension.specs.Depths.{Known, Passes, isDue, rank}
 use Rattle.extension.specs.Sets.{Charted, Sized, onward}
 use Rattle.frames.specs.Frames.{Only, Span}
 use Rattle.frames.specs.Rows.{rowAt}
-use Rattle.meaning.specs.Limits.{mostIndividuals, mostRecords, mostRoles}
-use Rattle.meaning.specs.Lists.{any}
+use Rattle.meaning.specs.Limits.{mostIndividuals, mostRecords, mostRoles, workSize}
 use Rattle.meaning.specs.Model.{Fact, edge, factsOf, individualCount, member, value}
 use Rattle.meaning.specs.ModelCheck.{holds}
 use Rattle.meaning.specs.Policy.{childOf, nameOf}
 use Rattle.meaning.specs.Records.{Name, isName, lastOf}
+use Rattle.model.specs.Chain.{Readable, Stated}
 use Rattle.policy.specs.Terms.{conjunctsAt}
 use Rattle.satisfaction.specs.Classes.{Interpreted}
-use Rattle.satisfaction.specs.Places.{heightsAt, putIn, recordWords, recordsOf, setsAt}
+use Rattle.satisfaction.specs.Places.{putIn, recordWords}
+use Rattle.spans.specs.Joining.{AllHanded, Handed}
 use Rattle.words.specs.Sets.{inSet}
 
-abbrev pub columnPlace : ℕ → ℕ
-columnPlace j = (j - 1) * recordWords
-
-abbrev pub columnOf : List ℕ → ℕ → List ℕ
-columnOf c j = rowAt recordWords c (columnPlace j)
-
-abbrev pub masksAt : ℕ
-masksAt = mostIndividuals * recordWords
-
 abbrev pub maskPlace : ℕ → ℕ
-maskPlace r = masksAt + (r - 1) * recordWords
+maskPlace r = (r - 1) * recordWords
 
 abbrev pub maskOf : List ℕ → ℕ → List ℕ
 maskOf c r = rowAt recordWords c (maskPlace r)
 
+abbrev pub columnsAt : ℕ
+columnsAt = mostRoles * recordWords
+
+abbrev pub columnPlace : ℕ → ℕ
+columnPlace j = columnsAt + (j - 1) * recordWords
+
+abbrev pub columnOf : List ℕ → ℕ → List ℕ
+columnOf c j = rowAt recordWords c (columnPlace j)
+
 abbrev pub columnsEnd : ℕ
-columnsEnd = masksAt + mostRoles * recordWords
+columnsEnd = columnsAt + mostIndividuals * recordWords
 
 -- ---- one record
 
@@ -45,6 +45,12 @@ pub record Fillable (p m w c : List ℕ) (k : ℕ) : Type 0 where
   pub sized : Sized p
   pub conjunct : Name mostRecords k
   pub interpreted : Interpreted m w
+  pub room : columnsEnd ≤ length c
+
+pub record CellFillable (p w c : List ℕ) (j : ℕ) : Type 0 where
+  pub sized : Sized p
+  pub individual : Name mostIndividuals j
+  pub long : workSize ≤ length w
   pub room : columnsEnd ≤ length c
 
 -- in the column of individual j, where the chain below holds of it
@@ -59,53 +65,41 @@ below p m k j = holds (factsOf m) (conjunctsAt p (childOf p k)) j
 
 -- in the columns of all of which it holds, where its turn has come
 pub record ColumnFilled (p m w : List ℕ) (k : ℕ) (c c′ : List ℕ) : Type 0 where
-  pub only : Only (Span 0 masksAt) c c′
+  pub only : Only (Span columnsAt columnsEnd) c c′
   pub tells : (n : ℕ) → Known p m n w → Charted p k → rank p k ≡ n + 1 → (j : ℕ) → Name (individualCount m) j →
       inSet (columnOf c′ j) k ≡ inSet (columnOf c j) k || below p m k j
   pub others : (j d : ℕ) → Name mostIndividuals j → (d ≡ k → ⊥) → inSet (columnOf c′ j) d ≡ inSet (columnOf c j) d
 
 -- in the set of its role
 pub record MaskFilled (p : List ℕ) (k : ℕ) (c c′ : List ℕ) : Type 0 where
-  pub only : Only (Span masksAt columnsEnd) c c′
+  pub only : Only (Span 0 columnsAt) c c′
   pub tells : (r : ℕ) → Name mostRoles r → inSet (maskOf c′ r) k ≡ inSet (maskOf c r) k || eqb r (nameOf p k)
   pub others : (r d : ℕ) → Name mostRoles r → (d ≡ k → ⊥) → inSet (maskOf c′ r) d ≡ inSet (maskOf c r) d
 
 -- in both, where its turn has come
-pub record RecordFilled (p m w : List ℕ) (k n : ℕ) (c c′ : List ℕ) (r : Bool) : Type 0 where
-  pub due : r ≡ isDue p w k n
+pub record RecordFilled (p m w : List ℕ) (k n : ℕ) (c c′ : List ℕ) : Type 0 where
   pub size : length c′ ≡ length c
-  pub column : r ≡ true → Known p m n w → Charted p k → rank p k ≡ n + 1 → (j : ℕ) → Name (individualCount m) j →
+  pub column : isDue p w k n ≡ true → Known p m n w → Charted p k → rank p k ≡ n + 1 →
+      (j : ℕ) → Name (individualCount m) j →
       inSet (columnOf c′ j) k ≡ inSet (columnOf c j) k || below p m k j
   pub columns : (j d : ℕ) → Name mostIndividuals j → (d ≡ k → ⊥) → inSet (columnOf c′ j) d ≡ inSet (columnOf c j) d
-  pub mask : (a : ℕ) → Name mostRoles a → inSet (maskOf c′ a) k ≡ inSet (maskOf c a) k || (r && eqb a (nameOf p k))
+  pub mask : (a : ℕ) → Name mostRoles a → inSet (maskOf c′ a) k ≡ inSet (maskOf c a) k || (isDue p w k n && eqb a (nameOf p k))
   pub masks : (a d : ℕ) → Name mostRoles a → (d ≡ k → ⊥) → inSet (maskOf c′ a) d ≡ inSet (maskOf c a) d
 
 -- the tables of the records up to l whose turn is the n-th
-pub record FilledTo (p m w : List ℕ) (n l : ℕ) (c : List ℕ) (r : Bool) : Type 0 where
+pub record FilledTo (p m w : List ℕ) (n l : ℕ) (c : List ℕ) : Type 0 where
   pub room : columnsEnd ≤ length c
   pub column : Known p m n w → (k : ℕ) → Name l k → Charted p k → isDue p w k n ≡ true → rank p k ≡ n + 1 → (j : ℕ) →
       Name (individualCount m) j →
       inSet (columnOf c j) k ≡ below p m k j
   pub mask : (k : ℕ) → Name l k → (a : ℕ) → Name mostRoles a → inSet (maskOf c a) k ≡ isDue p w k n && eqb a (nameOf p k)
-  pub columns : (k : ℕ) → l < k → (j : ℕ) → Name mostIndividuals j → inSet (columnOf c j) k ≡ false
+  pub columns : (k : ℕ) → l < k → (j : ℕ) → Name (individualCount m) j → inSet (columnOf c j) k ≡ false
   pub masks : (k : ℕ) → l < k → (a : ℕ) → Name mostRoles a → inSet (maskOf c a) k ≡ false
-  pub none : r ≡ false → (k : ℕ) → Name l k → isDue p w k n ≡ false
 
-abbrev pub AllFilled : List ℕ → List ℕ → List ℕ → ℕ → List ℕ → Bool → Type 0
-AllFilled p m w n c r = FilledTo p m w n (lastOf 6 p) c r
+abbrev pub AllFilled : List ℕ → List ℕ → List ℕ → ℕ → List ℕ → Type 0
+AllFilled p m w n c = FilledTo p m w n (lastOf 6 p) c
 
 -- ---- the edges
-
-pub record Joinable (at from mask : ℕ) (w c : List ℕ) : Type 0 where
-  pub room : at + recordWords ≤ length w
-  pub column : from + recordWords ≤ length c
-  pub masked : mask + recordWords ≤ length c
-
--- the first n words have the bits of both sets too
-pub record Joined (n at from mask : ℕ) (c w w′ : List ℕ) : Type 0 where
-  pub only : Only (Span at (at + recordWords)) w w′
-  pub words : (i : ℕ) → i < n → getD w′ (at + i) 0 ≡ bitOr (getD w (at + i) 0) (bitAnd (getD c (from + i) 0) (getD c (mask + i) 0))
-  pub rest : (i : ℕ) → n ≤ i → getD w′ (at + i) 0 ≡ getD w (at + i) 0
 
 -- a fact hands record k to individual i
 abbrev pub hands : List ℕ → ℕ → ℕ → Fact → Bool
@@ -113,11 +107,14 @@ hands c i k (member a o) = false
 hands c i k (edge r o j) = eqb i o && (isName mostRoles r && (inSet (columnOf c j) k && inSet (maskOf c r) k))
 hands c i k (value f o v) = false
 
-pub record EdgeMarked (c : List ℕ) (x : Fact) (w w′ : List ℕ) : Type 0 where
-  pub only : Only (Span setsAt heightsAt) w w′
-  pub bits : (i k : ℕ) → Name mostIndividuals i → Name mostRecords k → inSet (recordsOf w′ i) k ≡ inSet (recordsOf w i) k || hands c i k x
+pub record EdgeMarkable (m w c : List ℕ) (f : ℕ) : Type 0 where
+  pub stated : Stated m f
+  pub readable : Readable m
+  pub long : workSize ≤ length w
+  pub room : columnsEnd ≤ length c
 
-pub record EdgesMarked (m c w w′ : List ℕ) : Type 0 where
-  pub only : Only (Span setsAt heightsAt) w w′
-  pub bits : (i k : ℕ) → Name mostIndividuals i → Name mostRecords k →
-      inSet (recordsOf w′ i) k ≡ inSet (recordsOf w i) k || any (hands c i k) (factsOf m)
+abbrev pub EdgeMarked : List ℕ → Fact → List ℕ → List ℕ → Type 0
+EdgeMarked c x w w′ = Handed (hands c) x w w′
+
+abbrev pub EdgesMarked : List ℕ → List ℕ → List ℕ → List ℕ → Type 0
+EdgesMarked m c w w′ = AllHanded (hands c) m w w′

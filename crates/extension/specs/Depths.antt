@@ -75,3 +75,7 @@ pub record Passes (p w : List ℕ) (i k : ℕ) (r : Bool) : Type 0 where
 -- a role's record, with a chain n deep below it
 abbrev pub isDue : List ℕ → List ℕ → ℕ → ℕ → Bool
 isDue p w k n = eqb (kindOf p k) 3 && eqb (heightOf w (onward p k (childOf p k))) n
+
+-- of the records up to l none's turn has come
+pub record NoneDueTo (p w : List ℕ) (n l : ℕ) : Type 0 where
+  pub undue : (k : ℕ) → Name l k → isDue p w k n ≡ false

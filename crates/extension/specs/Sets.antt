@@ -7,17 +7,17 @@ use lib.Dec.{eqb, leb, ltb}
 use lib.ListN.{length}
 use Rattle.frames.specs.Frames.{Only, Span}
 use Rattle.meaning.specs.Accepted.{ChainOf, Reads, depth}
-use Rattle.meaning.specs.Intervals.{isWithin}
 use Rattle.meaning.specs.Limits.{mostDepth, mostIndividuals, mostRecords, mostRoles}
 use Rattle.meaning.specs.Lists.{any}
-use Rattle.meaning.specs.Model.{Fact, edge, factAt, factsOf, individualCount, member, value}
+use Rattle.meaning.specs.Model.{Fact, edge, factsOf, individualCount, member, value}
 use Rattle.meaning.specs.ModelCheck.{holds, isIn, isMember}
-use Rattle.meaning.specs.Policy.{childOf, hiOf, kindOf, loOf, nameOf, policyOf, policyRefusal}
+use Rattle.meaning.specs.Policy.{childOf, kindOf, nameOf, policyOf, policyRefusal}
 use Rattle.meaning.specs.Records.{Name, lastOf}
 use Rattle.meaning.specs.Vocabulary.{roleCount, vocabularyRefusal}
 use Rattle.policy.specs.Terms.{conjunctsAt}
 use Rattle.satisfaction.specs.Classes.{Interpreted, ownerOf}
 use Rattle.satisfaction.specs.Places.{classesOf, heightsAt, putIn, recordWords, recordsOf, setPlace, setsAt, setsEnd}
+use Rattle.spans.specs.Values.{valued}
 use Rattle.words.specs.Sets.{inSet}
 
 -- ---- the records
@@ -55,21 +55,12 @@ edgeInto a q (member b i) = false
 edgeInto a q (edge r i j) = eqb a r && q j
 edgeInto a q (value f i v) = false
 
--- "feature a has a value from lo to hi"
-abbrev pub valueWithin : ℕ → ℕ → ℕ → Fact → Bool
-valueWithin a lo hi (member b i) = false
-valueWithin a lo hi (edge r i j) = false
-valueWithin a lo hi (value f i v) = eqb a f && isWithin lo hi v
-
 -- the individuals of which it holds: those in the class, those with an edge or a value that a fact shows
 abbrev pub inClass : List ℕ → List ℕ → ℕ → ℕ → Bool
 inClass p m k i = any (isMember (nameOf p k) i) (factsOf m)
 
 abbrev pub reached : List ℕ → List ℕ → ℕ → ℕ → Bool
 reached p m k i = any (λ x. eqb i (ownerOf x) && edgeInto (nameOf p k) (holds (factsOf m) (conjunctsAt p (childOf p k))) x) (factsOf m)
-
-abbrev pub valued : List ℕ → List ℕ → ℕ → ℕ → Bool
-valued p m k i = any (λ x. eqb i (ownerOf x) && valueWithin (nameOf p k) (loOf p k) (hiOf p k) x) (factsOf m)
 
 -- what needs no other record's sets, and all
 abbrev pub early : List ℕ → List ℕ → ℕ → ℕ → Bool
@@ -84,12 +75,9 @@ own p m k i = cond (eqb (kindOf p k) 3) (reached p m k i) (early p m k i)
 abbrev pub marked : List ℕ → ℕ → ℕ → List ℕ
 marked w k i = putIn recordWords w (setPlace i) k
 
--- by individual i's classes, and by record f of the model
+-- by individual i's classes
 abbrev pub markedMember : List ℕ → ℕ → List ℕ → ℕ → List ℕ
 markedMember p k w i = cond (inSet (classesOf w i) (nameOf p k)) (marked w k i) w
-
-abbrev pub markedValue : List ℕ → List ℕ → ℕ → List ℕ → ℕ → List ℕ
-markedValue p m k w f = cond (valueWithin (nameOf p k) (loOf p k) (hiOf p k) (factAt m f)) (marked w k (ownerOf (factAt m f))) w
 
 -- record k is put into the sets of those that pass the test, and no other record into any
 pub record Marked (m : List ℕ) (k : ℕ) (test : ℕ → Bool) (w w′ : List ℕ) : Type 0 where
@@ -100,16 +88,14 @@ pub record Marked (m : List ℕ) (k : ℕ) (test : ℕ → Bool) (w w′ : List 
 abbrev pub MembersMarked : List ℕ → List ℕ → ℕ → List ℕ → List ℕ → Type 0
 MembersMarked p m k w w′ = Marked m k (inClass p m k) w w′
 
-abbrev pub ValuesMarked : List ℕ → List ℕ → ℕ → List ℕ → List ℕ → Type 0
-ValuesMarked p m k w w′ = Marked m k (valued p m k) w w′
+abbrev pub ClassMarked : List ℕ → List ℕ → ℕ → List ℕ → List ℕ → Type 0
+ClassMarked p m k w w′ = Marked m k (λ i. eqb (kindOf p k) 1 && inClass p m k i) w w′
 
-abbrev pub EarlyMarked : List ℕ → List ℕ → ℕ → List ℕ → List ℕ → Type 0
-EarlyMarked p m k w w′ = Marked m k (early p m k) w w′
-
--- the sets have what needs no other record's, up to record n
+-- the sets have what needs no other record's: of the records past n only those of features
 pub record MarkedTo (p m : List ℕ) (n : ℕ) (w : List ℕ) : Type 0 where
   pub tells : (k i : ℕ) → Name n k → Name (individualCount m) i → inSet (recordsOf w i) k ≡ early p m k i
-  pub rest : (k i : ℕ) → n < k → Name mostIndividuals i → inSet (recordsOf w i) k ≡ false
+  pub rest : (k i : ℕ) → n < k → k ≤ lastOf 6 p → Name (individualCount m) i →
+      inSet (recordsOf w i) k ≡ eqb (kindOf p k) 4 && valued p m k i
 
 pub record AllMarked (p m w w′ : List ℕ) : Type 0 where
   pub marked : MarkedTo p m (lastOf 6 p) w′

@@ -1,12 +1,11 @@
 // Extensions: for each individual the set of the policy's records whose conjunct holds of it, and so whether individual 1 is in the policy.
 //
-// A role's record waits for the chain below it. The records are taken in rounds, by how deep that chain is, and one walk over the facts
-// does all of a round: an edge hands the records of its role that hold below its target to its owner, 16 words at a time. So time
-// grows with the model's records times the policy's depth; a feature's record takes a walk of its own.
+// The records of features come first (crate spans, one walk over the facts for 256 of them), then those of classes. A role's record waits
+// for the chain below it: these are taken in rounds, by how deep that chain is, and one walk over the facts does all of a round. An edge
+// hands the records of its role that hold below its target to its owner, 16 words at a time. So time grows with the model's records
+// times the policy's depth, and with the individuals times the policy's records. What no individual of the model needs is not cleared.
 use frames::clear;
-use intervals::is_within;
 use meaning::ClassNo;
-use meaning::FeatureNo;
 use meaning::RoleNo;
 use meaning::limits::MOST_DEPTH;
 use meaning::limits::MOST_INDIVIDUALS;
@@ -20,9 +19,7 @@ use model::first_fact;
 use model::individual_count;
 use policy::child_of;
 use policy::first_term;
-use policy::hi_of;
 use policy::kind_of;
-use policy::lo_of;
 use policy::name_of;
 use policy::next_of;
 use records::is_name;
@@ -31,51 +28,43 @@ use satisfaction::SET_WORDS;
 use satisfaction::SETS;
 use satisfaction::is_member;
 use satisfaction::put;
+use spans::join;
+use spans::mark_values;
+use spans::set_place;
 use words::has;
 use words::place;
+ghost use mathlib.Core.Bool.{false};
 ghost use mathlib.Core.Path.{_≡_};
 ghost use Prim.Native.Nat.{_+_, _≤_, max};
 ghost use lib.ListN.{length};
-ghost use Rattle.extension.specs.Columns.{AllFilled, CellFilled, ColumnFilled, EdgeMarked, EdgesMarked, Fillable};
-ghost use Rattle.extension.specs.Columns.{Joinable, Joined, MaskFilled, RecordFilled, columnPlace, columnsEnd, maskPlace};
-ghost use Rattle.extension.specs.Depths.{AllMeasured, Passes, Settled, Topped, heightAt, isDue, ownHeight};
-ghost use Rattle.extension.specs.Sets.{AllMarked, EarlyMarked, Extended, MembersMarked, Sized, Taken, ValuesMarked};
-ghost use Rattle.extension.specs.Sets.{Linked, markedMember, markedValue, valueWithin};
+ghost use Rattle.extension.specs.Columns.{AllFilled, CellFillable, CellFilled, ColumnFilled, EdgeMarkable, EdgeMarked, EdgesMarked};
+ghost use Rattle.extension.specs.Columns.{Fillable, MaskFilled, RecordFilled, columnPlace, columnsEnd, maskPlace};
+ghost use Rattle.extension.specs.Depths.{AllMeasured, NoneDueTo, Passes, Settled, Topped, heightAt, isDue, ownHeight};
+ghost use Rattle.extension.specs.Sets.{AllMarked, ClassMarked, Extended, Linked, MembersMarked, Sized, Taken, markedMember};
 ghost use Rattle.frames.specs.Frames.{Only, Span};
 ghost use Rattle.meaning.specs.Limits.{mostIndividuals, mostRecords, mostRoles, workSize};
 ghost use Rattle.meaning.specs.Model.{factAt, factsOf};
 ghost use Rattle.meaning.specs.ModelCheck.{isIn};
 ghost use Rattle.meaning.specs.Policy.{policyOf};
 ghost use Rattle.meaning.specs.Records.{Name, lastOf};
-ghost use Rattle.model.specs.Chain.{Readable, Stated};
+ghost use Rattle.model.specs.Chain.{Readable};
 ghost use Rattle.satisfaction.specs.Classes.{Interpreted};
-ghost use Rattle.satisfaction.specs.Places.{recordWords, setPlace, setsAt, setsEnd};
+ghost use Rattle.satisfaction.specs.Places.{setsAt, setsEnd};
 
 // The individual that is asked of.
 const FIRST: u32 = 1;
 
-// A set of records for each individual.
-const ROWS: usize = MOST_INDIVIDUALS as usize * SET_WORDS;
+// Beside the work slice: for each role its records, and behind them for each individual those that hold below it.
+const BELOW: usize = MOST_ROLES as usize * SET_WORDS;
 
-// Beside the work slice: for each individual the records that hold below it, and behind them for each role its records.
-const MASKS: usize = ROWS;
-
-const COLUMNS: usize = MASKS + MOST_ROLES as usize * SET_WORDS;
-
-// Where the set of the records that hold of individual i starts.
-fn set_place(i: u32) -> usize
-    requires { ⌜ Name mostIndividuals i ⌝ }
-    ensures { λ r. ⌜ r ≡ setPlace i ⌝ }
-{
-    SETS + place(i - 1) * SET_WORDS
-}
+pub const COLUMNS: usize = BELOW + MOST_INDIVIDUALS as usize * SET_WORDS;
 
 // Where the set of the records that hold below individual j starts.
 fn column_place(j: u32) -> usize
     requires { ⌜ Name mostIndividuals j ⌝ }
     ensures { λ r. ⌜ r ≡ columnPlace j ⌝ }
 {
-    place(j - 1) * SET_WORDS
+    BELOW + place(j - 1) * SET_WORDS
 }
 
 // Where the set of role r's records starts.
@@ -83,7 +72,7 @@ fn mask_place(r: RoleNo) -> usize
     requires { ⌜ Name mostRoles (r .0) ⌝ }
     ensures { λ t. ⌜ t ≡ maskPlace (r .0) ⌝ }
 {
-    MASKS + place(r.0 - 1) * SET_WORDS
+    place(r.0 - 1) * SET_WORDS
 }
 
 fn last_record(p: &[u32]) -> u32
@@ -128,65 +117,26 @@ fn mark_all_members(p: &[u32], m: &[u32], work: &mut [u32], k: u32)
     }
 }
 
-// Whether record f is a value of feature a from lo to hi.
-fn is_value_within(m: &[u32], f: u32, a: FeatureNo, lo: u32, hi: u32) -> bool
-    requires { ⌜ Stated (now m) f ⌝ }
-    ensures { λ r. ⌜ r ≡ valueWithin (a .0) lo hi (factAt (now (m .entry)) f) ⌝ }
-{
-    if fact_kind(m, f) != 3 {
-        return false;
-    }
-    if fact_name(m, f) != a.0 {
-        return false;
-    }
-    is_within(lo, hi, fact_other(m, f))
-}
-
-// Puts record k, a feature's, into the set of the individual of record f of the model, where f is a value of it.
-fn mark_value(p: &[u32], m: &[u32], work: &mut [u32], k: u32, f: u32)
-    requires { ⌜ Stated (now m) f × Readable (now m) × (workSize ≤ length (now work)) ⌝ }
-    ensures { λ _. ⌜ now (work .exit) ≡ markedValue (now (p .entry)) (now (m .entry)) k (now (work .entry)) f ⌝ }
-{
-    let a = FeatureNo(name_of(p, k));
-    if is_value_within(m, f, a, lo_of(p, k), hi_of(p, k)) {
-        put(work, set_place(fact_owner(m, f)), SET_WORDS, k);
-    }
-}
-
-// Puts record k, a feature's, into the sets of the individuals that have a value of it, by one walk over the records.
-fn mark_all_values(p: &[u32], m: &[u32], work: &mut [u32], k: u32)
+// Puts record k, where it is a class's, into the sets of the individuals in the class.
+fn mark_class(p: &[u32], m: &[u32], work: &mut [u32], k: u32)
     requires { ⌜ Name mostRecords k × Interpreted (now m) (now work) ⌝ }
-    ensures { λ _. ⌜ ValuesMarked (now (p .entry)) (now (m .entry)) k (now (work .entry)) (now (work .exit)) ⌝ }
+    ensures { λ _. ⌜ ClassMarked (now (p .entry)) (now (m .entry)) k (now (work .entry)) (now (work .exit)) ⌝ }
 {
-    let mut f = first_fact(m);
-    while f != 0 {
-        mark_value(p, m, work, k, f);
-        f = fact_next(m, f);
+    if kind_of(p, k) == 1 {
+        mark_all_members(p, m, work, k);
     }
 }
 
-// Puts record k into the sets that it is in whatever else holds: a class's and a feature's.
-fn mark(p: &[u32], m: &[u32], work: &mut [u32], k: u32)
-    requires { ⌜ Name mostRecords k × Interpreted (now m) (now work) ⌝ }
-    ensures { λ _. ⌜ EarlyMarked (now (p .entry)) (now (m .entry)) k (now (work .entry)) (now (work .exit)) ⌝ }
-{
-    let kind = kind_of(p, k);
-    match kind {
-        1 => mark_all_members(p, m, work, k),
-        4 => mark_all_values(p, m, work, k),
-        _ => {}
-    }
-}
-
-// All records of classes and features.
-fn mark_all(p: &[u32], m: &[u32], work: &mut [u32])
-    requires { ⌜ Sized (now p) × Interpreted (now m) (now work) ⌝ }
+// All records that need no other record's sets, those of features, then those of classes, in sets that are empty before.
+fn mark_all(p: &[u32], m: &[u32], work: &mut [u32], columns: &mut [u32])
+    requires { ⌜ Sized (now p) × Interpreted (now m) (now work) × (columnsEnd ≤ length (now columns)) ⌝ }
     ensures { λ _. ⌜ AllMarked (now (p .entry)) (now (m .entry)) (now (work .entry)) (now (work .exit)) ⌝ }
 {
-    clear(work, SETS, ROWS);
+    clear(work, SETS, place(individual_count(m)) * SET_WORDS);
     let last = last_record(p);
+    mark_values(p, m, work, columns, last);
     for k in 0..last {
-        mark(p, m, work, k + 1);
+        mark_class(p, m, work, k + 1);
     }
 }
 
@@ -267,9 +217,23 @@ fn is_due(p: &[u32], work: &[u32], k: u32, n: u32) -> bool
     work[HEIGHTS + place(link_of(p, k, child_of(p, k)))] == n
 }
 
+// Whether some record's turn has come.
+fn is_any_due(p: &[u32], work: &[u32], n: u32) -> bool
+    requires { ⌜ Sized (now p) × (workSize ≤ length (now work)) ⌝ }
+    ensures { λ r. ⌜ (r ≡ false → NoneDueTo (now (p .entry)) (now (work .entry)) n (lastOf 6 (now (p .entry)))) ⌝ }
+{
+    let last = last_record(p);
+    for k in 0..last {
+        if is_due(p, work, k + 1, n) {
+            return true;
+        }
+    }
+    false
+}
+
 // Puts record k into the column of individual j, where the chain below the record holds of j.
 fn fill_cell(p: &[u32], work: &[u32], columns: &mut [u32], k: u32, j: u32)
-    requires { ⌜ Sized (now p) × Name mostIndividuals j × (workSize ≤ length (now work)) × (columnsEnd ≤ length (now columns)) ⌝ }
+    requires { ⌜ CellFillable (now p) (now work) (now columns) j ⌝ }
     ensures { λ _. ⌜ CellFilled (now (p .entry)) (now (work .entry)) k j (now (columns .entry)) (now (columns .exit)) ⌝ }
 {
     let child = link_of(p, k, child_of(p, k));
@@ -302,48 +266,33 @@ fn fill_mask(p: &[u32], columns: &mut [u32], k: u32)
 }
 
 // Puts record k into its columns and its role's set, where its turn has come.
-fn fill(p: &[u32], m: &[u32], work: &[u32], columns: &mut [u32], k: u32, n: u32) -> bool
+fn fill(p: &[u32], m: &[u32], work: &[u32], columns: &mut [u32], k: u32, n: u32)
     requires { ⌜ Fillable (now p) (now m) (now work) (now columns) k ⌝ }
-    ensures { λ r. ⌜ RecordFilled (now (p .entry)) (now (m .entry)) (now (work .entry)) k n
-        (now (columns .entry)) (now (columns .exit)) r ⌝ }
+    ensures { λ _. ⌜ RecordFilled (now (p .entry)) (now (m .entry)) (now (work .entry)) k n
+        (now (columns .entry)) (now (columns .exit)) ⌝ }
 {
     if !is_due(p, work, k, n) {
-        return false;
+        return;
     }
     fill_column(p, m, work, columns, k);
     fill_mask(p, columns, k);
-    true
 }
 
-// The columns and the roles' sets of the records whose turn has come, and whether there are any.
-fn fill_all(p: &[u32], m: &[u32], work: &[u32], columns: &mut [u32], n: u32) -> bool
+// The roles' sets, and the columns of the model's individuals, of the records whose turn has come.
+fn fill_all(p: &[u32], m: &[u32], work: &[u32], columns: &mut [u32], n: u32)
     requires { ⌜ Sized (now p) × Interpreted (now m) (now work) × (columnsEnd ≤ length (now columns)) ⌝ }
-    ensures { λ r. ⌜ AllFilled (now (p .entry)) (now (m .entry)) (now (work .entry)) n (now (columns .exit)) r ⌝ }
+    ensures { λ _. ⌜ AllFilled (now (p .entry)) (now (m .entry)) (now (work .entry)) n (now (columns .exit)) ⌝ }
 {
-    clear(columns, 0, COLUMNS);
-    let mut any = false;
+    clear(columns, 0, BELOW + place(individual_count(m)) * SET_WORDS);
     let last = last_record(p);
     for k in 0..last {
-        let due = fill(p, m, work, columns, k + 1, n);
-        any = any | due;
-    }
-    any
-}
-
-// Puts those records of the set at a place of the columns that are in a second such set into the set at a place of the work slice.
-// No branch, so that it is done in a few wide steps.
-fn join(work: &mut [u32], at: usize, columns: &[u32], from: usize, mask: usize)
-    requires { ⌜ Joinable at from mask (now work) (now columns) ⌝ }
-    ensures { λ _. ⌜ Joined recordWords at from mask (now (columns .entry)) (now (work .entry)) (now (work .exit)) ⌝ }
-{
-    for i in 0..SET_WORDS {
-        work[at + i] = work[at + i] | columns[from + i] & columns[mask + i];
+        fill(p, m, work, columns, k + 1, n);
     }
 }
 
 // Where record f is an edge, its owner has the records of its role that hold below its target. A role past the most has none.
 fn mark_edge(m: &[u32], work: &mut [u32], columns: &[u32], f: u32)
-    requires { ⌜ Stated (now m) f × Readable (now m) × (workSize ≤ length (now work)) × (columnsEnd ≤ length (now columns)) ⌝ }
+    requires { ⌜ EdgeMarkable (now m) (now work) (now columns) f ⌝ }
     ensures { λ _. ⌜ EdgeMarked (now (columns .entry)) (factAt (now (m .entry)) f) (now (work .entry)) (now (work .exit)) ⌝ }
 {
     if fact_kind(m, f) != 2 {
@@ -382,7 +331,8 @@ fn settle(p: &[u32], m: &[u32], work: &mut [u32], columns: &mut [u32], n: u32)
     ensures { λ _. ⌜ Settled (now (p .entry)) (now (m .entry)) (n + 1) (now (work .exit)) ⌝ }
     ensures { λ _. ⌜ Only (Span setsAt setsEnd) (now (work .entry)) (now (work .exit)) ⌝ }
 {
-    if fill_all(p, m, work, columns, n) {
+    if is_any_due(p, work, n) {
+        fill_all(p, m, work, columns, n);
         mark_edges(m, work, columns);
     }
 }
@@ -415,21 +365,12 @@ fn is_in_some(p: &[u32], m: &[u32], work: &[u32], top: u32) -> bool
 }
 
 // Whether individual 1 is in the policy, with columns to work in.
-fn is_inside_by(p: &[u32], m: &[u32], work: &mut [u32], columns: &mut [u32]) -> bool
+pub fn is_inside(p: &[u32], m: &[u32], work: &mut [u32], columns: &mut [u32]) -> bool
     requires { ⌜ Interpreted (now m) (now work) × Taken (now p) × (columnsEnd ≤ length (now columns)) ⌝ }
     ensures { λ r. ⌜ Extended (now (p .entry)) (now (m .entry)) (now (work .entry)) (now (work .exit)) r ⌝ }
 {
-    mark_all(p, m, work);
+    mark_all(p, m, work, columns);
     let top = measure_all(p, work);
     settle_all(p, m, work, columns, top);
     is_in_some(p, m, work, top)
-}
-
-// Whether individual 1 is in the policy.
-pub fn is_inside(p: &[u32], m: &[u32], work: &mut [u32]) -> bool
-    requires { ⌜ Interpreted (now m) (now work) × Taken (now p) ⌝ }
-    ensures { λ r. ⌜ Extended (now (p .entry)) (now (m .entry)) (now (work .entry)) (now (work .exit)) r ⌝ }
-{
-    let mut columns = [0; COLUMNS];
-    is_inside_by(p, m, work, &mut columns)
 }

@@ -1,9 +1,10 @@
-// Intervals, both ends included: the three questions that the code asks of one.
+// Intervals, both ends included: the questions that the code asks of one.
 ghost use mathlib.Core.Path.{_≡_};
+ghost use Rattle.intervals.specs.Touching.{touches};
 ghost use Rattle.meaning.specs.Intervals.{isInside, isNonEmpty, isWithin};
 
-// Whether v is a value from lo to hi.
-pub fn is_within(lo: u32, hi: u32, v: u32) -> bool
+// Whether v lies from lo to hi, of values or of keys.
+pub fn is_within(lo: u64, hi: u64, v: u64) -> bool
     ensures { λ r. ⌜ r ≡ isWithin lo hi v ⌝ }
 {
     lo <= v && v <= hi
@@ -21,4 +22,11 @@ pub fn is_inside(lo: u32, hi: u32, low: u32, high: u32) -> bool
     ensures { λ r. ⌜ r ≡ isInside lo hi low high ⌝ }
 {
     lo <= low && high <= hi
+}
+
+// Whether some value from low to high lies from lo to hi, where both have values.
+pub fn does_touch(lo: u32, hi: u32, low: u32, high: u32) -> bool
+    ensures { λ r. ⌜ r ≡ touches lo hi low high ⌝ }
+{
+    low <= hi && lo <= high
 }

@@ -21,33 +21,36 @@ use Rattle.meaning.specs.Operations.{Early, Outcome, inputRefusal, modelCheck, 
 use Rattle.meaning.specs.Promises.{CorrectCheck}
 use Rattle.meaning.specs.Records.{orElse}
 use Rattle.meaning.specs.declared.Checked.{Checked}
-use Rattle.model_check.specs.Judging.{Checkable, ModelCheckPost, isRefuted, tablesRefusal}
+use Rattle.model_check.specs.Judging.{Checkable, ModelCheckPost, Parted, isRefuted, tablesRefusal}
 use Rattle.satisfaction.specs.Classes.{Satisfied}
 use Rattle.meaning.specs.declared.Checked.the-variants as checked
 
 -- ---- what is refuted
 
--- b tells whether the vocabulary is satisfied, c whether individual 1 is in the first policy, and t whether it is in the second
+-- b tells whether individual 1 is in the first policy, and t whether it is in the second
+module _ {p q m w w₁ : List ℕ} {b : Bool} (x : Extended p m w w₁ b) where
+  pub not-inside : not b ≡ true → Parted p q m w w₁ false
+  not-inside g = record { told = rw (← x .told, not-true b g); only = x .only }
+
+  pub not-outside : {w₂ : List ℕ} {t : Bool} → not b ≡ false → Extended q m w₁ w₂ t → Parted p q m w w₂ (not t)
+  not-outside g y = record { told = rw (← x .told, not-false b g, y .told); only = only-then (x .only) (y .only) }
+
+-- b tells whether the vocabulary is satisfied, and t whether the policies are told apart
 module _ {v m w w₁ : List ℕ} {b : Bool} (s : Satisfied v m w w₁ b) where
   pub satisfied-only : Only (Span 0 workSize) w w₁
   satisfied-only = only-span (s .only) (omega arith) (omega arith)
 
-  module _ (p q : List ℕ) where
-    pub unsatisfied : not b ≡ true → false ≡ isRefuted v p q m
+  pub unsatisfied : (p q : List ℕ) → not b ≡ true → false ≡ isRefuted v p q m
+  unfolding refutes
+  unsatisfied p q h = rw (← s .told, not-true b h)
+
+  module _ {p q w₂ : List ℕ} {t : Bool} (x : Parted p q m w₁ w₂ t) where
+    pub parted : not b ≡ false → t ≡ isRefuted v p q m
     unfolding refutes
-    unsatisfied h = rw (← s .told, not-true b h)
+    parted h = x .told ∙ rw (← s .told, not-false b h)
 
-    module _ {w₂ : List ℕ} {c : Bool} (x : Extended p m w₁ w₂ c) (h : not b ≡ false) where
-      pub not-inside : not c ≡ true → false ≡ isRefuted v p q m
-      unfolding refutes
-      not-inside g = rw (← s .told, not-false b h, ← x .told, not-true c g)
-
-      pub not-outside : {w₃ : List ℕ} {t : Bool} → not c ≡ false → Extended q m w₂ w₃ t → not t ≡ isRefuted v p q m
-      unfolding refutes
-      not-outside g y = rw (← s .told, not-false b h, ← x .told, not-false c g, y .told)
-
-pub extended-only : {p m w w₁ w₂ : List ℕ} {b : Bool} → Only (Span 0 workSize) w w₁ → Extended p m w₁ w₂ b → Only (Span 0 workSize) w w₂
-extended-only o x = only-then o (only-span (x .only) (omega arith) (omega arith))
+    pub parted-only : Only (Span 0 workSize) w w₂
+    parted-only = only-then satisfied-only (only-span (x .only) (omega arith) (omega arith))
 
 -- ---- the refusals in their order
 

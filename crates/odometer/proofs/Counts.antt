@@ -15,7 +15,7 @@ use Rattle.meaning.specs.Limits.{mostCombinations}
 use Rattle.meaning.specs.Lists.{counting}
 use Rattle.meaning.specs.Policy.{Policy}
 use Rattle.meaning.specs.Splitting.{pieces, product}
-use Rattle.odometer.specs.Odometer.{Counted, Dialled, Split}
+use Rattle.odometer.specs.Odometer.{Counted, PiecesCountable}
 use Rattle.splitting.specs.Ends.{Ends}
 use Rattle.splitting.specs.Constraints.{firstConstraints, pieceCount}
 
@@ -42,12 +42,13 @@ pub record Counting (e w dials counts₀ counts : List ℕ) (d : ℕ) : Type 0 w
 pub counting-starts : (e w dials counts : List ℕ) → Counting e w dials counts counts 0
 counting-starts e w dials counts = record { size = refl; count = λ Q ends i h. absurd (omega arith) }
 
-module _ {e w dials : List ℕ} {n d m : ℕ} (s : Split e w n) (a : Dialled dials w n) (less : d < length dials) (em : m ≡ getD dials d 0) where
+module _ {e w dials counts₀ : List ℕ} {n d m : ℕ} (pre : PiecesCountable e dials w counts₀ n) (less : d < length dials)
+    (em : m ≡ getD dials d 0) where
   pub counting-inside : HasEntry m w
-  counting-inside = let i = a .dial d less in (omega (arith, s .splittable .few), s .splittable .long)
+  counting-inside = let i = pre .dialled .dial d less in (omega (arith, pre .split .splittable .few), pre .split .splittable .long)
 
   pub counting-full : {lo hi : ℕ} → lo ≡ constraintAt w m .lo → hi ≡ constraintAt w m .hi → NonEmpty lo hi
-  counting-full el eh = let i = a .dial d less in let f = s .splittable .full m (omega arith) in omega arith
+  counting-full el eh = let i = pre .dialled .dial d less in let f = pre .split .splittable .full m (omega arith) in omega arith
 
   module _ {f lo hi r : ℕ} (ef : f ≡ constraintAt w m .feature) (el : lo ≡ constraintAt w m .lo) (eh : hi ≡ constraintAt w m .hi)
       (c : (Q : Policy) → Ends Q e → r ≡ length (pieces Q (intervalOf f lo hi))) where
@@ -56,19 +57,20 @@ module _ {e w dials : List ℕ} {n d m : ℕ} (s : Split e w n) (a : Dialled dia
 
     pub counting-fits : r ≤ mostCombinations
     counting-fits =
-        let i = a .dial d less in
-        let t = told (s .policy) (s .ends) in
-        let b = factor-most (s .policy) w n m (omega arith) in
-        omega (arith, s .few)
+        let i = pre .dialled .dial d less in
+        let t = told (pre .split .policy) (pre .split .ends) in
+        let b = factor-most (pre .split .policy) w n m (omega arith) in
+        omega (arith, pre .split .few)
 
-    pub counting-on : {counts₀ counts : List ℕ} → length counts₀ ≡ length dials → Counting e w dials counts₀ counts d → Counting e w dials counts₀ (set counts d r) (d + 1)
-    counting-on {counts = counts} z g = record {
+    pub counting-on : {counts : List ℕ} → Counting e w dials counts₀ counts d → Counting e w dials counts₀ (set counts d r) (d + 1)
+    counting-on {counts} g = record {
       size = length-set counts d r ∙ g .size;
       count = λ Q ends i h. ⊎-elim
           (λ b. getD-set-other counts d i r 0 (λ q. omega arith) ∙ g .count Q ends i b)
           (λ b. let q : i ≡ d = omega arith in
-          ap (λ (k : ℕ). getD (set counts d r) k 0) q ∙ getD-set-same counts d r 0 (omega (arith, g .size)) ∙ told Q ends ∙ ap (pieceCount Q w) em ∙ ap (λ (k : ℕ). pieceCount Q w (getD dials k 0)) (sym q)) (order i d);
+          ap (λ (k : ℕ). getD (set counts d r) k 0) q ∙ getD-set-same counts d r 0 (omega (arith, g .size, pre .size)) ∙ told Q ends ∙ ap (pieceCount Q w) em ∙ ap (λ (k : ℕ). pieceCount Q w (getD dials k 0)) (sym q)) (order i d);
     }
 
-pub counting-ends : {e w dials counts₀ counts : List ℕ} {d : ℕ} → length counts₀ ≡ length dials → length dials ≤ d → Counting e w dials counts₀ counts d → Counted e dials w counts
-counting-ends z h g = record { size = g .size ∙ z; count = λ Q ends i l. g .count Q ends i (omega arith) }
+pub counting-ends : {e w dials counts₀ counts : List ℕ} {n d : ℕ} → PiecesCountable e dials w counts₀ n → length dials ≤ d →
+    Counting e w dials counts₀ counts d → Counted e dials w counts
+counting-ends pre h g = record { size = g .size ∙ pre .size; count = λ Q ends i l. g .count Q ends i (omega arith) }

@@ -6,4 +6,5 @@ pub mod Finding
 pub mod Counts
 pub mod Turning
 pub mod Weights
+pub mod Passing
 pub mod Skipping

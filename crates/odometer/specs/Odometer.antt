@@ -44,6 +44,12 @@ pub record Split (e w : List ℕ) (n : ℕ) : Type 0 where
   pub ends : Ends policy e
   pub few : product policy (firstConstraints w n) ≤ mostCombinations
 
+-- what a count of the dials' pieces asks
+pub record PiecesCountable (e dials w counts : List ℕ) (n : ℕ) : Type 0 where
+  pub split : Split e w n
+  pub dialled : Dialled dials w n
+  pub size : length counts ≡ length dials
+
 -- the numbers of the dials' pieces
 pub record Counted (e dials w : List ℕ) (counts : List ℕ) : Type 0 where
   pub size : length counts ≡ length dials

@@ -11,7 +11,8 @@ ghost use mathlib.Core.Path.{_≡_};
 ghost use Prim.Native.Nat.{_<_, _≤_};
 ghost use lib.Bits.{bitOr};
 ghost use lib.ListN.{length};
-ghost use Rattle.odometer.specs.Odometer.{Counted, Dialled, DialsFound, Limited, Skippable, Skipped, Split, Turned, mostDials, nextNumber};
+ghost use Rattle.odometer.specs.Odometer.{Counted, DialsFound, Limited, PiecesCountable, Skippable, Skipped, Split, Turned};
+ghost use Rattle.odometer.specs.Odometer.{mostDials, nextNumber};
 ghost use Rattle.meaning.specs.Limits.{mostCombinations};
 ghost use Rattle.words.specs.Sets.{testBit};
 
@@ -36,7 +37,7 @@ pub fn find_dials(work: &[u32], n: usize, dials: &mut [u32]) -> usize
 
 // How many pieces each dial has.
 pub fn count_pieces(ends: &[u64], work: &[u32], n: usize, dials: &[u32], counts: &mut [u32])
-    requires { ⌜ Split (now ends) (now work) n × Dialled (now dials) (now work) n × (length (now counts) ≡ length (now dials)) ⌝ }
+    requires { ⌜ PiecesCountable (now ends) (now dials) (now work) (now counts) n ⌝ }
     ensures { λ _. ⌜ Counted (now (ends .entry)) (now (dials .entry)) (now (work .entry)) (now (counts .exit)) ⌝ }
 {
     for d in 0..dials.len() {

@@ -2,7 +2,7 @@
 use meaning::Reading;
 ghost use mathlib.Core.Path.{_≡_};
 ghost use Prim.Native.Nat.{_<_};
-ghost use lib.ListN.{getD};
+ghost use lib.ListN.{getD, set};
 ghost use Rattle.meaning.specs.Answers.{accepted, readingAnswer, refused, result};
 ghost use Rattle.meaning.specs.Operations.{unless};
 ghost use Rattle.meaning.specs.Records.{isName, isOnward, isSized};
@@ -12,6 +12,15 @@ pub fn word(l: &[u32], i: usize) -> u32
     ensures { λ r. ⌜ r ≡ getD (now (l .entry)) i 0 ⌝ }
 {
     if i < l.len() { l[i] } else { 0 }
+}
+
+// A word past the end is not written.
+pub fn put_word(l: &mut [u32], i: usize, x: u32)
+    ensures { λ _. ⌜ now (l .exit) ≡ set (now (l .entry)) i x ⌝ }
+{
+    if i < l.len() {
+        l[i] = x;
+    }
 }
 
 // Names count from 1 in each series.

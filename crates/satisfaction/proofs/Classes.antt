@@ -1,5 +1,5 @@
 -- Laws of the sets of classes: with some facts left, what the sets hold and what these put in is what all put in; and what keeps them.
-use Prim.Native.Nat.{_+_, _≤_, ℕ}
+use Prim.Native.Nat.{_*_, _+_, _≤_, ℕ}
 use mathlib.Core.Bool.{Bool, _&&_, _||_, and-false, and-true, false, or-assoc, or-comm, or-false, true}
 use mathlib.Core.List.{List, [], _∷_}
 use mathlib.Core.Logic.{⊎-elim}
@@ -8,7 +8,7 @@ use lib.Dec.{eqb}
 use lib.ListN.{length}
 use native.Mathlib.Omega.{arith}
 use borrow.Author.Tests.{eqb-false, eqb-true}
-use Rattle.frames.proofs.Frames.{only-none, only-then, row-before, row-behind}
+use Rattle.frames.proofs.Frames.{only-none, only-span, only-then, row-before, row-behind}
 use Rattle.frames.specs.Frames.{Cleared, Only, Span}
 use Rattle.meaning.proofs.Rules.{order}
 use Rattle.meaning.specs.Limits.{mostClasses, mostIndividuals, workSize}
@@ -39,18 +39,21 @@ pub record Entering (m w₀ w : List ℕ) (l : List Fact) : Type 0 where
   pub only : Only (Span 0 classesEnd) w₀ w
   pub left : (i a : ℕ) → Name (individualCount m) i → inSet (classesOf w i) a || any (isMember a i) l ≡ any (isMember a i) (factsOf m)
 
-module _ {m w w₁ : List ℕ} (c : Cleared 0 classesEnd w w₁) where
-  pub entering-starts : Readable m → workSize ≤ length w → Entering m w₁ w₁ (factsOf m)
-  entering-starts r h = record {
+pub classes-fit : {m : List ℕ} (w : List ℕ) → Readable m → workSize ≤ length w → 0 + individualCount m * classWords ≤ length w
+classes-fit w r h = omega (arith, r .individuals)
+
+module _ {m w w₁ : List ℕ} (r : Readable m) (c : Cleared 0 (individualCount m * classWords) w w₁) where
+  pub entering-starts : workSize ≤ length w → Entering m w₁ w₁ (factsOf m)
+  entering-starts h = record {
     long = omega arith;
     only = only-none;
-    left = λ i a n. rw (none-in classWords w₁ (classPlace i) (λ j p q. c .zeros j (omega arith) (omega arith)) a);
+    left = λ i a k. rw (none-in classWords w₁ (classPlace i) (λ j p q. c .zeros j (omega arith) (omega arith)) a);
   }
 
   pub entering-ends : {w₂ : List ℕ} → Entering m w₁ w₂ [] → AllEntered m w w₂
   entering-ends {w₂} t = record {
     classed = record { rows = λ i a n. sym (or-false (inSet (classesOf w₂ i) a)) ∙ t .left i a n };
-    only = only-then (c .only) (t .only);
+    only = only-then (only-span (c .only) (omega arith) (omega (arith, r .individuals))) (t .only);
   }
 
 -- one fact more

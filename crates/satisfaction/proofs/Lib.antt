@@ -1,4 +1,4 @@
--- The laws that the functions' proofs cite; extension cites Rows, Facts, Statements and Classes.
+-- The laws that the functions' proofs cite; extension cites Rows, Facts, Classes, Ranges and Statements.
 pub mod Rows
 pub mod Facts
 pub mod Classes

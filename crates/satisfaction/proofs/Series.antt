@@ -18,8 +18,9 @@ use Rattle.meaning.specs.Records.{Name, isName}
 use Rattle.meaning.specs.Vocabulary.{axiomAt, axiomKind, axiomLeft, functionalFeature, functionalRole}
 use Rattle.satisfaction.proofs.Values.{said}
 use Rattle.satisfaction.specs.Axioms.{Named}
-use Rattle.satisfaction.specs.Links.{Gives, Link, Prepared, Single, link, linkOf, numberOf}
+use Rattle.satisfaction.specs.Links.{Gives, Link, Single, link, linkOf, numberOf}
 use Rattle.satisfaction.specs.Places.{clashesOf}
+use Rattle.satisfaction.specs.Tables.{Prepared}
 use Rattle.words.proofs.Laws.{named-within}
 use Rattle.words.specs.Sets.{inSet}
 
@@ -79,13 +80,16 @@ feature-named x ek ea e = rw ea (x .feature (sym ek ∙ e))
 
 -- ---- what record k of the vocabulary states of a role or a feature
 
-module _ {m w v : List ℕ} {k kind a : ℕ} {t : Bool} (p : Prepared m w) (x : Named v k) (ek : kind ≡ axiomKind v k) (ea : a ≡ axiomLeft v k) where
+module _ {m w v : List ℕ} {k kind a : ℕ} {t : Bool} (p : Prepared m w (axiomAt v k)) (x : Named v k)
+    (ek : kind ≡ axiomKind v k) (ea : a ≡ axiomLeft v k) where
   pub states-role : kind ≡ 3 → t ≡ not (inSet (clashesOf w) a) → t ≡ obeys (factsOf m) (axiomAt v k)
   states-role e h =
       let n : Name mostRoles a = rw ea (x .role (sym ek ∙ e)) in
-      h ∙ role-told (factsOf m) a n (p .clashing .told a (n .0, omega arith)) ∙ rw (← ek, e, ea)
+      let s = rw (← ek, e, ← ea) at (p .decides) in
+      h ∙ role-told (factsOf m) a n (s n) ∙ rw (← ek, e, ea)
 
   pub states-feature : kind ≡ 4 → t ≡ not (inSet (clashesOf w) (mostRoles + a)) → t ≡ obeys (factsOf m) (axiomAt v k)
   states-feature e h =
       let n : Name mostFeatures a = rw ea (x .feature (sym ek ∙ e)) in
-      h ∙ feature-told (factsOf m) a n (p .clashing .told (mostRoles + a) (omega arith, omega arith)) ∙ rw (← ek, e, ea)
+      let s = rw (← ek, e, ← ea) at (p .decides) in
+      h ∙ feature-told (factsOf m) a n (s n) ∙ rw (← ek, e, ea)

@@ -26,6 +26,8 @@ use Rattle.satisfaction.proofs.Facts.{owners-named}
 use Rattle.satisfaction.specs.Axioms.{Named}
 use Rattle.satisfaction.specs.Classes.{Classed, follows}
 use Rattle.satisfaction.specs.Places.{classesOf}
+use Rattle.satisfaction.specs.Ranges.{Ranged}
+use Rattle.satisfaction.specs.Tables.{Prepared}
 use Rattle.vocabulary.proofs.Chain.{axiomLinks, axioms-along}
 use Rattle.words.specs.Sets.{inSet}
 
@@ -134,6 +136,9 @@ module _ {v : List ℕ} {k kind : ℕ} (x : Named v k) (ek : kind ≡ axiomKind 
 
   pub range-class : {b : ℕ} → b ≡ axiomRight v k → Name mostClasses b
   range-class eb = rw eb (x .range last-kind)
+
+  pub range-made : {m w : List ℕ} → Prepared m w (axiomAt v k) → Ranged m w
+  range-made p = rw last-kind at (p .decides)
 
 -- ---- all that is stated
 

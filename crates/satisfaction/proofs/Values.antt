@@ -1,9 +1,8 @@
--- Laws of the numbers of a block: of each the set tells, once all facts were compared, whether an individual has two values. And the
--- numbers of the series are the roles and the features.
+-- Laws of the numbers of a block: of each the set tells, once all facts were compared, whether an individual has two values.
 use Prim.Native.Nat.{_*_, _+_, _-_, _<_, _≤_, ℕ}
 use mathlib.Core.Bool.{Bool, _||_, cond, false, not, true}
 use mathlib.Core.List.{List, [], _∷_}
-use mathlib.Core.Logic.{_↔_, ⊎-elim}
+use mathlib.Core.Logic.{_↔_}
 use mathlib.Core.Path.{_∙_, _≡_, ap, refl, subst, sym}
 use lib.Dec.{T, eqb}
 use lib.ListN.{getD, length, set}
@@ -12,17 +11,17 @@ use native.Mathlib.Omega.{arith}
 use borrow.Author.Tests.{eq-eqb, eqb-false, eqb-true, ne-eqb}
 use Rattle.frames.proofs.Frames.{only-behind, only-none, only-set, only-span, only-then, row-before}
 use Rattle.frames.specs.Frames.{Cleared, Only, Span}
-use Rattle.meaning.proofs.Rules.{all-any, order}
+use Rattle.meaning.proofs.Rules.{all-any}
 use Rattle.meaning.specs.Limits.{mostIndividuals, workSize}
-use Rattle.meaning.specs.Model.{Fact, factAt, factOther, factOwner, factsOf}
+use Rattle.meaning.specs.Model.{Fact, factAt, factOther, factOwner, factsOf, individualCount}
 use Rattle.meaning.specs.Records.{Name}
-use Rattle.model.specs.Chain.{Readable, Stated}
+use Rattle.model.specs.Chain.{Stated}
 use Rattle.satisfaction.proofs.Facts.{number-other, owner-at, owners-named}
 use Rattle.satisfaction.proofs.Links.{Holding, clashing, first-seen, holding-ends, holding-same, repeated, skipped}
-use Rattle.satisfaction.proofs.Rows.{none-in, put-in, put-inside, put-only}
+use Rattle.satisfaction.proofs.Rows.{put-in, put-inside, put-only}
 use Rattle.satisfaction.specs.Classes.{ownerOf}
-use Rattle.satisfaction.specs.Links.{BlockCompared, Clashing, Comparable, Compared, Gives, InBlock, NoneClash, Single, Tells, clash, first, firstOf, link}
-use Rattle.satisfaction.specs.Links.{linkOf, none, numberOf, otherOf, outside, same}
+use Rattle.satisfaction.specs.Links.{BlockComparable, BlockCompared, Comparable, Compared, Gives, InBlock, Single, clash, first}
+use Rattle.satisfaction.specs.Links.{firstOf, link, linkOf, none, numberOf, otherOf, outside, same}
 use Rattle.satisfaction.specs.Places.{blockSize, clashWords, clashesAt, clashesOf, putIn, seriesCount, valuePlace, valuesAt, valuesEnd}
 use Rattle.words.specs.Sets.{inSet}
 
@@ -44,25 +43,28 @@ pub record Comparing (m : List ℕ) (base : ℕ) (w₀ w : List ℕ) (l : List F
 
 -- ---- before the first fact
 
-module _ {m w w₁ : List ℕ} {base : ℕ} (r : Readable m) (n : NoneClash base w) (c : Cleared valuesAt (mostIndividuals * blockSize) w w₁) where
+pub values-fit : {m w : List ℕ} {base : ℕ} → BlockComparable m base w → valuesAt + individualCount m * blockSize ≤ length w
+values-fit p = omega (arith, p .readable .individuals)
+
+module _ {m w w₁ : List ℕ} {base : ℕ} (p : BlockComparable m base w) (c : Cleared valuesAt (individualCount m * blockSize) w w₁) where
   clear-kept : clashesOf w₁ ≡ clashesOf w
   clear-kept = row-before (c .only) clashWords clashesAt (omega arith)
 
   pub comparing-starts : Comparing m base w₁ w₁ (factsOf m)
   comparing-starts = record {
     only = only-none;
-    found = λ u b t. absurd (let z : true ≡ false = sym t ∙ ap (λ (s : List ℕ). inSet s u) clear-kept ∙ n .none u b in let y : _≡_ {A = ℕ} 0 1 = cc in omega arith);
+    found = λ u b t. absurd (let z : true ≡ false = sym t ∙ ap (λ (s : List ℕ). inSet s u) clear-kept ∙ p .none u b in let y : _≡_ {A = ℕ} 0 1 = cc in omega arith);
     holding = λ u b t. record {
       down = λ s. (λ i j g f. absurd (f (let k = named u i j g in c .zeros (valuePlace i (u - base - 1)) (omega arith) (omega (arith, b .low, b .high)))), s);
       up = λ g s. s;
-      named = named u;
+      named = λ i j g. let k = named u i j g in omega (arith, p .readable .individuals);
     };
     kept = λ u b. refl;
   }
     where
-      named : (u i j : ℕ) → Gives (linkOf u) i j (factsOf m) → Name mostIndividuals i
+      named : (u i j : ℕ) → Gives (linkOf u) i j (factsOf m) → Name (individualCount m) i
       named u i j g =
-          let x = all-any (owners-named r) g in
+          let x = all-any (owners-named (p .readable)) g in
           let e = said (eqb u (numberOf (x .0))) i j (ownerOf (x .0)) (otherOf (x .0)) (x .2) in
           omega arith
 
@@ -70,13 +72,17 @@ module _ {m w w₁ : List ℕ} {base : ℕ} (r : Readable m) (n : NoneClash base
     pub comparing-size : {l : List Fact} → Comparing m base w₁ w₂ l → length w₂ ≡ length w
     comparing-size t = t .only .size ∙ c .only .size
 
-    pub comparable : {l : List Fact} {f u : ℕ} → Stated m f → base + blockSize ≤ seriesCount → workSize ≤ length w → Comparing m base w₁ w₂ l → Comparable m w₂ f base u
-    comparable s b h t = record { owner = let o = s .owner in let i = r .individuals in (omega arith, omega arith); block = b; long = let e = comparing-size t in omega arith }
+    pub comparable : {l : List Fact} {f u : ℕ} → Stated m f → Comparing m base w₁ w₂ l → Comparable m w₂ f base u
+    comparable s t = record {
+      owner = let i = p .readable .individuals in (omega arith, omega arith);
+      block = p .block;
+      long = let e = comparing-size t in omega arith;
+    }
 
     -- after the last one
     pub comparing-ends : Comparing m base w₁ w₂ [] → BlockCompared m base w w₂
     comparing-ends t = record {
-      only = only-then (only-span (c .only) (omega arith) (omega arith)) (t .only);
+      only = only-then (only-span (c .only) (omega arith) (omega (arith, p .readable .individuals))) (t .only);
       told = λ u b. go u b (inSet (clashesOf w₂) u) refl;
       kept = λ u b. t .kept u b ∙ ap (λ (s : List ℕ). inSet s u) clear-kept;
     }
@@ -221,25 +227,3 @@ module _ (m w : List ℕ) (f : ℕ) {base u : ℕ} where
 
       pub compare-clash : {w′ : List ℕ} → (x ≡ y → ⊥) → w′ ≡ putIn clashWords w clashesAt u → Compared m base w w′ f u
       compare-clash e q = clash in-block (λ z. n (read ∙ z)) (λ z. e (ex ∙ ap (factOther m) read ∙ z ∙ sym ey)) q
-
--- ---- one block after another
-
-pub clashing-starts : {m w w₁ : List ℕ} → Cleared clashesAt clashWords w w₁ → Clashing m 0 w₁
-clashing-starts {w₁ = w₁} c = record {
-  told = λ u n. absurd (omega arith);
-  past = λ u h. none-in clashWords w₁ clashesAt (λ i a b. c .zeros i a b) u;
-}
-
-module _ {m w : List ℕ} {n : ℕ} (x : Clashing m n w) where
-  pub clashing-none : NoneClash n w
-  clashing-none = record { none = λ u b. x .past u (b .low) }
-
-  pub clashing-on : {w′ : List ℕ} → BlockCompared m n w w′ → Clashing m (n + blockSize) w′
-  clashing-on {w′} c = record {
-    told = λ u k. ⊎-elim (λ h. c .told u (record { low = h; high = k .1 })) (λ h. earlier u (k .0, h)) (order n u);
-    past = λ u h. c .kept u (λ b. let l = b .high in omega arith) ∙ x .past u (omega arith);
-  }
-    where
-      earlier : (u : ℕ) → Name n u → Tells m w′ u
-      earlier u k =
-          subst (λ (b : Bool). T (not b) ↔ Single (linkOf u) (factsOf m)) (sym (c .kept u (λ b. let l = b .low in omega arith))) (x .told u k)

@@ -4,3 +4,4 @@ pub mod Classes
 pub mod Ranges
 pub mod Axioms
 pub mod Links
+pub mod Tables

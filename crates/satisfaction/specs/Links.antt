@@ -11,9 +11,9 @@ use Rattle.meaning.specs.Limits.{mostFeatures, mostIndividuals, mostRoles, work
 use Rattle.meaning.specs.Lists.{Any}
 use Rattle.meaning.specs.Model.{Fact, edge, factOther, factOwner, factsOf, member, value}
 use Rattle.meaning.specs.Records.{Name, isName}
-use Rattle.satisfaction.specs.Classes.{Interpreted, ownerOf}
+use Rattle.model.specs.Chain.{Readable}
+use Rattle.satisfaction.specs.Classes.{ownerOf}
 use Rattle.satisfaction.specs.Places.{blockSize, clashWords, clashesAt, clashesOf, putIn, seriesCount, valuePlace, valuesEnd}
-use Rattle.satisfaction.specs.Ranges.{Ranged}
 use Rattle.words.specs.Sets.{inSet}
 
 -- an individual and its value, or nothing of the number
@@ -59,8 +59,8 @@ pub data Compared (m : List ℕ) (base : ℕ) (w w′ : List ℕ) (f u : ℕ) : 
   outside : (InBlock base u → ⊥) → w′ ≡ w → Compared m base w w′ f u
   first : InBlock base u → firstOf w base u (factOwner m f) ≡ 0 → w′ ≡ set w (valuePlace (factOwner m f) (u - base - 1)) f →
       Compared m base w w′ f u
-  same : InBlock base u → (firstOf w base u (factOwner m f) ≡ 0 → ⊥) → factOther m (firstOf w base u (factOwner m f)) ≡ factOther m f →
-      w′ ≡ w → Compared m base w w′ f u
+  same : InBlock base u → (firstOf w base u (factOwner m f) ≡ 0 → ⊥) →
+      factOther m (firstOf w base u (factOwner m f)) ≡ factOther m f → w′ ≡ w → Compared m base w w′ f u
   clash : InBlock base u → (firstOf w base u (factOwner m f) ≡ 0 → ⊥) →
       (factOther m (firstOf w base u (factOwner m f)) ≡ factOther m f → ⊥) →
       w′ ≡ putIn clashWords w clashesAt u → Compared m base w w′ f u
@@ -71,8 +71,11 @@ pub record Comparable (m w : List ℕ) (f base u : ℕ) : Type 0 where
   pub block : base + blockSize ≤ seriesCount
   pub long : workSize ≤ length w
 
--- no number of the block is in the set
-pub record NoneClash (base : ℕ) (w : List ℕ) : Type 0 where
+-- what the comparison of a block takes: a model that was read, a full work slice, and no number of the block in the set
+pub record BlockComparable (m : List ℕ) (base : ℕ) (w : List ℕ) : Type 0 where
+  pub readable : Readable m
+  pub block : base + blockSize ≤ seriesCount
+  pub long : workSize ≤ length w
   pub none : (u : ℕ) → InBlock base u → inSet (clashesOf w) u ≡ false
 
 -- a number is in the set if and only if an individual has two values of it
@@ -84,19 +87,3 @@ pub record BlockCompared (m : List ℕ) (base : ℕ) (w w′ : List ℕ) : Type 
   pub only : Only (Span clashesAt valuesEnd) w w′
   pub told : (u : ℕ) → InBlock base u → Tells m w′ u
   pub kept : (u : ℕ) → (InBlock base u → ⊥) → inSet (clashesOf w′) u ≡ inSet (clashesOf w) u
-
--- the set tells of the numbers up to n, and has none past it
-pub record Clashing (m : List ℕ) (n : ℕ) (w : List ℕ) : Type 0 where
-  pub told : (u : ℕ) → Name n u → Tells m w u
-  pub past : (u : ℕ) → n < u → inSet (clashesOf w) u ≡ false
-
--- of the whole series, and nothing else changed
-pub record AllCompared (m w w′ : List ℕ) : Type 0 where
-  pub clashing : Clashing m seriesCount w′
-  pub only : Only (Span clashesAt valuesEnd) w w′
-
--- all that the statements of a vocabulary are held to
-pub record Prepared (m w : List ℕ) : Type 0 where
-  pub interpreted : Interpreted m w
-  pub ranged : Ranged m w
-  pub clashing : Clashing m seriesCount w

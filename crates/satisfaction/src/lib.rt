@@ -12,9 +12,10 @@
 //     how deep the chain from a policy's record is     513        1                 12,804                 13,956
 //     the end of these, of 16,384                                                   13,317                 14,469
 //
-// The records of first values are needed no more when the sets of a policy's records are put in their place. What a vocabulary
-// states is told by a walk over the facts for the classes, one for the ranges and eight for what is functional, whatever the number of
-// its records; then by one bit for each of these and, for a pair of classes, by a look at each individual.
+// The records of first values are needed no more when the sets of a policy's records are put in their place. The facts are walked over once
+// for the classes; once for the ranges, when a record of the vocabulary first states one; and once for each block of 16 roles or features,
+// when a record first states one of them functional: at most ten times, whatever the number of records. What a record states is then one
+// bit or, for a pair of classes, a look at each individual.
 use frames::clear;
 use meaning::ClassNo;
 use meaning::FeatureNo;
@@ -42,23 +43,25 @@ use words::insert;
 use words::place;
 ghost use mathlib.Core.Path.{_≡_};
 ghost use mathlib.Core.Bool.{not};
-ghost use Prim.Native.Nat.{_+_, _<_, _≤_};
+ghost use Prim.Native.Nat.{_*_, _+_, _<_, _≤_};
 ghost use lib.ListN.{length};
+ghost use Rattle.frames.specs.Frames.{Cleared};
 ghost use Rattle.meaning.specs.Limits.{mostFeatures, mostIndividuals, mostRoles, workSize};
 ghost use Rattle.meaning.specs.Lists.{all, counting};
-ghost use Rattle.meaning.specs.Model.{factAt, factsOf};
-ghost use Rattle.meaning.specs.ModelCheck.{isModel, obeys};
+ghost use Rattle.meaning.specs.Model.{factAt, factsOf, individualCount};
+ghost use Rattle.meaning.specs.ModelCheck.{obeys};
 ghost use Rattle.meaning.specs.Records.{Name};
-ghost use Rattle.meaning.specs.Vocabulary.{axiomAt, vocabularyOf, vocabularyRefusal};
+ghost use Rattle.meaning.specs.Vocabulary.{axiomAt, vocabularyRefusal};
 ghost use Rattle.model.specs.Chain.{Readable, Stated};
 ghost use Rattle.satisfaction.specs.Axioms.{Named};
 ghost use Rattle.satisfaction.specs.Classes.{AllEntered, Interpreted, Satisfied, entered, follows};
-ghost use Rattle.satisfaction.specs.Links.{AllCompared, BlockCompared, Comparable, Compared, NoneClash, Prepared, numberOf};
+ghost use Rattle.satisfaction.specs.Links.{BlockComparable, BlockCompared, Comparable, Compared, numberOf};
 ghost use Rattle.satisfaction.specs.Places.{blockSize, classPlace, classesOf, clashesOf, putIn, rangePlace, rangeWords};
-ghost use Rattle.satisfaction.specs.Places.{rangesOf, seriesCount, valuePlace};
+ghost use Rattle.satisfaction.specs.Places.{rangesOf, valuePlace};
 ghost use Rattle.satisfaction.specs.Ranges.{AllNarrowed, Intersected, Narrowed, Opened};
+ghost use Rattle.satisfaction.specs.Tables.{Made, MadeAlso, Prepared, blockOf, classTable, tableOf};
 ghost use Rattle.words.specs.Rows.{classWords};
-ghost use Rattle.words.specs.Sets.{inSet};
+ghost use Rattle.words.specs.Sets.{inSet, testBit};
 
 const INDIVIDUALS: usize = MOST_INDIVIDUALS as usize;
 
@@ -82,6 +85,11 @@ const BLOCK: usize = BLOCK_SIZE as usize;
 
 const VALUES: usize = CLASHES + CLASH_WORDS;
 
+// The tables that statements are held to, a bit each in a word: the blocks, the ranges, and the classes, which are always there.
+const RANGE_TABLE: u32 = SERIES / BLOCK_SIZE;
+
+const CLASS_TABLE: u32 = RANGE_TABLE + 1;
+
 // The sets of a policy's records, which crate extension makes where the values stood: how many words each takes, and what follows them.
 pub const SETS: usize = VALUES;
 
@@ -96,6 +104,14 @@ pub fn put(work: &mut [u32], at: usize, n: usize, x: u32)
 {
     let end = at + n;
     insert(&mut work[at..end], x);
+}
+
+// A row of n words for each individual of the model becomes 0, from a place on.
+fn clear_rows(m: &[u32], work: &mut [u32], at: usize, n: usize)
+    requires { ⌜ at + individualCount (now m) * n ≤ length (now work) ⌝ }
+    ensures { λ _. ⌜ Cleared at (individualCount (now (m .entry)) * n) (now (work .entry)) (now (work .exit)) ⌝ }
+{
+    clear(work, at, place(individual_count(m)) * n);
 }
 
 // Where the set of individual i's classes starts.
@@ -131,7 +147,7 @@ fn enter_all(m: &[u32], work: &mut [u32])
     requires { ⌜ Readable (now m) × (workSize ≤ length (now work)) ⌝ }
     ensures { λ _. ⌜ AllEntered (now (m .entry)) (now (work .entry)) (now (work .exit)) ⌝ }
 {
-    clear(work, 0, RANGES);
+    clear_rows(m, work, 0, ClassSet::WORDS);
     let mut f = first_fact(m);
     while f != 0 {
         enter(m, work, f);
@@ -283,26 +299,14 @@ fn compare(m: &[u32], work: &mut [u32], f: u32, base: u32, u: u32)
 
 // The numbers of a block with which an individual has two values, by one walk over the records.
 fn compare_block(m: &[u32], work: &mut [u32], base: u32)
-    requires { ⌜ Readable (now m) × (base + blockSize ≤ seriesCount) × (workSize ≤ length (now work))
-        × NoneClash base (now work) ⌝ }
+    requires { ⌜ BlockComparable (now m) base (now work) ⌝ }
     ensures { λ _. ⌜ BlockCompared (now (m .entry)) base (now (work .entry)) (now (work .exit)) ⌝ }
 {
-    clear(work, VALUES, INDIVIDUALS * BLOCK);
+    clear_rows(m, work, VALUES, BLOCK);
     let mut f = first_fact(m);
     while f != 0 {
         compare(m, work, f, base, series_number(m, f));
         f = fact_next(m, f);
-    }
-}
-
-// The numbers of the whole series, a walk for each block.
-fn compare_all(m: &[u32], work: &mut [u32])
-    requires { ⌜ Readable (now m) × (workSize ≤ length (now work)) ⌝ }
-    ensures { λ _. ⌜ AllCompared (now (m .entry)) (now (work .entry)) (now (work .exit)) ⌝ }
-{
-    clear(work, CLASHES, CLASH_WORDS);
-    for b in 0..SERIES / BLOCK_SIZE {
-        compare_block(m, work, b * BLOCK_SIZE);
     }
 }
 
@@ -331,9 +335,60 @@ fn is_functional_feature(work: &[u32], f: FeatureNo) -> bool
     is_functional(work, MOST_ROLES + f.0)
 }
 
+// The block of number u of the series.
+fn block_of(u: u32) -> u32
+    requires { ⌜ 0 < u ⌝ }
+    ensures { λ r. ⌜ r ≡ blockOf u ⌝ }
+{
+    (u - 1) / BLOCK_SIZE
+}
+
+// The table that record k of the vocabulary is held to.
+fn table_of(v: &[u32], k: u32) -> u32
+    requires { ⌜ Named (now v) k ⌝ }
+    ensures { λ r. ⌜ r ≡ tableOf (axiomAt (now (v .entry)) k) ⌝ }
+{
+    let kind = axiom_kind(v, k);
+    let a = axiom_left(v, k);
+    match kind {
+        1 => CLASS_TABLE,
+        2 => CLASS_TABLE,
+        3 => block_of(a),
+        4 => block_of(MOST_ROLES + a),
+        _ => RANGE_TABLE,
+    }
+}
+
+// Whether table t is in a set of tables.
+fn is_made(tables: u32, t: u32) -> bool
+    requires { ⌜ t < 32 ⌝ }
+    ensures { λ r. ⌜ r ≡ testBit tables t ⌝ }
+{
+    tables >> t & 1 == 1
+}
+
+// Makes table t, unless it is there; the answer is the set of the tables that are made then.
+fn make_table(m: &[u32], work: &mut [u32], tables: u32, t: u32) -> u32
+    requires { ⌜ Made (now m) tables (now work) × (t ≤ classTable) ⌝ }
+    ensures { λ r. ⌜ MadeAlso (now (m .entry)) t (now (work .entry)) (now (work .exit)) r ⌝ }
+{
+    if is_made(tables, t) {
+        return tables;
+    }
+    if t < RANGE_TABLE {
+        compare_block(m, work, t * BLOCK_SIZE);
+        return tables | 1 << t;
+    }
+    if t == RANGE_TABLE {
+        narrow_all(m, work);
+        return tables | 1 << t;
+    }
+    tables | 1 << t
+}
+
 // Whether what record k of the vocabulary states is so.
 fn is_obeyed(v: &[u32], m: &[u32], work: &[u32], k: u32) -> bool
-    requires { ⌜ Named (now v) k × Prepared (now m) (now work) ⌝ }
+    requires { ⌜ Named (now v) k × Prepared (now m) (now work) (axiomAt (now v) k) ⌝ }
     ensures { λ r. ⌜ r ≡ obeys (factsOf (now (m .entry))) (axiomAt (now (v .entry)) k) ⌝ }
 {
     let kind = axiom_kind(v, k);
@@ -348,13 +403,16 @@ fn is_obeyed(v: &[u32], m: &[u32], work: &[u32], k: u32) -> bool
     }
 }
 
-// Whether all that the vocabulary states is so.
-fn are_obeyed(v: &[u32], m: &[u32], work: &[u32]) -> bool
-    requires { ⌜ (vocabularyRefusal (now v) ≡ 0) × Prepared (now m) (now work) ⌝ }
-    ensures { λ r. ⌜ r ≡ isModel (factsOf (now (m .entry))) (vocabularyOf (now (v .entry))) ⌝ }
+// Whether all that the vocabulary states is so. A table is made for the first statement that is held to it.
+fn are_obeyed(v: &[u32], m: &[u32], work: &mut [u32]) -> bool
+    requires { ⌜ (vocabularyRefusal (now v) ≡ 0) × Interpreted (now m) (now work) ⌝ }
+    ensures { λ r. ⌜ Satisfied (now (v .entry)) (now (m .entry)) (now (work .entry)) (now (work .exit)) r ⌝ }
 {
+    clear(work, CLASHES, CLASH_WORDS);
+    let mut tables = 0;
     let mut k = first_axiom(v);
     while k != 0 {
+        tables = make_table(m, work, tables, table_of(v, k));
         if !is_obeyed(v, m, work, k) {
             return false;
         }
@@ -369,7 +427,5 @@ pub fn is_satisfied(v: &[u32], m: &[u32], work: &mut [u32]) -> bool
     ensures { λ r. ⌜ Satisfied (now (v .entry)) (now (m .entry)) (now (work .entry)) (now (work .exit)) r ⌝ }
 {
     enter_all(m, work);
-    narrow_all(m, work);
-    compare_all(m, work);
     are_obeyed(v, m, work)
 }

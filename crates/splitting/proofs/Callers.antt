@@ -25,7 +25,7 @@ use Rattle.splitting.proofs.Storing.{full-kept}
 use Rattle.splitting.specs.Ends.{Collectable, endWords}
 use Rattle.splitting.specs.Constraints.{Full, Splittable, firstConstraints}
 pub use Rattle.splitting.proofs.Storing.{constraints-kept}
-pub use Rattle.splitting.proofs.Whole.{widened-form}
+pub use Rattle.splitting.proofs.Whole.{whole-form}
 
 -- ---- before: a policy that the reader accepts
 

@@ -4,15 +4,16 @@ use mathlib.Core.List.{List, [], _++_, _∷_, append-nil}
 use mathlib.Core.Path.{_∙_, _≡_, refl}
 use native.Mathlib.Omega.{arith}
 use lib.ListN.{length}
+use Rattle.keys.proofs.Adding.{gathered-none, gathered-then}
+use Rattle.keys.specs.Keys.{Gathered, keyOf}
 use Rattle.meaning.proofs.Links.{falls}
 use Rattle.meaning.proofs.Terms.{chain-at}
 use Rattle.meaning.specs.Accepted.{Here, Reads, count, depth, reads-class, reads-end, reads-impossible, reads-interval, reads-some}
 use Rattle.meaning.specs.Policy.{Chain, childOf, hiOf, kindOf, loOf, nameOf, nextOf}
 use Rattle.meaning.specs.Records.{falling, lastOf}
 use Rattle.policy.specs.Terms.{conjunctOf, conjunctsAt}
-use Rattle.splitting.proofs.Adding.{gathered-none, gathered-then}
 use Rattle.splitting.proofs.Keys.{keys-few}
-use Rattle.splitting.specs.Ends.{Chained, Gathered, keyOf, keysOf}
+use Rattle.splitting.specs.Ends.{Chained, keysOf}
 
 -- ---- a record and what is after it
 

@@ -8,13 +8,15 @@ use native.Mathlib.Omega.{arith}
 use lib.Dec.{eqb}
 use lib.ListN.{getD, length, length-append}
 use borrow.Author.Tests.{eq-eqb, eqb-true}
+use Rattle.keys.proofs.Order.{same-key}
+use Rattle.keys.specs.Keys.{keyOf, valueCount}
 use Rattle.meaning.proofs.Points.{inserts-all, inserts-here, inserts-sorted}
-use Rattle.meaning.proofs.Rules.{all-at, all-of, any-append, any-both, any-cases, any-flatMap, any-left, any-mono, any-none, any-right, flatMap-any, order}
+use Rattle.meaning.proofs.Rules.{all-at, all-of, any-append, any-both, any-cases, any-flatMap, any-left, any-mono, any-none, any-right, flatMap-any}
 use Rattle.meaning.specs.Accepted.{Reads, ReadsTerms, count, reads-class, reads-end, reads-impossible, reads-interval, reads-none, reads-some, reads-term}
 use Rattle.meaning.specs.Lists.{All, _∈_, cons, flatMap, here, nil, there}
 use Rattle.meaning.specs.Policy.{Chain, Policy, class, end, hiOf, impossible, interval, loOf, nameOf, some}
 use Rattle.meaning.specs.Splitting.{ends, insertAll}
-use Rattle.splitting.specs.Ends.{Ends, endCount, keyOf, keysOf}
+use Rattle.splitting.specs.Ends.{Ends, keysOf}
 
 abbrev pub keysIn : Policy → List ℕ
 keysIn Q = flatMap keysOf Q
@@ -28,15 +30,6 @@ keys-few (some r child next) =
     let g = keys-few next in
     rw length-append (omega arith)
 keys-few (interval f lo hi next) = let h = keys-few next in omega arith
-
--- two ends with one key are one end on one feature
-same-key : (f x g y : ℕ) → x < endCount → y < endCount → keyOf f x ≡ keyOf g y → (f ≡ g) × (x ≡ y)
-same-key f x g y a b e = go (order f g) (order g f)
-  where
-    go : (f < g) ⊎ (g ≤ f) → (g < f) ⊎ (f ≤ g) → (f ≡ g) × (x ≡ y)
-    go (inl i) j = absurd (omega arith)
-    go (inr i) (inl j) = absurd (omega arith)
-    go (inr i) (inr j) = (omega arith, omega arith)
 
 module _ (f : ℕ) {x : ℕ} where
   -- the two ends of a constraint on g, then the ends l with the keys ks
@@ -52,7 +45,7 @@ module _ (f : ℕ) {x : ℕ} where
         go true e m = both (eqb-true f g e) (any-cases m)
         go false e m = there (there (rest m))
 
-    two-only : x < endCount → lo < endCount → hi < endCount → (keyOf f x ∈ ks → x ∈ l) → keyOf f x ∈ keyOf g lo ∷ (keyOf g hi ∷ ks) →
+    two-only : x < valueCount → lo < valueCount → hi < valueCount → (keyOf f x ∈ ks → x ∈ l) → keyOf f x ∈ keyOf g lo ∷ (keyOf g hi ∷ ks) →
         x ∈ cond (eqb f g) (lo ∷ (hi ∷ l)) l
     two-only b bl bh rest m = go (any-cases m)
       where
@@ -81,7 +74,7 @@ module _ (f : ℕ) {x : ℕ} where
   key-all (interval g lo hi next) m = two-all g lo hi (ends f next) (keysOf next) (λ i. key-all next i) m
 
   -- the words of the policy are ends that a key has room for
-  module _ {q : List ℕ} (w : (i : ℕ) → getD q i 0 < endCount) (b : x < endCount) where
+  module _ {q : List ℕ} (w : (i : ℕ) → getD q i 0 < valueCount) (b : x < valueCount) where
     key-only : {k : ℕ} {c : Chain} → Reads q k c → keyOf f x ∈ keysOf c → x ∈ ends f c
     key-only (reads-end e) m = absurd (any-none m)
     key-only (reads-class h i r) m = key-only r m
@@ -95,7 +88,7 @@ module _ (f : ℕ) {x : ℕ} where
     each (reads-none e) = nil
     each (reads-term {c = c} h e r t) = cons {x = c} (key-only r) (each t)
 
-pub keys-ends : {q : List ℕ} {k : ℕ} {Q : Policy} → ((i : ℕ) → getD q i 0 < endCount) → ReadsTerms q k Q → Ends Q (insertAll (keysIn Q) [])
+pub keys-ends : {q : List ℕ} {k : ℕ} {Q : Policy} → ((i : ℕ) → getD q i 0 < valueCount) → ReadsTerms q k Q → Ends Q (insertAll (keysIn Q) [])
 keys-ends {Q = Q} w r = record {
   rising = inserts-sorted (keysIn Q) [] tt;
   all = λ f x m. inserts-here (keysIn Q) [] (any-flatMap keysOf (any-mono (λ c i. key-all f c i) (flatMap-any (ends f) Q m)));

@@ -1,7 +1,5 @@
 -- The laws that the functions' proofs cite.
 pub mod Keys
-pub mod Ranking
-pub mod Adding
 pub mod Collecting
 pub mod Policies
 pub mod Nearest

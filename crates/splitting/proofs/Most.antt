@@ -9,6 +9,8 @@ use native.Mathlib.Numerals.{add-one}
 use native.Mathlib.Omega.{arith}
 use lib.Dec.{eqb, leb, ltb}
 use lib.ListN.{length}
+use Rattle.keys.proofs.Ranking.{rising-tail}
+use Rattle.keys.specs.Keys.{keyOf}
 use Rattle.layout.specs.Tables.{constraintAt}
 use Rattle.meaning.proofs.Count.{count-pieces}
 use Rattle.meaning.proofs.Points.{above, insert-all, insert-here, insert-sorted, insert-there, inserts-all, points-sorted}
@@ -19,9 +21,8 @@ use Rattle.meaning.specs.Lists.{_∈_, cons, filter, here, nil, there}
 use Rattle.meaning.specs.Policy.{Policy}
 use Rattle.meaning.specs.Splitting.{Sorted, insert, pieces, points, wide, wideNeighbours}
 use Rattle.splitting.proofs.Pieces.{filtered}
-use Rattle.splitting.proofs.Ranking.{rising-tail}
 use Rattle.splitting.proofs.Ways.{ways, ways-product}
-use Rattle.splitting.specs.Ends.{Ends, endsOn, keyOf}
+use Rattle.splitting.specs.Ends.{Ends, endsOn}
 use Rattle.splitting.specs.Constraints.{Few}
 
 -- ---- X has lo, hi and at most every end

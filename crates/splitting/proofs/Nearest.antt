@@ -9,12 +9,13 @@ use lib.Dec.{ltb}
 use lib.ListN.{getD, length}
 use lib.Seq.{take-length}
 use borrow.Author.Tests.{eq-eqb, ltb-false, ltb-true, ne-eqb}
+use Rattle.keys.proofs.Ranking.{getD-in, nearest}
+use Rattle.keys.specs.Keys.{Ranked, keyOf, valueCount}
 use Rattle.meaning.proofs.Rules.{all-of, any-none, head, tail}
 use Rattle.meaning.specs.Lists.{All, _∈_, here, there}
 use Rattle.meaning.specs.Policy.{Policy}
 use Rattle.meaning.specs.Splitting.{Sorted}
-use Rattle.splitting.proofs.Ranking.{getD-in, nearest}
-use Rattle.splitting.specs.Ends.{Ends, NextEnd, Ranked, endCount, endsOn, keyOf, least, upTo, upper}
+use Rattle.splitting.specs.Ends.{Ends, NextEnd, endsOn, least, upTo, upper}
 
 -- ---- the least member
 
@@ -64,7 +65,7 @@ module _ {e : List ℕ} (f x hi : ℕ) {base r : ℕ} (h : x < hi) (eb : base �
     pub next-beyond : base + hi ≤ y → NextEnd e f x hi hi
     next-beyond l = next-is hi h (omega arith) (λ Q n. inl refl) (λ z c i k. omega arith)
 
-    pub next-found : hi < endCount → r < length e → y < base + hi → NextEnd e f x hi (y - base)
+    pub next-found : hi < valueCount → r < length e → y < base + hi → NextEnd e f x hi (y - base)
     next-found s l b =
         let a = p .at l in
         let z : getD e r 0 ≡ keyOf f (y - base) = omega arith in

@@ -4,6 +4,8 @@ use mathlib.Core.List.{List, []}
 use mathlib.Core.Path.{_∙_, _≡_, ap, refl, subst, sym}
 use native.Mathlib.Omega.{arith}
 use lib.ListN.{getD, length}
+use Rattle.keys.proofs.Adding.{gathered-none, gathered-then}
+use Rattle.keys.specs.Keys.{Gathered, valueCount}
 use Rattle.meaning.proofs.Wellformed.{accepted}
 use Rattle.meaning.specs.Accepted.{count, total}
 use Rattle.meaning.specs.Limits.{mostDepth}
@@ -12,9 +14,8 @@ use Rattle.meaning.specs.Records.{falling, lastOf}
 use Rattle.policy.proofs.Terms.{terms-along}
 use Rattle.policy.specs.Terms.{conjunctsAt, termLinks}
 use Rattle.records.proofs.Chains.{Walking, walking-ends, walking-falls, walking-found, walking-on, walking-sound, walking-starts}
-use Rattle.splitting.proofs.Adding.{gathered-none, gathered-then}
 use Rattle.splitting.proofs.Keys.{keys-ends, keys-few, keysIn}
-use Rattle.splitting.specs.Ends.{Chained, Collectable, Collected, Ends, Gathered, endCount, keysOf}
+use Rattle.splitting.specs.Ends.{Chained, Collectable, Collected, Ends, keysOf}
 
 -- there is room for the terms that are left, and what is done with their keys is done with those of the policy
 pub record Rest (q e₀ e : List ℕ) (n : ℕ) (l : Policy) : Type 0 where
@@ -39,7 +40,7 @@ collecting-starts {q} s h =
     }
 
 module _ {q e₀ e : List ℕ} {n k : ℕ} (s : Collecting q e₀ e n k) where
-  pub collecting-ends : ((i : ℕ) → getD q i 0 < endCount) → k ≡ 0 → Collected (policyOf q) e₀ e n
+  pub collecting-ends : ((i : ℕ) → getD q i 0 < valueCount) → k ≡ 0 → Collected (policyOf q) e₀ e n
   collecting-ends w z =
       let t = walking-ends (s .walk) z in
       record {

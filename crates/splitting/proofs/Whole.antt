@@ -1,40 +1,16 @@
--- Each constraint whole in the place of its piece: the combination is then the form itself.
-use Prim.Native.Nat.{_+_, _<_, _≤_, suc, zero, ℕ}
+-- The constraints of the tables in the place of their pieces: the combination is then the form itself.
+use Prim.Native.Nat.{_+_, suc, zero, ℕ}
 use mathlib.Core.List.{List, [], _++_, _∷_, map}
-use mathlib.Core.Logic.{_⊎_, inl, inr}
-use mathlib.Core.Path.{_∙_, _≡_, ap, ap₂, refl, subst, sym}
-use native.Mathlib.Numerals.{add-one}
+use mathlib.Core.Path.{_≡_, ap, ap₂, refl, subst, sym}
 use native.Mathlib.Omega.{arith}
 use lib.ListN.{length}
-use Rattle.frames.proofs.Frames.{only-none, only-then}
-use Rattle.layout.specs.Tables.{PiecePut, constraintAt, intervalOf, pieceAt}
+use Rattle.layout.specs.Tables.{constraintAt}
 use Rattle.meaning.proofs.Filling.{fill, fillConstraints, fillNode, fillSuccessors}
-use Rattle.meaning.proofs.Rules.{order}
 use Rattle.meaning.specs.Intervals.{Constraint}
 use Rattle.meaning.specs.Lists.{counting}
 use Rattle.meaning.specs.NormalForm.{Form, Node, Successors, none, successor}
 use Rattle.meaning.specs.Splitting.{constraintsBelow, constraintsOf}
-use Rattle.splitting.proofs.Storing.{constraint-kept, piece-other, pieces-more, put-kept}
-use Rattle.splitting.specs.Constraints.{Widened, firstConstraints}
-
--- ---- the loop
-
-pub widened-none : (w : List ℕ) → Widened 0 w w
-widened-none w = record { whole = λ m h. absurd (omega arith); only = only-none }
-
-pub widened-more : {u w v : List ℕ} {i lo hi : ℕ} → Widened i u w → lo ≡ constraintAt w i .lo → hi ≡ constraintAt w i .hi → PiecePut i lo hi w v →
-    Widened (i + 1) u v
-widened-more {w = w} {v = v} {i = i} h el eh p =
-    rw (add-one i) (record { whole = λ m b. go m (order m i) b; only = only-then (pieces-more (h .only) (omega arith)) (put-kept p) })
-  where
-    go : (m : ℕ) → (m < i) ⊎ (i ≤ m) → m < suc i → pieceAt v m ≡ constraintAt v m
-    go m (inl a) b = piece-other p m (λ z. omega arith) ∙ h .whole m a ∙ sym (constraint-kept (put-kept p) m)
-    go m (inr a) b =
-        let e : i ≡ m = omega arith in
-        subst (λ (k : ℕ). pieceAt v k ≡ constraintAt v k) e
-        (p .piece ∙ ap₂ (intervalOf (constraintAt w i .feature)) el eh ∙ sym (constraint-kept (put-kept p) i))
-
--- ---- the combination
+use Rattle.splitting.specs.Constraints.{firstConstraints}
 
 -- v o, v (o + 1), .. are the constraints
 abbrev Same : (ℕ → Constraint) → ℕ → List Constraint → Type 0
@@ -74,12 +50,9 @@ module _ (v : ℕ → Constraint) where
       form : Node → Successors → Form
       form n ks = record { node = n; successors = ks }
 
--- the tables' constraints are their pieces
-same-at : (w : List ℕ) (o n : ℕ) → ((m : ℕ) → m < o + n → pieceAt w m ≡ constraintAt w m) →
-    Same (pieceAt w) o (map (constraintAt w) (counting o n))
-same-at w o zero h = tt
-same-at w o (suc n) h = (h o (omega arith), same-at w (suc o) n (λ m b. h m (omega arith)))
+same-at : (w : List ℕ) (o n : ℕ) → Same (constraintAt w) o (map (constraintAt w) (counting o n))
+same-at w o zero = tt
+same-at w o (suc n) = (refl, same-at w (suc o) n)
 
-pub widened-form : {n : ℕ} {w w′ : List ℕ} → Widened n w w′ → (F : Form) → constraintsOf F ≡ firstConstraints w′ n → fill (pieceAt w′) F ≡ F
-widened-form {n} {w} {w′} h F e =
-    same-form (pieceAt w′) F (subst (Same (pieceAt w′) 0) (sym e) (same-at w′ 0 n (λ m b. h .whole m (omega arith))))
+pub whole-form : (w : List ℕ) (n : ℕ) (F : Form) → constraintsOf F ≡ firstConstraints w n → fill (constraintAt w) F ≡ F
+whole-form w n F e = same-form (constraintAt w) F (subst (Same (constraintAt w) 0) (sym e) (same-at w 0 n))

@@ -39,11 +39,6 @@ Few e n = (Q : Policy) → Ends Q e → (w : List ℕ) → product Q (firstConst
 abbrev pub Multiplied : List ℕ → List ℕ → ℕ → ℕ → Type 0
 Multiplied e w n r = (Q : Policy) → Ends Q e → r ≡ min (product Q (firstConstraints w n)) (suc mostCombinations)
 
--- the piece of each of the first n constraints is the constraint
-pub record Widened (n : ℕ) (w w′ : List ℕ) : Type 0 where
-  pub whole : (m : ℕ) → m < n → pieceAt w′ m ≡ constraintAt w′ m
-  pub only : Only (Pieces n) w w′
-
 -- each of the first n constraints is at its first piece, whatever the second policy is
 pub record Started (n : ℕ) (w w′ : List ℕ) : Type 0 where
   pub first : (Q : Policy) (m : ℕ) → m < n → At (pieceAt w′ m) (pieces Q (constraintAt w′ m)) 0

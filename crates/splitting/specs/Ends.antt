@@ -4,12 +4,13 @@ use mathlib.Core.Bool.{cond}
 use mathlib.Core.List.{List, [], _++_, _∷_}
 use mathlib.Core.Path.{_≡_}
 use lib.Dec.{eqb, ltb}
-use lib.ListN.{getD, length, take}
+use lib.ListN.{length, take}
+use Rattle.keys.specs.Keys.{keyOf, valueCount}
 use Rattle.meaning.specs.Accepted.{Reads, count, depth}
 use Rattle.meaning.specs.Limits.{mostRecords}
 use Rattle.meaning.specs.Lists.{_∈_, flatMap}
 use Rattle.meaning.specs.Policy.{Chain, Policy, class, end, impossible, interval, policyRefusal, some}
-use Rattle.meaning.specs.Splitting.{Sorted, ends, insertAll}
+use Rattle.meaning.specs.Splitting.{Sorted, ends}
 use Rattle.policy.specs.Terms.{conjunctsAt}
 
 -- ---- the ends
@@ -18,19 +19,11 @@ use Rattle.policy.specs.Terms.{conjunctsAt}
 abbrev pub endsOn : Policy → ℕ → List ℕ
 endsOn Q f = flatMap (ends f) Q
 
--- how many values an end may have
-abbrev pub endCount : ℕ
-endCount = 4294967296
-
--- a feature and an end as one number
-abbrev pub keyOf : ℕ → ℕ → ℕ
-keyOf f x = f * endCount + x
-
 -- the keys rise, and are those of the policy's ends
 pub record Ends (Q : Policy) (e : List ℕ) : Type 0 where
   pub rising : Sorted e
   pub all : (f x : ℕ) → x ∈ endsOn Q f → keyOf f x ∈ e
-  pub only : (f x : ℕ) → x < endCount → keyOf f x ∈ e → x ∈ endsOn Q f
+  pub only : (f x : ℕ) → x < valueCount → keyOf f x ∈ e → x ∈ endsOn Q f
 
 -- the keys of a chain, as the walk goes: two for each constraint
 abbrev pub keysOf : Chain → List ℕ
@@ -43,22 +36,6 @@ keysOf (interval f lo hi next) = keyOf f lo ∷ (keyOf f hi ∷ keysOf next)
 -- room for the keys of a policy: a constraint has two, and a policy no more records
 abbrev pub endWords : ℕ
 endWords = 2 * mostRecords
-
--- the first n words are the keys ks, rising, each once
-abbrev pub Holds : List ℕ → ℕ → List ℕ → Type 0
-Holds ks n e = take n e ≡ insertAll ks []
-
--- r is a place for the key among the first n: a smaller one stands before it, and none at it
-pub record Ranked (e : List ℕ) (n key r : ℕ) : Type 0 where
-  pub within : r ≤ n
-  pub before : (j : ℕ) → r ≡ suc j → getD e j 0 < key
-  pub at : r < n → key ≤ getD e r 0
-
--- the keys a are added to the first n words
-pub record Gathered (a : List ℕ) (n : ℕ) (e e′ : List ℕ) (r : ℕ) : Type 0 where
-  pub same : length e′ ≡ length e
-  pub long : r ≤ n + length a
-  pub keys : (ks : List ℕ) → Holds ks n e → Holds (ks ++ a) r e′
 
 -- the conjuncts from record k on are read, with at most so many levels, and there is room for their keys after n words
 pub record Chained (q e : List ℕ) (left k n : ℕ) : Type 0 where

@@ -1,6 +1,9 @@
 // Splitting: the ends of the second policy, and the pieces of a constraint between them.
 // A piece needs no more than its two ends: the one after it starts at the next number, and a search among the ends, which rise, tells
 // where it stops.
+use keys::add;
+use keys::key;
+use keys::rank;
 use layout::feature_of;
 use layout::put_piece;
 use meaning::FeatureNo;
@@ -18,61 +21,14 @@ ghost use mathlib.Core.List.{[], _∷_};
 ghost use mathlib.Core.Path.{_≡_};
 ghost use Prim.Native.Nat.{_+_, _<_, _≤_};
 ghost use lib.ListN.{length};
+ghost use Rattle.keys.specs.Keys.{Gathered, keyOf};
 ghost use Rattle.layout.specs.Tables.{intervalOf};
 ghost use Rattle.meaning.specs.Intervals.{NonEmpty};
 ghost use Rattle.meaning.specs.Policy.{Policy, policyOf};
 ghost use Rattle.meaning.specs.Splitting.{pieces};
 ghost use Rattle.policy.specs.Terms.{conjunctOf, conjunctsAt};
-ghost use Rattle.splitting.specs.Ends.{Chained, Collectable, Collected, Ends, Gathered, NextEnd, NextUpper, Ranked, keyOf, keysOf};
-ghost use Rattle.splitting.specs.Constraints.{Few, Multiplied, Splittable, Started, Widened};
-
-// A feature and an end as one number: keys rise by feature, then by end.
-fn key(f: FeatureNo, x: u32) -> u64
-    ensures { λ r. ⌜ r ≡ keyOf (f .0) x ⌝ }
-{
-    f.0 as u64 * 4294967296 + x as u64
-}
-
-// The place of a key among the first n, by halving: a smaller one stands before it, and none at it.
-fn rank(ends: &[u64], n: usize, k: u64) -> usize
-    requires { ⌜ n ≤ length (now ends) ⌝ }
-    ensures { λ r. ⌜ Ranked (now (ends .entry)) n k r ⌝ }
-{
-    let mut low = 0;
-    let mut high = n;
-    while low < high {
-        let middle = low + (high - low) / 2;
-        if ends[middle] < k {
-            low = middle + 1;
-        } else {
-            high = middle;
-        }
-    }
-    low
-}
-
-// One key more among the first n, which rise, unless it is there: those after it make room. The answer counts the keys.
-fn add(ends: &mut [u64], n: usize, k: u64) -> usize
-    requires { ⌜ n < length (now ends) ⌝ }
-    ensures { λ r. ⌜ Gathered (k ∷ []) n (now (ends .entry)) (now (ends .exit)) r ⌝ }
-{
-    let at = rank(ends, n, k);
-    if at < n {
-        if ends[at] == k {
-            return n;
-        }
-    }
-    let mut carried = k;
-    let mut i = at;
-    while i < n {
-        let x = ends[i];
-        ends[i] = carried;
-        carried = x;
-        i += 1;
-    }
-    ends[n] = carried;
-    n + 1
-}
+ghost use Rattle.splitting.specs.Ends.{Chained, Collectable, Collected, Ends, NextEnd, NextUpper, keysOf};
+ghost use Rattle.splitting.specs.Constraints.{Few, Multiplied, Splittable, Started};
 
 // The keys of a constraint's two ends.
 fn add_ends(ends: &mut [u64], n: usize, f: FeatureNo, lo: u32, hi: u32) -> usize
@@ -209,18 +165,6 @@ pub fn combinations(ends: &[u64], work: &[u32], n: usize) -> usize
         }
     }
     all
-}
-
-// Each of the first n constraints whole, before it is split.
-pub fn widen(work: &mut [u32], n: usize)
-    requires { ⌜ Splittable (now work) n ⌝ }
-    ensures { λ _. ⌜ Widened n (now (work .entry)) (now (work .exit)) ⌝ }
-{
-    for i in 0..n {
-        let lo = layout::lo_of(work, i);
-        let hi = layout::hi_of(work, i);
-        put_piece(work, i, lo, hi);
-    }
 }
 
 // The first combination: each of the first n constraints at its first piece.

@@ -1,4 +1,4 @@
--- The laws that the functions' proofs cite; trial cites Callers.
+-- The laws that the functions' proofs cite; retest and trial cite some.
 pub mod Pieces
 pub mod Conjuncts
 pub mod Successors

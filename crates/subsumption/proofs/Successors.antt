@@ -6,18 +6,16 @@ use mathlib.Core.Logic.{_⊎_, inl, inr, ⊎-elim}
 use mathlib.Core.Path.{_∙_, _≡_, ap, refl, subst, sym}
 use native.Mathlib.Omega.{arith}
 use borrow.Author.Tests.{eq-eqb, eqb-false, eqb-true, ltb-true, ne-eqb}
-use lib.Dec.{T, eqb, ltb}
+use lib.Dec.{eqb, ltb}
 use Rattle.layout.specs.Combination.{nextSuccessor}
 use Rattle.layout.specs.Nesting.{Nested}
-use Rattle.layout.specs.Tables.{parentAt, pieceAt, roleAt}
+use Rattle.layout.specs.Tables.{parentAt, roleAt}
 use Rattle.layout.specs.declared.Tables.{Tables}
 use Rattle.meaning.proofs.Counting.{none-below, some-below}
 use Rattle.meaning.proofs.Links.{split}
 use Rattle.meaning.proofs.Rules.{order}
-use Rattle.meaning.specs.Intervals.{Constraint}
 use Rattle.policy.specs.Terms.{conjunctsAt}
-use Rattle.subsumption.specs.Tests.{TellsAll, TellsSome, Testable, hasSuccessor, holdsAt, isPassing}
-use Rattle.subsumption.specs.declared.Reason.{Reason}
+use Rattle.subsumption.specs.Tests.{Individual, Testable, hasSuccessor, holdsWhole, isPassing}
 
 -- ---- the next successor
 
@@ -62,75 +60,64 @@ module _ {w : List ℕ} {t : Tables} (nest : Nested w t) (x : ℕ) where
 -- ---- one after another
 
 abbrev passing : List ℕ → List ℕ → Tables → ℕ → ℕ → ℕ → ℕ → Bool
-passing q w t k x r = isPassing w x r (holdsAt (pieceAt w) w t (conjunctsAt q k))
+passing q w t k x r = isPassing w x r (holdsWhole w t (conjunctsAt q k))
 
 -- no successor before row j passes
-pub record Seeking (q dials w : List ℕ) (t : Tables) (k x r j : ℕ) : Type 0 where
-  pub none : (i : ℕ) → i < j → isPassing w x r (holdsAt (pieceAt w) w t (conjunctsAt q k)) i ≡ false
+pub record Seeking (q w : List ℕ) (t : Tables) (k x r j : ℕ) : Type 0 where
+  pub none : (i : ℕ) → i < j → isPassing w x r (holdsWhole w t (conjunctsAt q k)) i ≡ false
   pub own : x ≤ j
   pub here : j < t .individuals → parentAt w j ≡ x
 
-module _ {q dials w : List ℕ} {t : Tables} {left k x r n : ℕ} (en : n ≡ t .individuals) (s : Testable q dials w t left k) where
+module _ {q w : List ℕ} {t : Tables} {left k x n : ℕ} (r : ℕ) (en : n ≡ t .individuals) (s : Testable q w t left k) where
   -- rows of another parent are passed over
-  passed : {i j : ℕ} → x ≤ i → i ≤ n → ((l : ℕ) → l < i → passing q w t k x r l ≡ false) → j ≡ nextSuccessor w x (n - i) i → Seeking q dials w t k x r j
+  passed : {i j : ℕ} → x ≤ i → i ≤ n → ((l : ℕ) → l < i → passing q w t k x r l ≡ false) → j ≡ nextSuccessor w x (n - i) i → Seeking q w t k x r j
   passed {i} {j} own few f e = record {
-    none = λ l h. ⊎-elim (f l) (λ a. rw (ne-eqb (parentAt w l) x (next-passes (s .testing .nested) x (n - i) i own (omega arith) l a (rw e at h)))) (order l i);
-    own = let a = next-least (s .testing .nested) x (n - i) i in omega arith;
-    here = λ h. ap (parentAt w) e ∙ next-parent (s .testing .nested) x (n - i) i (omega arith);
+    none = λ l h. ⊎-elim (f l) (λ a. rw (ne-eqb (parentAt w l) x (next-passes (s .nested) x (n - i) i own (omega arith) l a (rw e at h)))) (order l i);
+    own = let a = next-least (s .nested) x (n - i) i in omega arith;
+    here = λ h. ap (parentAt w) e ∙ next-parent (s .nested) x (n - i) i (omega arith);
   }
 
-  pub walk-starts : {i j : ℕ} → x ≤ t .individuals → 1 ≤ x → i ≡ x → j ≡ nextSuccessor w x (n - i) i → Seeking q dials w t k x r j
-  walk-starts few one ei ej =
-      passed (omega arith) (omega arith) (λ l h. rw (ne-eqb (parentAt w l) x (λ z. let b = s .testing .nested .before l (omega arith) in omega arith))) ej
+  pub walk-starts : {i j : ℕ} → Individual t x → i ≡ x → j ≡ nextSuccessor w x (n - i) i → Seeking q w t k x r j
+  walk-starts ind ei ej =
+      let few = ind .within in
+      let one = ind .some in
+      passed (omega arith) (omega arith) (λ l h. rw (ne-eqb (parentAt w l) x (λ z. let b = s .nested .before l (omega arith) in omega arith))) ej
 
-  module _ {j : ℕ} (g : Seeking q dials w t k x r j) where
-    pub walk-ends : {b : Reason} → b .holds ≡ false → n ≤ j → TellsSome q dials w t k x r b
+  module _ {j : ℕ} (g : Seeking q w t k x r j) where
+    pub walk-ends : {b : Bool} → b ≡ false → n ≤ j → b ≡ hasSuccessor w (t .individuals) x r (holdsWhole w t (conjunctsAt q k))
     unfolding hasSuccessor
-    walk-ends z h = record {
-      tells = record {
-        holds = z ∙ sym (none-below (passing q w t k x r) (t .individuals) (λ i l. g .none i (omega arith)));
-        relies = λ y. absurd (subst T (sym y ∙ z) tt);
-      };
-    }
+    walk-ends z h = z ∙ sym (none-below (passing q w t k x r) (t .individuals) (λ i l. g .none i (omega arith)))
 
     -- individual j + 1 stands in row j
     module _ {role : ℕ} (more : j < n) (er : role ≡ roleAt w j) where
-      pub walk-found : {one : Reason} → role ≡ r → TellsAll q dials w t k (j + 1) one → one .holds ≡ true → TellsSome q dials w t k x r one
+      c : j + 1 ≡ suc j
+      c = omega arith
+
+      pub walk-found : {b one : Bool} → b ≡ true → role ≡ r → one ≡ holdsWhole w t (conjunctsAt q k) (j + 1) → one ≡ true →
+          b ≡ hasSuccessor w (t .individuals) x r (holdsWhole w t (conjunctsAt q k))
       unfolding hasSuccessor
-      walk-found {one} e f h =
-          let c : j + 1 ≡ suc j = omega arith in
-          let some : (v : ℕ → Constraint) → holdsAt v w t (conjunctsAt q k) (j + 1) ≡ true → hasSuccessor w (t .individuals) x r (holdsAt v w t (conjunctsAt q k)) ≡ true =
-          λ v a. some-below (isPassing w x r (holdsAt v w t (conjunctsAt q k))) (t .individuals) j (omega arith)
-          (rw (eq-eqb (parentAt w j) x (g .here (omega arith)), eq-eqb (roleAt w j) r (sym er ∙ e), ← c) a) in
-          record {
-            tells = record {
-              holds = h ∙ sym (some (pieceAt w) (sym (f .tells .holds) ∙ h));
-              relies = λ y v c a. some v (f .tells .relies h v c a);
-            };
-          }
+      walk-found y e f h = y ∙ sym (some-below (passing q w t k x r) (t .individuals) j (omega arith)
+          (rw (eq-eqb (parentAt w j) x (g .here (omega arith)), eq-eqb (roleAt w j) r (sym er ∙ e), ← c) (sym f ∙ h)))
 
       module _ {l : ℕ} (el : l ≡ nextSuccessor w x (n - (j + 1)) (j + 1)) where
         pub walk-falls : n - l < n - j
-        walk-falls = let a = next-least (s .testing .nested) x (n - (j + 1)) (j + 1) in omega arith
+        walk-falls = let a = next-least (s .nested) x (n - (j + 1)) (j + 1) in omega arith
 
-        on : passing q w t k x r j ≡ false → Seeking q dials w t k x r l
+        on : passing q w t k x r j ≡ false → Seeking q w t k x r l
         on f =
             passed (let o = g .own in omega arith) (omega arith) (λ i h. ⊎-elim (g .none i) (λ a. let z : j ≡ i = omega arith in subst (λ (m : ℕ). passing q w t k x r m ≡ false) z f) (order i j)) el
 
-        pub walk-other : (role ≡ r → ⊥) → Seeking q dials w t k x r l
+        pub walk-other : (role ≡ r → ⊥) → Seeking q w t k x r l
         walk-other h = on (go (eqb (parentAt w j) x))
           where
-            go : (b : Bool) → b && (eqb (roleAt w j) r && holdsAt (pieceAt w) w t (conjunctsAt q k) (suc j)) ≡ false
+            go : (b : Bool) → b && (eqb (roleAt w j) r && holdsWhole w t (conjunctsAt q k) (suc j)) ≡ false
             go true = rw (ne-eqb (roleAt w j) r (λ e. h (er ∙ e)))
             go false = refl
 
-        pub walk-past : {one : Reason} → TellsAll q dials w t k (j + 1) one → one .holds ≡ false → Seeking q dials w t k x r l
+        pub walk-past : {one : Bool} → one ≡ holdsWhole w t (conjunctsAt q k) (j + 1) → one ≡ false → Seeking q w t k x r l
         walk-past f h = on (go (eqb (parentAt w j) x) (eqb (roleAt w j) r))
           where
-            c : j + 1 ≡ suc j
-            c = omega arith
-
-            go : (a b : Bool) → a && (b && holdsAt (pieceAt w) w t (conjunctsAt q k) (suc j)) ≡ false
-            go true true = rw (← c) (sym (f .tells .holds) ∙ h)
+            go : (a b : Bool) → a && (b && holdsWhole w t (conjunctsAt q k) (suc j)) ≡ false
+            go true true = rw (← c) (sym f ∙ h)
             go true false = refl
             go false b = refl

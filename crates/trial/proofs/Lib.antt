@@ -1,5 +1,7 @@
 -- The laws that the functions' proofs cite.
+pub mod Rounds
+pub mod Keeping
 pub mod Passing
 pub mod Searching
-pub mod Starting
 pub mod Trying
+pub mod Starting

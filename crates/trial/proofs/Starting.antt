@@ -1,32 +1,32 @@
 -- Before the search: the dials, the constraints whole, and the first combination.
 use Prim.Native.Nat.{_+_, _<_, _≤_, suc, zero, ℕ}
+use mathlib.Core.Bool.{Bool, true}
 use mathlib.Core.List.{List, map}
 use mathlib.Core.Path.{_∙_, _≡_, refl, subst, sym}
 use native.Mathlib.Omega.{arith}
-use lib.Dec.{T, eqb}
 use lib.ListN.{getD, length, take}
 use lib.Seq.{length-take-le}
-use Rattle.frames.proofs.Frames.{only-then}
+use Rattle.carriers.specs.Carriers.{Listable, Listed}
+use Rattle.frames.proofs.Frames.{only-none, only-then}
 use Rattle.frames.specs.Frames.{Only}
 use Rattle.layout.proofs.Nesting.{nested-kept}
-use Rattle.layout.specs.Tables.{Pieces, Tabled, constraintAt, pieceAt}
+use Rattle.layout.specs.Tables.{Pieces, constraintAt}
 use Rattle.layout.specs.declared.Tables.{Tables}
 use Rattle.meaning.proofs.Filling.{fill}
-use Rattle.meaning.proofs.Intervals.{isInside-refl}
 use Rattle.meaning.proofs.Picks.{AllNonEmpty}
-use Rattle.meaning.proofs.Rules.{and-T, eqb-of}
 use Rattle.meaning.proofs.Whole.{whole-passes}
-use Rattle.meaning.specs.Intervals.{Constraint, NonEmpty, isInside}
-use Rattle.meaning.specs.Lists.{cons, counting, nil}
+use Rattle.meaning.specs.Intervals.{NonEmpty}
+use Rattle.meaning.specs.Lists.{any, cons, counting, nil}
 use Rattle.meaning.specs.Policy.{policyOf}
-use Rattle.meaning.specs.Subsumption.{includes}
+use Rattle.odometer.proofs.Weights.{pieces-any}
 use Rattle.odometer.specs.Odometer.{Counted, DialsFound, Split}
-use Rattle.splitting.proofs.Callers.{constraints-at, constraints-kept, splittable-kept, tabled-turned, widened-form}
+use Rattle.splitting.proofs.Callers.{constraints-at, constraints-kept, splittable-kept, tabled-turned, whole-form}
 use Rattle.splitting.proofs.Storing.{constraint-kept}
-use Rattle.splitting.specs.Constraints.{Full, Started, Widened, firstConstraints}
-use Rattle.trial.proofs.Trying.{passes-held, taken-any}
-use Rattle.trial.specs.Trials.{Askable, Searchable, Taker, Triable, Tried, Turnable}
-use Rattle.trial.specs.declared.Taken.{Taken}
+use Rattle.splitting.specs.Constraints.{Full, Started, firstConstraints}
+use Rattle.subsumption.specs.Tests.{holdsWhole}
+use Rattle.trial.proofs.Keeping.{none-sure, none-terms}
+use Rattle.trial.proofs.Trying.{passes-held}
+use Rattle.trial.specs.Trials.{Blank, Formed, Positive, Remembers, Searchable, Triable, Tried, Turnable}
 
 constraints-nonEmpty : (w : List ℕ) (n : ℕ) → Full w n → AllNonEmpty (firstConstraints w n)
 constraints-nonEmpty w n f = go 0 n (λ m h. f m (omega arith))
@@ -71,39 +71,37 @@ module _ {q e dials w : List ℕ} {t : Tables} (r : Turnable q e dials w t) wher
 
   -- ---- the constraints whole
 
-  module _ {w′ : List ℕ} (a : Widened (t .constraints) w w′) where
-    now-whole : Turnable q e dials w′ t
-    now-whole = turnable-kept (a .only)
+  pub turnable-formed : Formed q w t
+  turnable-formed = record { standing = r .triable .standing; nested = r .triable .nested; some = r .triable .some; policy = r .triable .policy }
 
-    pub whole-askable : Askable q dials w′ t
-    whole-askable = record {
-      testing = record {
-        standing = now-whole .triable .standing;
-        nested = now-whole .triable .nested;
-        split = λ m h. rw (a .whole m h) (itself (constraintAt w′ m));
-        full = λ m h. rw (a .whole m h) (now-whole .triable .splittable .full m h);
-        known = now-whole .dialled .all;
-        few = r .few;
-      };
-      some = r .triable .some;
-      policy = r .triable .policy;
-    }
-      where
-        itself : (s : Constraint) → T (includes (s .feature) (s .lo) (s .hi) s)
-        itself s = and-T (eqb (s .feature) (s .feature)) (isInside (s .lo) (s .hi) (s .lo) (s .hi)) (eqb-of (s .feature) (s .feature) refl) (isInside-refl (s .lo) (s .hi))
-
-    pub whole-taken : {taken : Taken} → Taker q dials w′ t taken → (taken .term ≡ 0 → ⊥) → Tried (policyOf q) w w′ t 0
-    whole-taken b some = record {
-      told = λ K F h.
-          let g : Tabled K F w′ t = tabled-turned h (a .only) (r .triable .standing .individuals, r .triable .standing .constraints) in
-          let same : fill (pieceAt w′) F ≡ F = widened-form a F (sym (constraints-at g)) in
-          let p = sym (passes-held (policyOf q) g (pieceAt w′)) ∙ taken-any b some (pieceAt w′) (whole-askable .testing .split) (record { same = λ d h m. refl }) in
-          whole-passes K (policyOf q) F (subst AllNonEmpty (constraints-at h) (constraints-nonEmpty w (t .constraints) (r .triable .splittable .full))) (rw same at p);
-      only = a .only;
-    }
+  pub whole-taken : {b : Bool} → b ≡ any (λ c. holdsWhole w t c 1) (policyOf q) → b ≡ true → Tried (policyOf q) w w t 0
+  whole-taken e h = record {
+    told = λ K F g.
+        let same : fill (constraintAt w) F ≡ F = whole-form w (t .constraints) F (sym (constraints-at g)) in
+        let p = sym (passes-held (policyOf q) g (constraintAt w)) ∙ sym e ∙ h in
+        whole-passes K (policyOf q) F (subst AllNonEmpty (constraints-at g) (constraints-nonEmpty w (t .constraints) (r .triable .splittable .full))) (rw same at p);
+    only = only-none;
+  }
 
   -- ---- the first combination
 
   pub turnable-searchable : {w′ counts earlier : List ℕ} → Started (t .constraints) w w′ → Counted e dials w′ counts → length earlier ≡ length dials →
       Searchable q e dials counts earlier w′ t
   turnable-searchable s c h = record { turnable = turnable-kept (s .only); first = s .first; counted = c; size = h }
+
+-- ---- what is kept while they are tried
+
+module _ {q e dials counts earlier w : List ℕ} {t : Tables} (r : Searchable q e dials counts earlier w t) where
+  pub searchable-listable : Listable dials w t
+  searchable-listable = record {
+    standing = r .turnable .triable .standing;
+    nested = r .turnable .triable .nested;
+    inside = λ d h. r .turnable .dialled .dial d h .0;
+    few = r .turnable .few;
+  }
+
+  pub blank-remembers : {c s takers : List ℕ} → Listed c w (t .individuals) → Blank s → Blank takers → Remembers q c w t s takers
+  blank-remembers {c} {s} {takers} l m n = record { listed = l; sure = none-sure s m q c w t; terms = none-terms takers n q }
+
+  pub searchable-positive : Positive counts
+  searchable-positive d h = rw (r .counted .count (policyOf q) (r .turnable .triable .ends) d (omega (arith, r .counted .size))) (pieces-any (policyOf q) w (getD dials d 0))

@@ -1,13 +1,15 @@
 -- Laws of the trial: what is known at the combination that the tables stand at, and how the search goes on and ends.
 use Prim.Native.Nat.{_+_, _-_, _<_, _≤_, suc, zero, ℕ}
-use mathlib.Core.Bool.{Bool, _||_, true}
+use mathlib.Core.Bool.{Bool, _||_, false, true}
 use mathlib.Core.List.{List, [], _∷_}
 use mathlib.Core.Logic.{⊎-elim}
 use mathlib.Core.Path.{_∙_, _≡_, ap, ap₂, fun-ext, refl, subst, sym}
 use native.Mathlib.Nat.{zero-mul}
 use native.Mathlib.Omega.{arith}
+use borrow.Author.Tests.{eqb-false, eqb-true}
 use lib.Dec.{T, eqb}
-use lib.ListN.{getD, length}
+use lib.ListN.{List·getD-eq-default, getD, length, length-set, set}
+use lib.Seq.{getD-set-other, getD-set-same}
 use Rattle.frames.proofs.Frames.{only-none, only-then}
 use Rattle.frames.specs.Frames.{Only}
 use Rattle.layout.proofs.Filling.{combined}
@@ -38,9 +40,11 @@ use Rattle.splitting.proofs.Callers.{constraints-at, splittable-kept, tabled-tu
 use Rattle.splitting.proofs.Storing.{constraint-kept, constraints-kept}
 use Rattle.splitting.specs.Constraints.{firstConstraints, pieceCount}
 use Rattle.subsumption.proofs.Callers.{holds-filled}
-use Rattle.subsumption.specs.Tests.{Agrees, Chooses, holdsAt}
+use Rattle.retest.specs.Reasons.{Agrees, Choice}
+use Rattle.subsumption.specs.Tests.{holdsAt}
+use Rattle.trial.proofs.Keeping.{remembers-kept}
 use Rattle.trial.proofs.Searching.{Passes, at-same, chosen, chosen-at, placed, search-ends, search-fails}
-use Rattle.trial.specs.Trials.{Askable, Failure, Known, Searchable, Taker, Tried}
+use Rattle.trial.specs.Trials.{Askable, Failure, Known, Remembers, Searchable, Taker, Taking, Tried}
 use Rattle.trial.specs.declared.Taken.{Taken}
 
 at-all : {A : Type 0} {P : A → Type 0} {x : A} {l : List A} {i : ℕ} → All P l → At x l i → P x
@@ -64,7 +68,7 @@ unfolding passes
 passes-held [] h v = refl
 passes-held (c ∷ l) h v = ap₂ (λ (a b : Bool). a || b) (holds-filled h v c) (passes-held l h v)
 
-pub taken-any : {q dials w : List ℕ} {t : Tables} {taken : Taken} → Taker q dials w t taken → (taken .term ≡ 0 → ⊥) → (v : ℕ → Constraint) → Chooses v w (t .constraints) →
+pub taken-any : {q dials c w : List ℕ} {t : Tables} {s : List ℕ} {taken : Taken} → Taking q dials c w t s taken → (taken .term ≡ 0 → ⊥) → (v : ℕ → Constraint) → Choice v w (t .constraints) →
     Agrees dials w (taken .dials) v → any (λ c. holdsAt v w t c 1) (policyOf q) ≡ true
 taken-any {q} {w = w} {t = t} a some v c g =
     same-test (any (λ c. holdsAt v w t c 1) (policyOf q)) true (λ _. tt)
@@ -84,10 +88,11 @@ Admits q w₀ t P = (w : List ℕ) → Only (Pieces (t .constraints)) w₀ w →
     any (λ c. holdsAt (chosen (policyOf q) w₀ e) w t c 1) (policyOf q) ≡ true → P e ≡ true
 
 -- at counter c, counted from 1, the tables stand at that combination, and those before it are known to pass; at 0 all are. Term k took the last one
-pub record Trying (q dials earlier w₀ w : List ℕ) (t : Tables) (c k : ℕ) : Type 0 where
+pub record Trying (q dials earlier carriers memory takers w₀ w : List ℕ) (t : Tables) (c k : ℕ) : Type 0 where
   pub only : Only (Pieces (t .constraints)) w₀ w
   pub size : length earlier ≡ length dials
   pub last : Known q k
+  pub remembers : Remembers q carriers w t memory takers
   pub state : (P : (ℕ → ℕ) → Bool) → Admits q w₀ t P → Outcome (policyOf q) P dials earlier w (t .constraints) c
 
 -- how many may be left
@@ -102,11 +107,12 @@ module _ {q e dials counts earlier₀ w₀ : List ℕ} {t : Tables} (r : Searcha
   abbrev n : ℕ
   n = t .constraints
 
-  pub trying-starts : Trying q dials earlier₀ w₀ w₀ t 1 0
-  trying-starts = record {
+  pub trying-starts : {carriers memory takers : List ℕ} → Remembers q carriers w₀ t memory takers → Trying q dials earlier₀ carriers memory takers w₀ w₀ t 1 0
+  trying-starts m = record {
     only = only-none;
     size = r .size;
     last = λ z. absurd (z refl);
+    remembers = m;
     state = λ P a. (
       λ i. 0,
       record {
@@ -117,7 +123,7 @@ module _ {q e dials counts earlier₀ w₀ : List ℕ} {t : Tables} (r : Searcha
     );
   }
 
-  module _ {earlier w : List ℕ} {c k : ℕ} (y : Trying q dials earlier w₀ w t c k) where
+  module _ {earlier carriers memory takers w : List ℕ} {c k : ℕ} (y : Trying q dials earlier carriers memory takers w₀ w t c k) where
     sizes : pieceCount Q w ≡ pieceCount Q w₀
     sizes = fun-ext (λ j. ap (λ x. length (pieces Q x)) (constraint-kept (y .only) j))
 
@@ -155,6 +161,10 @@ module _ {q e dials counts earlier₀ w₀ : List ℕ} {t : Tables} (r : Searcha
       admits : Admits q w₀ t (Passes K Q F w₀ n same)
       admits w o e v h = sym (passes-held Q (tabled-now w o) (chosen Q w₀ e)) ∙ h
 
+    -- whoever took one that ended alike is a term
+    pub trying-alike : (at : ℕ) {i : ℕ} → i ≡ getD takers at 0 → Known q i
+    trying-alike at e = rw e (y .remembers .terms at)
+
     pub trying-ends : c ≡ 0 → Tried Q w₀ w t 0
     trying-ends z = record {
       told = λ K F h. search-ends K Q F w₀ n (same K F h) (λ e v. subst (Outcome Q (Passes K Q F w₀ n (same K F h)) dials earlier w n) z (y .state _ (admits K F h)) e (back e v));
@@ -174,16 +184,24 @@ module _ {q e dials counts earlier₀ w₀ : List ℕ} {t : Tables} (r : Searcha
       plain : (d : ℕ → ℕ) × Standing Q (λ e. true) dials earlier w n d c
       plain = standing (λ e. true) (λ w o e v h. refl)
 
-      pub trying-askable : Askable q dials w t
+      chosen-now : (v : ℕ → Constraint) (d : ℕ → ℕ) → ((m : ℕ) → m < n → At (v m) (pieces Q (constraintAt w m)) (d m)) → Choice v w n
+      chosen-now v d at = record {
+        inside = λ m h. piece-inside Q (constraintAt w m) (v m) (full-now m h) (at m h);
+        full = λ m h. inside Q (constraintAt w m) (v m) (full-now m h) (at m h) .nonEmpty;
+      }
+
+      pub trying-askable : Askable q dials carriers w t memory
       trying-askable = record {
         testing = record {
           standing = record { long = omega (arith, y .only .size, r .turnable .triable .standing .long); individuals = r .turnable .triable .standing .individuals; constraints = r .turnable .triable .standing .constraints };
           nested = nested-kept (y .only) (r .turnable .triable .standing .individuals) (r .turnable .triable .nested);
-          split = λ m h. piece-inside Q (constraintAt w m) (pieceAt w m) (full-now m h) (plain .1 .stands m h);
-          full = λ m h. inside Q (constraintAt w m) (pieceAt w m) (full-now m h) (plain .1 .stands m h) .nonEmpty;
+          chosen = chosen-now (pieceAt w) (plain .0) (plain .1 .stands);
+          placed = λ d h. now-dialled .dial d h .0;
           known = now-dialled .all;
           few = r .turnable .few;
         };
+        listed = y .remembers .listed;
+        sure = y .remembers .sure;
         some = r .turnable .triable .some;
         policy = r .turnable .triable .policy;
       }
@@ -213,8 +231,8 @@ module _ {q e dials counts earlier₀ w₀ : List ℕ} {t : Tables} (r : Searcha
       }
 
       -- no term takes it
-      pub trying-fails : {taken : Taken} → Taker q dials w t taken → taken .term ≡ 0 → Tried Q w₀ w t c
-      trying-fails {taken} a h = record { told = λ K F g. go K F g c z refl; only = y .only }
+      pub trying-fails : {memory′ : List ℕ} {taken : Taken} → Taker q dials carriers w t memory′ taken → taken .term ≡ 0 → Tried Q w₀ w t c
+      trying-fails a h = record { told = λ K F g. go K F g c z refl; only = y .only }
         where
           go : (K : Vocabulary) (F : Form) → Tabled K F w₀ t → (i : ℕ) → (i ≡ 0 → ⊥) → i ≡ c → Failure K Q F w t i
           go K F g zero f e = absurd (f refl)
@@ -235,7 +253,7 @@ module _ {q e dials counts earlier₀ w₀ : List ℕ} {t : Tables} (r : Searcha
               )
 
       -- a term takes it: the search goes on behind what that covers
-      module _ {taken : Taken} (a : Taker q dials w t taken) (some : taken .term ≡ 0 → ⊥) where
+      module _ {memory′ : List ℕ} {taken : Taken} (a : Taker q dials carriers w t memory′ taken) (some : taken .term ≡ 0 → ⊥) where
         covers : (P : (ℕ → ℕ) → Bool) → Admits q w₀ t P → (d : ℕ → ℕ) → StandsAt Q w n d → Covers (pieceCount Q w) n P d n (inMask dials (taken .dials))
         covers P admit d stands = record { pass = λ e v agree. admit w (y .only) e (there e v) (held e v agree) }
           where
@@ -244,7 +262,7 @@ module _ {q e dials counts earlier₀ w₀ : List ℕ} {t : Tables} (r : Searcha
             held e v agree =
                 let at : (j : ℕ) → j < n → At (chosen Q w₀ e j) (pieces Q (constraintAt w j)) (e j) =
                 λ j l. subst (λ x. At (chosen Q w₀ e j) (pieces Q x) (e j)) (sym (constraint-kept (y .only) j)) (chosen-at Q w₀ n e (there e v) j l) in
-                taken-any a some (chosen Q w₀ e) (λ m l. piece-inside Q (constraintAt w m) (chosen Q w₀ e m) (full-now m l) (at m l))
+                taken-any (a .taking) some (chosen Q w₀ e) (chosen-now (chosen Q w₀ e) e at)
                 (record {
                   same = λ f l m. let g = now-dialled .dial f l in
                       at-same (at (getD dials f 0) (g .0)) (subst (At (pieceAt w (getD dials f 0)) (pieces Q (constraintAt w (getD dials f 0))))
@@ -252,13 +270,27 @@ module _ {q e dials counts earlier₀ w₀ : List ℕ} {t : Tables} (r : Searcha
                 })
 
         module _ {w′ earlier′ : List ℕ} {c′ : ℕ} (s : Skipped e dials earlier earlier′ n (taken .dials) c w w′ c′) where
-          pub trying-on : {k′ : ℕ} → k′ ≡ taken .term → Trying q dials earlier′ w₀ w′ t c′ k′
-          trying-on z = record {
+          pub trying-on : {k′ : ℕ} (at : ℕ) {takers′ : List ℕ} → k′ ≡ taken .term → takers′ ≡ set takers at k′ → Trying q dials earlier′ carriers memory′ takers′ w₀ w′ t c′ k′
+          trying-on {k′} at {takers′} z e = record {
             only = only-then (y .only) (s .only);
             size = s .size ∙ y .size;
-            last = λ f. rw z (a .known (λ v. f (z ∙ v)));
+            last = here;
+            remembers = remembers-kept t (s .only) (r .turnable .triable .standing .individuals) (record { listed = y .remembers .listed; sure = a .taking .sure; terms = λ i. rw e (noted i) });
             state = λ P admit. let x = standing P admit in s .told Q P (x .0) (r .turnable .triable .ends) (x .1) (covers P admit (x .0) (x .1 .stands));
           }
+            where
+              here : Known q k′
+              here f = rw z (a .taking .known (λ v. f (z ∙ v)))
+
+              noted : (i : ℕ) → Known q (getD (set takers at k′) i 0)
+              noted i = ⊎-elim
+                  (λ l. go (eqb i at) refl l)
+                  (λ l. let e : getD (set takers at k′) i 0 ≡ 0 = List·getD-eq-default (set takers at k′) 0 (omega (arith, length-set takers at k′)) in λ f. absurd (f e))
+                  (order i (length takers))
+                where
+                  go : (b : Bool) → eqb i at ≡ b → i < length takers → Known q (getD (set takers at k′) i 0)
+                  go true eb l = rw (eqb-true i at eb, getD-set-same takers at k′ 0 (rw (← eqb-true i at eb) l)) here
+                  go false eb l = rw (getD-set-other takers at i k′ 0 (eqb-false i at eb)) (y .remembers .terms i)
 
           pub trying-falls : left c′ < left c
           trying-falls = go c z below c′ (s .rises)

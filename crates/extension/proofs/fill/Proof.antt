@@ -10,8 +10,8 @@ fill-spec =
     tie.close
     (tie.spec
     (λ c κs. search needs)
-    (λ c. fill-none (c .before .before .before .before .before .before .args .m .now) (c .before .before .before .before .before .before .args .columns .now) (c .before .is-due .ensures) (c .if1 .taken))
+    (λ c. search fill-none)
     (λ c κs. search needs)
     (λ c κs. let s = c .before .before .before .fill-column .ensures .only .size in let r = c .before .before .before .before .before .before .before .before .before .before .before .pre .room in (c .before .before .before .before .before .before .before .before .before .before .before .pre .conjunct, omega arith))
     (λ c. c .before .before .fill-mask .ensures .only .size ∙ c .before .before .before .before .before .before .fill-column .ensures .only .size)
-    (λ c. fill-both (c .before .before .before .before .before .before .fill-column .ensures) (c .before .before .fill-mask .ensures) (c .before .before .before .before .before .before .before .before .before .before .before .before .before .before .pre .interpreted .readable) (c .before .before .before .before .before .before .before .before .before .is-due .ensures) (c .before .before .before .before .before .before .before .before .if1 .left)))
+    (λ c. search fill-both))

@@ -30,7 +30,7 @@ fill-column-spec =
     (λ c κs. search needs)
     (λ c. search (counting-starts, filling-starts))
     (λ c. search needs)
-    (λ c κs. let f = c .before .before .before .before .before .before .before .before .pre in let i = f .interpreted .readable .individuals in let l = f .interpreted .long in let r = f .room in let s = c .before .before .loop .inv .holds .only .size in (f .sized, (omega arith, omega arith), l, omega arith))
+    (λ c κs. let f = c .before .before .before .before .before .before .before .before .pre in let i = f .interpreted .readable .individuals in let l = f .interpreted .long in let r = f .room in let s = c .before .before .loop .inv .holds .only .size in record { sized = f .sized; individual = (omega arith, omega arith); long = l; room = omega arith })
     (λ c. search needs)
     (λ c. search needs)
     loop-again

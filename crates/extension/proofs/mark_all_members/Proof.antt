@@ -1,7 +1,7 @@
 use borrow.Author.Needs.{needs}
 use Prim.Native.Nat.{_-_}
 use native.Mathlib.Omega.{arith}
-use Rattle.extension.proofs.Marks.{Telling, marking-ends, telling-on, telling-starts}
+use Rattle.extension.proofs.Marks.{Telling, telling-ends, telling-on, telling-starts}
 use Rattle.satisfaction.proofs.Classes.{interpreted-kept}
 use Rattle.satisfaction.proofs.Statements.{Counting, counting-ends, counting-on, counting-starts}
 use Rattle.extension.proofs.mark_all_members.Statement.{statement}
@@ -35,4 +35,4 @@ mark-all-members-spec =
     (λ c. search needs)
     loop-again
     (λ c. c .before .loop .inv .holds .only .size)
-    (λ c. marking-ends (counting-ends (c .before .loop .inv) (c .loop-test .left))))
+    (λ c. telling-ends (c .before .before .before .before .before .before .args .p .now) (c .before .before .before .before .before .before .args .m .now) (c .before .before .before .before .before .before .args .k) (counting-ends (c .before .loop .inv) (c .loop-test .left))))

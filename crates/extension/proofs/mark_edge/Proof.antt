@@ -1,6 +1,6 @@
 use borrow.Author.Needs.{needs}
 use Rattle.extension.proofs.Edges.{edge-joinable, edge-joined, edge-none, edge-past, edge-role, edge-target}
-use Rattle.extension.proofs.Marks.{owner-few}
+use Rattle.spans.proofs.Joining.{owner-few}
 use Rattle.extension.proofs.mark_edge.Statement.{statement}
 use Rattle.extension.proofs.mark_edge.Tie as tie
 

@@ -18,7 +18,7 @@ cast-counts : tie.Need-cast-counts Inv-loop μ-loop
 cast-counts c =
     let l = c .before .before .before .before .before .before .before in
     let s = l .before .before .before .before .before in
-    let r = counting-fits (s .pre .0) (s .pre .1) (c .before .before .before .before .before .before .loop-test .taken) (c .before .before .before .before .place .ensures)
+    let r = counting-fits (s .pre) (c .before .before .before .before .before .before .loop-test .taken) (c .before .before .before .before .place .ensures)
     (c .before .before .before .feature-of .ensures) (c .before .before .lo-of .ensures) (c .before .hi-of .ensures) (c .count .ensures .1) in
     omega arith
 
@@ -28,8 +28,8 @@ loop-again c =
     let s = l .before .before .before .before .before in (
       omega arith,
       l .loop .inv .1,
-      counting-on (s .pre .0) (s .pre .1) (c .before .before .before .before .before .before .loop-test .taken) (c .before .before .before .before .place .ensures)
-          (c .before .before .before .feature-of .ensures) (c .before .before .lo-of .ensures) (c .before .hi-of .ensures) (c .count .ensures .1) (s .pre .2) (l .loop .inv .2),
+      counting-on (s .pre) (c .before .before .before .before .before .before .loop-test .taken) (c .before .before .before .before .place .ensures)
+          (c .before .before .before .feature-of .ensures) (c .before .before .lo-of .ensures) (c .before .hi-of .ensures) (c .count .ensures .1) (l .loop .inv .2),
     )
 
 pub count-pieces-spec : {M : Type 1} → statement M

@@ -3,8 +3,8 @@ use borrow.Author.Needs.{needs}
 use Prim.Native.Nat.{suc, _-_}
 use mathlib.Core.Path.{_≡_}
 use native.Mathlib.Omega.{arith}
-use Rattle.odometer.proofs.Skipping.{Passing, passing-done, passing-ends, passing-on, passing-split, passing-starts, small}
-use Rattle.odometer.proofs.Skipping.{weight-fits, weight-some}
+use Rattle.odometer.proofs.Passing.{Passing, passing-ends, passing-split, passing-starts, small, weight-some}
+use Rattle.odometer.proofs.Skipping.{passing-done, passing-on, weight-fits}
 use Rattle.odometer.proofs.skip.Statement.{statement}
 use Rattle.odometer.proofs.skip.Tie as tie
 

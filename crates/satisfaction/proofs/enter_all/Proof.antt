@@ -2,7 +2,7 @@ use mathlib.Core.Path.{_∙_}
 use borrow.Author.Needs.{needs}
 use Rattle.meaning.specs.Records.{falling, lastOf}
 use Rattle.model.proofs.Chain.{Scanning, scanning-ends, scanning-falls, scanning-on, scanning-starts, scanning-stated}
-use Rattle.satisfaction.proofs.Classes.{Entering, entering-ends, entering-on, entering-starts}
+use Rattle.satisfaction.proofs.Classes.{Entering, classes-fit, entering-ends, entering-on, entering-starts}
 use Rattle.satisfaction.proofs.enter_all.Statement.{statement}
 use Rattle.satisfaction.proofs.enter_all.Tie as tie
 
@@ -24,12 +24,12 @@ enter-all-spec =
     (tie.spec
     Inv-loop
     μ-loop
-    (λ c κs. search needs)
+    (λ c κs. search classes-fit)
     (λ c κs. search needs)
     (λ c. search (scanning-starts, entering-starts))
     (λ c κs. (search scanning-stated, search needs, c .before .before .loop .inv .walk .holds .long))
     (λ c κs. search needs)
     (λ c. search scanning-falls)
     loop-again
-    (λ c. c .before .loop .inv .walk .holds .only .size ∙ c .before .before .before .before .before .clear .ensures .only .size)
-    (λ c. entering-ends (c .before .before .before .before .before .clear .ensures) (scanning-ends (c .before .loop .inv) (c .loop-test .left))))
+    (λ c. c .before .loop .inv .walk .holds .only .size ∙ c .before .before .before .before .before .clear-rows .ensures .only .size)
+    (λ c. let t = scanning-ends (c .before .loop .inv) (c .loop-test .left) in search entering-ends))

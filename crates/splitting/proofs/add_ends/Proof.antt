@@ -1,5 +1,5 @@
 use borrow.Author.Needs.{needs}
-use Rattle.splitting.proofs.Adding.{gathered-two}
+use Rattle.keys.proofs.Adding.{gathered-two}
 use Rattle.splitting.proofs.add_ends.Statement.{statement}
 use Rattle.splitting.proofs.add_ends.Tie as tie
 

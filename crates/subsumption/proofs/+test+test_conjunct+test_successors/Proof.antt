@@ -31,34 +31,34 @@ use Rattle.policy.proofs.kind_of.Reads as kind-of-reads
 use Rattle.policy.proofs.lo_of.Reads as lo-of-reads
 use Rattle.policy.proofs.name_of.Reads as name-of-reads
 use Rattle.policy.proofs.next_of.Reads as next-of-reads
-use Rattle.subsumption.proofs.test_pieces.Reads as test-pieces-reads
+use Rattle.subsumption.proofs.test_constraints.Reads as test-constraints-reads
 use Rattle.words.proofs.place.Reads as place-reads
 
 -- the levels that are left; at one level a chain comes first, then a conjunct, then the successors
-abbrev μ-test : Measures 3 test-kinds.ps ℕ
-μ-test κs a = 3 * a .1 .1 .1 .1 .0 + 2
+abbrev μ-test : Measures 2 test-kinds.ps ℕ
+μ-test κs a = 3 * a .1 .1 .1 .0 + 2
 
-abbrev μ-test-conjunct : Measures 3 test-conjunct-kinds.ps ℕ
-μ-test-conjunct κs a = 3 * a .1 .1 .1 .1 .0 + 1
+abbrev μ-test-conjunct : Measures 2 test-conjunct-kinds.ps ℕ
+μ-test-conjunct κs a = 3 * a .1 .1 .1 .0 + 1
 
-abbrev μ-test-successors : Measures 3 test-successors-kinds.ps ℕ
-μ-test-successors κs a = 3 * a .1 .1 .1 .1 .0
+abbrev μ-test-successors : Measures 2 test-successors-kinds.ps ℕ
+μ-test-successors κs a = 3 * a .1 .1 .1 .0
 
 -- what a function asks for, its measure held to t
-abbrev asked : (ps : List (PK 3)) → Measures 3 ps ℕ → In 3 ps → (ℕ → ℕ → Type 0) → ℕ → In 3 ps
-asked ps μ P r t = and 3 ps (falls 3 ps r μ t) P
+abbrev asked : (ps : List (PK 2)) → Measures 2 ps ℕ → In 2 ps → (ℕ → ℕ → Type 0) → ℕ → In 2 ps
+asked ps μ P r t = and 2 ps (falls 2 ps r μ t) P
 
 abbrev test-Inv-loop : test-lts.InvT-loop
-test-Inv-loop q work dials t left k x all₀ at₀ all at = Going q dials work t left k x all at
+test-Inv-loop q work t left k x at₀ at = Going q work t left k x at
 
 abbrev test-μ-loop : test-lts.MeasureT-loop
-test-μ-loop q work dials t left k x all₀ at₀ all at = falling (lastOf 6 q) at
+test-μ-loop q work t left k x at₀ at = falling (lastOf 6 q) at
 
 abbrev test-successors-Inv-loop : test-successors-lts.InvT-loop
-test-successors-Inv-loop q work dials t left k x r n j₀ j = Seeking q dials work t k x (r .0) j
+test-successors-Inv-loop q work t left k x r n j₀ j = Seeking q work t k x (r .0) j
 
 abbrev test-successors-μ-loop : test-successors-lts.MeasureT-loop
-test-successors-μ-loop q work dials t left k x r n j₀ j = n - j
+test-successors-μ-loop q work t left k x r n j₀ j = n - j
 
 pub +test+test-conjunct+test-successors-spec : {M : Type 1} → statement M
 +test+test-conjunct+test-successors-spec =
@@ -89,8 +89,8 @@ pub +test+test-conjunct+test-successors-spec : {M : Type 1} → statement M
       lo-of-reads.Learnt,
       hi-of-reads.Asked,
       hi-of-reads.Learnt,
-      test-pieces-reads.Asked,
-      test-pieces-reads.Learnt,
+      test-constraints-reads.Asked,
+      test-constraints-reads.Learnt,
     )
     (asked test-conjunct-kinds.ps μ-test-conjunct test-conjunct.Pre _≡_ t)
     test-conjunct.Post
@@ -119,7 +119,7 @@ pub +test+test-conjunct+test-successors-spec : {M : Type 1} → statement M
     (λ c κs. search needs) (λ c κs. search needs) (λ c κs. search needs) (λ c. search walk-starts)
     -- a successor, against the child chain
     (λ c. search needs) (λ c. search needs) (λ c κs. search needs) (λ c. search needs)
-    (λ c κs. (omega arith, (search needs, omega arith, omega arith))) (λ c. search walk-found)
+    (λ c κs. (omega arith, (search needs, record { some = omega arith; within = omega arith }))) (λ c. search (needs, walk-found))
     -- the next one
     (λ c. search needs) (λ c κs. search needs) (λ c. search walk-falls)
     (λ c. ⊎-elim (λ h. search walk-past) (λ h. search walk-other) (c .before .if1 .came))

@@ -8,12 +8,7 @@ count-pieces-requires : tie.Need-count-pieces-requires
 count-pieces-requires c κs =
     let r = c .before .before .before .before .before .before .before .before .before .before .before .before .pre in
     let k = turnable-kept (r .0) (c .before .before .before .before .start .ensures .only) in
-    (triable-split (k .triable), k .dialled, r .1 .0)
-
-search-requires : tie.Need-search-requires
-search-requires c κs =
-    let r = c .before .before .before .before .before .before .before .before .before .before .before .before .before .before .before .before .before .before .pre in
-    turnable-searchable (r .0) (c .before .before .before .before .before .before .before .before .before .before .start .ensures) (c .before .before .before .before .before .count-pieces .ensures) (r .1 .1)
+    record { split = triable-split (k .triable); dialled = k .dialled; size = r .1 .0 }
 
 pub try-pieces-spec : {M : Type 1} → statement M
 try-pieces-spec =
@@ -21,8 +16,13 @@ try-pieces-spec =
     (tie.spec
     (λ c κs. search needs)
     count-pieces-requires
-    search-requires
+    (λ c κs. let r = c .before .before .before .before .before .before .before .before .before .before .before .before .before .before .before .before .before .before .before .pre in turnable-searchable (r .0) (c .before .before .before .before .before .before .before .before .before .before .before .start .ensures) (c .before .before .before .before .before .before .count-pieces .ensures) (r .1 .1))
     (λ c. search needs)
     (λ c. search needs)
     (λ c. search needs)
-    (λ c. tried-kept (c .before .before .before .before .before .before .before .before .before .before .before .before .before .before .before .before .before .before .before .before .before .before .before .pre .0) (c .before .before .before .before .before .before .before .before .before .before .before .before .before .before .before .start .ensures .only) (c .before .before .before .before .search .ensures)))
+    (λ c. tried-kept (c .before .before .before .before .before .before .before .before .before .before .before .before .before .before .before .before .before .before .before .before .before .before .before .before .pre .0) (c .before .before .before .before .before .before .before .before .before .before .before .before .before .before .before .before .start .ensures .only) (c .before .before .before .before .search-short .ensures))
+    (λ c κs. let r = c .before .before .before .before .before .before .before .before .before .before .before .before .before .before .before .before .before .before .before .pre in turnable-searchable (r .0) (c .before .before .before .before .before .before .before .before .before .before .before .start .ensures) (c .before .before .before .before .before .before .count-pieces .ensures) (r .1 .1))
+    (λ c. search needs)
+    (λ c. search needs)
+    (λ c. search needs)
+    (λ c. tried-kept (c .before .before .before .before .before .before .before .before .before .before .before .before .before .before .before .before .before .before .before .before .before .before .before .before .pre .0) (c .before .before .before .before .before .before .before .before .before .before .before .before .before .before .before .before .start .ensures .only) (c .before .before .before .before .search-long .ensures)))

@@ -1,0 +1,2 @@
+-- The individuals of a term that have a dial at or below them, listed by parent.
+pub mod Carriers

@@ -1,0 +1,2 @@
+-- Laws of intervals that have values in common.
+pub mod Touching

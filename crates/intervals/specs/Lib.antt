@@ -1,0 +1,2 @@
+-- What is asked of two intervals beside whether one lies inside the other.
+pub mod Touching

@@ -1,0 +1,2 @@
+-- Keys, and lists of them.
+pub mod Keys
