@@ -24,9 +24,9 @@ pub fn is_inside(lo: u32, hi: u32, low: u32, high: u32) -> bool
     lo <= low && high <= hi
 }
 
-// Whether some value from low to high lies from lo to hi, where both have values.
-pub fn does_touch(lo: u32, hi: u32, low: u32, high: u32) -> bool
-    ensures { λ r. ⌜ r ≡ touches lo hi low high ⌝ }
+// Whether some value from a first to a last one lies from lo to hi, where both have values.
+pub fn does_touch(lo: u32, hi: u32, first: u32, last: u32) -> bool
+    ensures { λ r. ⌜ r ≡ touches lo hi first last ⌝ }
 {
-    low <= hi && lo <= high
+    first <= hi && lo <= last
 }

@@ -48,7 +48,7 @@ pub record State (q c w : List ℕ) (t : Tables) (k x state : ℕ) : Type 0 wher
   pub fails : state ≡ 2 → Always q w t k x false
   pub rests : state ≡ 3 → Open q c w t k x
 
--- all that is remembered of them is so
+-- all that is remembered of the tables' individuals is so
 pub record Sure (q c w : List ℕ) (t : Tables) (s : List ℕ) : Type 0 where
   pub known : (k slot : ℕ) → slot ≤ 16 → Individual t (entryOf s k slot / 4) → State q c w t k (entryOf s k slot / 4) (entryOf s k slot % 4)
 

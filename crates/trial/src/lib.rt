@@ -124,9 +124,9 @@ fn taker(
     first_taker(q, work, dials, carriers, memory, t)
 }
 
-// From the first combination on, the first that fails, counted from 1, or 0; the tables are left at it. Time grows with the combinations
-// that are looked at, times the other policy's records and, of the dials, those that each record is held to. Numbers end alike that
-// leave the same remainder by round.
+// From the first combination on, the first that fails, counted from 1, or 0; the tables are left at it. Numbers end alike that leave the
+// same remainder by round. Time grows with the other policy's records times the individuals, once, and then with the combinations that
+// are looked at times the other policy's records, each held to at most 16 individuals with a dial at or below.
 fn search(
     q: &[u32],
     work: &mut [u32],
