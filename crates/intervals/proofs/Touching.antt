@@ -1,5 +1,5 @@
 -- What has a part with values in an interval has values in common with it.
-use Prim.Native.Nat.{_≤_, ℕ}
+use Prim.Native.Nat.{ℕ}
 use lib.Dec.{T, leb, leb→le, le→leb}
 use native.Mathlib.Omega.{arith}
 use Rattle.intervals.specs.Touching.{touches}

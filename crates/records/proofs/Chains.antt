@@ -1,7 +1,7 @@
 -- The way along a chain of records, cited for every loop `k = first; while k != 0 { .. k = next(k); }`: what its invariant is, how it
 -- goes on, what it has at the end, and that it ends. First for chains that were read, then for the readers themselves.
-use Prim.Native.Nat.{_<_, _≤_, suc, zero, ℕ}
-use mathlib.Core.Bool.{Bool, cond, false, true}
+use Prim.Native.Nat.{_<_, suc, zero, ℕ}
+use mathlib.Core.Bool.{Bool, false, true}
 use mathlib.Core.List.{List, [], _∷_}
 use mathlib.Core.Path.{_∙_, _≡_, refl, sym}
 use lib.Dec.{eqb}

@@ -1,19 +1,19 @@
 -- Laws of the walk over an individual's list of carriers, one after another.
-use Prim.Native.Nat.{_+_, _<_, _≤_, pred, suc, ℕ}
+use Prim.Native.Nat.{_<_, _≤_, pred, suc, ℕ}
 use mathlib.Core.Bool.{Bool, _&&_, false, not, true}
 use mathlib.Core.List.{List}
 use mathlib.Core.Logic.{_⊎_, inl, inr, ⊎-elim}
 use mathlib.Core.Path.{_∙_, _≡_, ap, refl, subst, sym}
 use native.Mathlib.Omega.{arith}
-use borrow.Author.Tests.{eq-eqb, eqb-false, ne-eqb, not-true}
+use borrow.Author.Tests.{eq-eqb, eqb-false, ne-eqb}
 use lib.Bits.{bitOr}
-use lib.Dec.{T, eqb, eqb→eq}
-use Rattle.carriers.specs.Carriers.{Carrier, Listed, besideOf, slotOf, underOf}
+use lib.Dec.{eqb, eqb→eq}
+use Rattle.carriers.specs.Carriers.{Carrier, besideOf, slotOf, underOf}
 use Rattle.layout.specs.Tables.{parentAt, roleAt}
 use Rattle.layout.specs.declared.Tables.{Tables}
 use Rattle.meaning.proofs.Counting.{none-below, some-below}
 use Rattle.meaning.proofs.Links.{falls}
-use Rattle.meaning.proofs.Rules.{T-and, isTrue, order}
+use Rattle.meaning.proofs.Rules.{isTrue, order}
 use Rattle.meaning.specs.Intervals.{Constraint}
 use Rattle.meaning.specs.Records.{falling}
 use Rattle.policy.specs.Terms.{conjunctsAt}

@@ -2,9 +2,9 @@
 use Prim.Native.Nat.{_-_, _<_, _≤_, pred, ℕ}
 use mathlib.Core.Bool.{Bool, _&&_, _||_, and-true, cond, false, not, true}
 use mathlib.Core.List.{List, [], _∷_}
-use mathlib.Core.Path.{_∙_, _≡_, ap, refl, subst, sym}
+use mathlib.Core.Path.{_∙_, _≡_, ap, refl, sym}
 use native.Mathlib.Omega.{arith}
-use borrow.Author.Tests.{eqb-false, eqb-true, not-false, not-true}
+use borrow.Author.Tests.{eqb-true, not-false, not-true}
 use lib.Bits.{bitOr}
 use lib.Dec.{eqb}
 use Rattle.carriers.specs.Carriers.{slotOf}
@@ -24,7 +24,7 @@ use Rattle.retest.proofs.Memory.{recall-sure, settled-known, sure-remem
 use Rattle.retest.specs.Memory.{Below, Pending, Sure, TellsAll, TellsCarried, TellsOne, TellsStill, Testable, recalled, remembered}
 use Rattle.subsumption.proofs.Conjuncts.{Cut, cut}
 use Rattle.subsumption.specs.Tests.{Individual}
-use Rattle.retest.specs.Reasons.{Agrees, Choice, Tells, hasCarried, hasStill, isCarried, isStill}
+use Rattle.retest.specs.Reasons.{Agrees, Choice, hasCarried, hasStill, isCarried, isStill}
 use Rattle.subsumption.specs.Tests.{hasSuccessor, holdsAt, isPassing}
 use Rattle.retest.specs.declared.Reason.{Reason}
 use Rattle.words.specs.Sets.{inSet}

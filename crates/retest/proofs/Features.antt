@@ -1,8 +1,8 @@
 -- Laws of a feature's conjunct: some constraint lies inside whole; or what is asked of the dials is asked of all.
-use Prim.Native.Nat.{_<_, _≤_, ℕ}
-use mathlib.Core.Bool.{Bool, _&&_, and-true, false, true}
+use Prim.Native.Nat.{ℕ}
+use mathlib.Core.Bool.{and-true, false, true}
 use mathlib.Core.List.{List}
-use mathlib.Core.Path.{_∙_, _≡_, ap, refl, subst, sym}
+use mathlib.Core.Path.{_∙_, _≡_, sym}
 use native.Mathlib.Omega.{arith}
 use borrow.Author.Tests.{ne-eqb}
 use lib.Dec.{T, eqb, eqb→eq}

@@ -17,7 +17,7 @@ use Rattle.meaning.proofs.Rules.{T-and, and-T, eqb-of, isTrue, order, same-test
 use Rattle.meaning.specs.Intervals.{Constraint}
 use Rattle.meaning.specs.Subsumption.{includes}
 use Rattle.retest.specs.Reasons.{Choice, Spanned, SpannedBy, mayPass}
-use Rattle.subsumption.specs.Tests.{FirstOf, hasPiece, hasWhole, isPieceInside}
+use Rattle.subsumption.specs.Tests.{FirstOf, hasPiece, isPieceInside}
 
 -- ---- whether a piece may lie inside
 

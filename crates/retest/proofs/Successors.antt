@@ -1,27 +1,24 @@
 -- Laws of the walk over an individual's successors that are in no list of carriers, one after another.
-use Prim.Native.Nat.{_+_, _-_, _<_, _≤_, pred, suc, zero, ℕ}
-use mathlib.Core.Bool.{Bool, _&&_, cond, false, true}
+use Prim.Native.Nat.{_+_, _-_, _<_, _≤_, pred, suc, ℕ}
+use mathlib.Core.Bool.{Bool, _&&_, false, true}
 use mathlib.Core.List.{List}
-use mathlib.Core.Logic.{_⊎_, inl, inr, ⊎-elim}
+use mathlib.Core.Logic.{⊎-elim}
 use mathlib.Core.Path.{_∙_, _≡_, ap, refl, subst, sym}
 use native.Mathlib.Omega.{arith}
-use borrow.Author.Tests.{eq-eqb, eqb-false, eqb-true, ltb-true, ne-eqb}
+use borrow.Author.Tests.{eq-eqb, ne-eqb}
 use lib.Bits.{bitOr}
-use lib.Dec.{eqb, ltb}
+use lib.Dec.{eqb}
 use Rattle.carriers.specs.Carriers.{slotOf}
 use Rattle.layout.specs.Combination.{nextSuccessor}
-use Rattle.layout.specs.Nesting.{Nested}
 use Rattle.layout.specs.Tables.{parentAt, roleAt}
 use Rattle.layout.specs.declared.Tables.{Tables}
 use Rattle.meaning.proofs.Counting.{none-below, some-below}
-use Rattle.meaning.proofs.Links.{split}
 use Rattle.meaning.proofs.Rules.{order}
 use Rattle.meaning.specs.Intervals.{Constraint}
 use Rattle.policy.specs.Terms.{conjunctsAt}
 use Rattle.retest.proofs.Masks.{agrees-left, agrees-right}
-use Rattle.retest.specs.Memory.{Below, Sure, TellsAll, TellsRow, TellsStill, Testable}
+use Rattle.retest.specs.Memory.{Below, Sure, TellsAll, TellsRow, TellsStill}
 use Rattle.subsumption.proofs.Successors.{next-least, next-parent, next-passes}
-use Rattle.subsumption.specs.Tests.{Individual}
 use Rattle.retest.specs.Reasons.{Agrees, Choice, hasStill, isStill}
 use Rattle.subsumption.specs.Tests.{holdsAt}
 use Rattle.retest.specs.declared.Reason.{Reason}

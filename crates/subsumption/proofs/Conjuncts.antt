@@ -14,7 +14,7 @@ use Rattle.meaning.specs.Intervals.{Constraint}
 use Rattle.meaning.specs.Policy.{Chain, childOf, end, hiOf, kindOf, loOf, nameOf, nextOf}
 use Rattle.meaning.specs.Records.{falling, lastOf}
 use Rattle.policy.specs.Terms.{conjunctOf, conjunctsAt}
-use Rattle.subsumption.specs.Tests.{Individual, Testable, hasPiece, hasSuccessor, hasWhole, holdsAt, holdsWhole}
+use Rattle.subsumption.specs.Tests.{Individual, Testable, hasSuccessor, hasWhole, holdsAt, holdsWhole}
 use Rattle.words.specs.Sets.{inSet}
 
 -- ---- the first conjunct and the rest

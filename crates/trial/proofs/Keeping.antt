@@ -1,18 +1,18 @@
 -- What is kept while the combinations are tried stays right where pieces alone change, and an empty table says nothing wrong.
-use Prim.Native.Nat.{_*_, _+_, _/_, _<_, _≤_, pred, suc, zero, ℕ}
-use mathlib.Core.Bool.{Bool, _&&_, false}
+use Prim.Native.Nat.{_+_, _<_, _≤_, pred, suc, zero, ℕ}
+use mathlib.Core.Bool.{Bool, _&&_}
 use mathlib.Core.List.{List}
 use mathlib.Core.Logic.{⊎-elim}
-use mathlib.Core.Path.{_∙_, _≡_, ap, ap₂, refl, subst, sym}
+use mathlib.Core.Path.{_∙_, _≡_, ap, ap₂, refl, sym}
 use native.Mathlib.Omega.{arith}
 use lib.Dec.{eqb}
-use lib.ListN.{List·getD-eq-default, getD, getD-replicate, length, length-replicate, replicate}
+use lib.ListN.{List·getD-eq-default, getD, getD-replicate, length-replicate, replicate}
 use Rattle.carriers.specs.Carriers.{Listed, slotOf}
 use Rattle.frames.proofs.Frames.{row-same}
 use Rattle.frames.specs.Frames.{Only}
 use Rattle.layout.proofs.Nesting.{holder-kept, parent-kept}
 use Rattle.layout.specs.Places.{individualPlace}
-use Rattle.layout.specs.Tables.{Pieces, constraintAt, holderAt, parentAt, roleAt, setAt}
+use Rattle.layout.specs.Tables.{Pieces, constraintAt, roleAt, setAt}
 use Rattle.layout.specs.declared.Tables.{Tables}
 use Rattle.meaning.proofs.Rules.{order}
 use Rattle.meaning.specs.Intervals.{Constraint}
@@ -25,7 +25,7 @@ use Rattle.splitting.proofs.Storing.{constraint-kept}
 use Rattle.retest.specs.Memory.{State, Sure, memoryPlace}
 use Rattle.subsumption.specs.Tests.{Individual}
 use Rattle.retest.specs.Reasons.{Choice, hasStill, isStill}
-use Rattle.subsumption.specs.Tests.{hasPiece, hasSuccessor, hasWhole, holdsAt, isPassing, isPieceInside}
+use Rattle.subsumption.specs.Tests.{hasPiece, hasSuccessor, holdsAt, isPassing, isPieceInside}
 use Rattle.trial.specs.Trials.{Blank, Known, Remembers}
 use Rattle.words.specs.Rows.{classWords}
 
@@ -102,6 +102,15 @@ module _ {w w′ : List ℕ} (t : Tables) (k : Only (Pieces (t .constraints)) w 
 -- ---- tables of zeros
 
 module _ (l : List ℕ) (z : Blank l) where
+  pub none-listed : (w : List ℕ) (n : ℕ) → Listed l w n
+  none-listed w n = record {
+    few = λ x h. omega (arith, z x);
+    child = λ x h a. absurd (a (z _));
+    first = λ j h a. absurd (a (z _));
+    sibling = λ j h a. absurd (a (z _));
+    next = λ i j h b a. absurd (a (z _));
+  }
+
   pub none-sure : (q c w : List ℕ) (t : Tables) → Sure q c w t l
   none-sure q c w t = record { known = λ k slot h i. absurd (omega (arith, i .some, z (memoryPlace k slot))) }
 

@@ -1,7 +1,7 @@
 -- Before the search: the dials, the constraints whole, and the first combination.
 use Prim.Native.Nat.{_+_, _<_, _≤_, suc, zero, ℕ}
 use mathlib.Core.Bool.{Bool, true}
-use mathlib.Core.List.{List, map}
+use mathlib.Core.List.{List, [], map}
 use mathlib.Core.Path.{_∙_, _≡_, refl, subst, sym}
 use native.Mathlib.Omega.{arith}
 use lib.ListN.{getD, length, take}
@@ -24,7 +24,7 @@ use Rattle.splitting.proofs.Callers.{constraints-at, constraints-kept, splittab
 use Rattle.splitting.proofs.Storing.{constraint-kept}
 use Rattle.splitting.specs.Constraints.{Full, Started, firstConstraints}
 use Rattle.subsumption.specs.Tests.{holdsWhole}
-use Rattle.trial.proofs.Keeping.{none-sure, none-terms}
+use Rattle.trial.proofs.Keeping.{none-listed, none-sure, none-terms}
 use Rattle.trial.proofs.Trying.{passes-held}
 use Rattle.trial.specs.Trials.{Blank, Formed, Positive, Remembers, Searchable, Triable, Tried, Turnable}
 
@@ -92,6 +92,9 @@ module _ {q e dials w : List ℕ} {t : Tables} (r : Turnable q e dials w t) wher
 -- ---- what is kept while they are tried
 
 module _ {q e dials counts earlier w : List ℕ} {t : Tables} (r : Searchable q e dials counts earlier w t) where
+  pub few-remember : Remembers q [] w t [] []
+  few-remember = record { listed = none-listed [] (λ i. refl) w (t .individuals); sure = none-sure [] (λ i. refl) q [] w t; terms = none-terms [] (λ i. refl) q }
+
   pub searchable-listable : Listable dials w t
   searchable-listable = record {
     standing = r .turnable .triable .standing;

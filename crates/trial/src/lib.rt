@@ -1,8 +1,8 @@
 // A term against the other policy: its constraints whole, else its combinations, of which those are skipped that are known to pass.
 //
-// Three tables are kept beside the work slice while the combinations are tried: the individuals with a dial at or
-// below (crate carriers), what the structural test remembers (crate retest), and who took the last combination whose number ended
-// alike. They take 46 KB of stack, and 15 KB for a policy of at most 119 records.
+// While more than two combinations are tried, three tables are kept beside the work slice: the individuals with a dial at or below (crate
+// carriers), what the structural test remembers (crate retest), and who took the last combination whose number ended alike. They take
+// 46 KB of stack, and 15 KB for a policy of at most 119 records.
 use carriers::CARRIERS;
 use carriers::list_carriers;
 use layout::Tables;
@@ -285,6 +285,54 @@ fn search_long(
     )
 }
 
+// With nothing remembered: so few combinations are looked at sooner than tables are cleared.
+fn search_few(
+    q: &[u32],
+    work: &mut [u32],
+    ends: &[u64],
+    t: Tables,
+    dials: &[u32],
+    counts: &[u32],
+    earlier: &mut [u32],
+) -> u32
+    requires { ⌜ Searchable (now q) (now ends) (now dials) (now counts) (now earlier) (now work) t ⌝ }
+    ensures { λ r. ⌜ Tried (policyOf (now (q .entry))) (now (work .entry)) (now (work .exit)) t r ⌝ }
+{
+    let carriers = [0; 1];
+    let mut memory = [0; 1];
+    let mut takers = [0; 1];
+    search(
+        q,
+        work,
+        ends,
+        t,
+        dials,
+        counts,
+        earlier,
+        &carriers[..0],
+        &mut memory[..0],
+        &mut takers[..0],
+        1,
+    )
+}
+
+// How many combinations are few.
+const FEW: u32 = 2;
+
+fn are_few(counts: &[u32]) -> bool
+    requires { ⌜ Positive (now counts) ⌝ }
+{
+    let mut all: u32 = 1;
+    for d in 0..counts.len() {
+        let more = counts[d];
+        if FEW / all < more {
+            return false;
+        }
+        all = all * more;
+    }
+    true
+}
+
 // The combinations, from the first on; counts and earlier have a word for each dial.
 fn try_pieces(
     q: &[u32],
@@ -301,6 +349,9 @@ fn try_pieces(
 {
     start(work, t.constraints);
     count_pieces(ends, work, t.constraints, dials, counts);
+    if are_few(counts) {
+        return search_few(q, work, ends, t, dials, counts, earlier);
+    }
     if q.len() <= SHORT {
         return search_short(q, work, ends, t, dials, counts, earlier);
     }

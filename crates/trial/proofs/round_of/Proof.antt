@@ -1,7 +1,6 @@
 -- `round_of`: the product of the dials behind d fits.
 use borrow.Author.Needs.{needs}
 use Prim.Native.Nat.{_-_, _≤_}
-use mathlib.Core.Path.{_≡_}
 use lib.ListN.{length}
 use native.Mathlib.Omega.{arith}
 use Rattle.trial.proofs.Rounds.{Within, within-on}
