@@ -38,6 +38,9 @@ pub struct Taken {
 
 const NONE: Taken = Taken { term: 0, dials: 0 };
 
+// The individual that is asked of.
+const FIRST: u32 = 1;
+
 // Term k of q, where it takes the combination that the tables hold; term 0 takes none.
 fn taken_by(
     q: &[u32],
@@ -64,7 +67,7 @@ fn taken_by(
         t,
         MOST_DEPTH,
         child_of(q, k),
-        1,
+        FIRST,
     );
     if one.holds {
         return Taken {
@@ -365,7 +368,7 @@ fn is_taken_whole(q: &[u32], work: &[u32], t: Tables) -> bool
 {
     let mut term = first_term(q);
     while term != 0 {
-        if subsumption::test(q, work, t, MOST_DEPTH, child_of(q, term), 1) {
+        if subsumption::test(q, work, t, MOST_DEPTH, child_of(q, term), FIRST) {
             return true;
         }
         term = next_of(q, term);
