@@ -166,19 +166,24 @@ fn steps(rng: &mut Rng, stretches: u32, borders: u32, idle: u32, equal: usize) -
     case(&vec![vec![within(1, 0, most), within(2, 0, end - 1)]; equal], &second)
 }
 
+/// Two terms for each stretch of an inner dial, one for each piece of another dial, in any order.
+fn swept(rng: &mut Rng, outer: u32, stretches: u32) -> Vec<Term> {
+    let mut terms: Vec<Term> = Vec::new();
+    for k in 0..stretches {
+        for value in 0..2 {
+            let stretch = within(64, 10 * k, 10 * k + 9);
+            terms.push(vec![stretch, within(1 + k % outer, value, value)]);
+        }
+    }
+    rng.shuffle(&mut terms);
+    terms
+}
+
 /// Dials of two pieces, and an inner one of many: each of its stretches is taken by one of two terms, by another dial.
 fn sweeps(rng: &mut Rng, outer: u32, stretches: u32, equal: usize) -> Case {
     let mut first = dials(outer);
     first.push(within(64, 0, 10 * stretches - 1));
-    let mut second: Vec<Term> = Vec::new();
-    for k in 0..stretches {
-        for value in 0..2 {
-            let stretch = within(64, 10 * k, 10 * k + 9);
-            second.push(vec![stretch, within(1 + k % outer, value, value)]);
-        }
-    }
-    rng.shuffle(&mut second);
-    case(&vec![first; equal], &second)
+    case(&vec![first; equal], &swept(rng, outer, stretches))
 }
 
 /// Sweeps, behind a term that tries each of its roles on many individuals before it fails by the inner dial.
@@ -189,20 +194,13 @@ fn behind(rng: &mut Rng) -> Case {
     first.push(within(64, 0, 10 * stretches - 1));
     let mut slow = vec![reaches(3, vec![within(40, 240, 250)]); 100];
     slow.push(within(64, 10 * stretches, 10 * stretches));
-    let mut second: Vec<Term> = Vec::new();
-    for k in 0..stretches {
-        for value in 0..2 {
-            let stretch = within(64, 10 * k, 10 * k + 9);
-            second.push(vec![stretch, within(1 + k % outer, value, value)]);
-        }
-    }
-    rng.shuffle(&mut second);
+    let mut second = swept(rng, outer, stretches);
     second.insert(0, slow);
     case(&[first], &second)
 }
 
 /// Sweeps over dials at successors, behind a term that tries each of its roles on all of them before it fails by the inner dial.
-fn opens(rng: &mut Rng, stretches: u32, tries: usize, copies: usize) -> Case {
+fn opens(rng: &mut Rng, stretches: u32, tries: usize, equal: usize) -> Case {
     let arms = 10;
     let mut first: Term = (1..=arms).map(|k| reaches(3, vec![within(k, 0, 1)])).collect();
     first.push(reaches(4, vec![within(64, 0, 10 * stretches - 1)]));
@@ -217,7 +215,7 @@ fn opens(rng: &mut Rng, stretches: u32, tries: usize, copies: usize) -> Case {
     }
     rng.shuffle(&mut second);
     second.insert(0, slow);
-    case(&vec![first; copies], &second)
+    case(&vec![first; equal], &second)
 }
 
 /// A grid of boxes over two dials of many pieces.
