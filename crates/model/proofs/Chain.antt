@@ -48,7 +48,7 @@ readable v m a h =
     let n = accepted-counts v a in
     let u = simp (passed 30, passed 31, tests) at h in record {
       individuals = u .1 .0 .1 .0;
-      facts = read-along (factLinks m) 32 (soundFact v m) (stated v m (n .0 .1)) (length m) (firstFact m)
+      facts = read-along (factAt m) 32 (soundFact v m) (stated v m (n .0 .1)) (length m) (firstFact m)
           (u .1 .0 .0, omega (arith, falling-le (lastOf 5 m) (firstFact m))) (u .1 .1);
     }
 
@@ -62,6 +62,7 @@ module _ {T : List Fact → Type 0} {m : List ℕ} {k : ℕ} where
 
   module _ (s : Scanning T m k) where
     pub scanning-ends : k ≡ 0 → T []
+    unfolding factLinks
     scanning-ends z = walking-ends (s .walk) z
 
     module _ (n : k ≡ 0 → ⊥) where

@@ -6,7 +6,7 @@ use lib.ListN.{length}
 use Rattle.meaning.specs.Limits.{mostClasses, mostIndividuals}
 use Rattle.meaning.specs.Model.{Fact, factAt, factKind, factName, factNext, factOther, factOwner, factsOf, factsRefusal, firstFact, individualCount}
 use Rattle.meaning.specs.Records.{Name, lastOf}
-use Rattle.records.specs.Chains.{Along, Links}
+use Rattle.records.specs.Chains.{Along, Links, listed}
 
 -- 33, or 0, of the records along the chain
 abbrev pub chainRefusal : List ℕ → List ℕ → ℕ
@@ -19,8 +19,8 @@ pub record Stated (m : List ℕ) (k : ℕ) : Type 0 where
   pub class : factKind m k ≡ 1 → Name mostClasses (factName m k)
   pub target : factKind m k ≡ 2 → Name (individualCount m) (factOther m k)
 
-unfoldable pub factLinks : List ℕ → Links Fact
-factLinks m = record { last = lastOf 5 m; next = factNext m; item = factAt m; Sound = Stated m }
+unfoldable pub factLinks : List ℕ → Links (List Fact)
+factLinks m = listed (lastOf 5 m) (factNext m) (factAt m) (Stated m)
 
 -- the facts of the model stand along its chain
 pub record Readable (m : List ℕ) : Type 0 where

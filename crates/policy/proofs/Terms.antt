@@ -53,6 +53,7 @@ module _ {T : ℕ → Policy → Type 0} {v p : List ℕ} where
 
   module _ {s k : ℕ} (t : Asking T v p s k) where
     pub asking-ends : k ≡ 0 → T s []
+    unfolding termLinks
     asking-ends z = walking-ends (t .walk) z .1
 
     module _ (n : k ≡ 0 → ⊥) where
@@ -61,6 +62,7 @@ module _ {T : ℕ → Policy → Type 0} {v p : List ℕ} where
       asking-term = walking-sound (t .walk) n
 
       pub asking-room : s + 1 ≤ suc mostRecords
+      unfolding termLinks
       asking-room = walking-found (t .walk) n (λ l h. let r = h .0 in omega arith)
 
       -- what this one settles, whatever follows

@@ -174,6 +174,7 @@ module _ {F : List Fact} {v : List ℕ} {k : ℕ} where
 
   module _ (x : Obeying F v k) where
     pub obeying-ends : k ≡ 0 → true ≡ isModel F (vocabularyOf v)
+    unfolding axiomLinks
     obeying-ends z = sym (walking-ends (x .walk) z)
 
     module _ (n : k ≡ 0 → ⊥) where

@@ -41,6 +41,7 @@ collecting-starts {q} s h =
 
 module _ {q e₀ e : List ℕ} {n k : ℕ} (s : Collecting q e₀ e n k) where
   pub collecting-ends : ((i : ℕ) → getD q i 0 < valueCount) → k ≡ 0 → Collected (policyOf q) e₀ e n
+  unfolding termLinks
   collecting-ends w z =
       let t = walking-ends (s .walk) z in
       record {

@@ -11,16 +11,16 @@ use Rattle.meaning.specs.Lists.{flatMap}
 use Rattle.meaning.specs.Records.{falling, lastOf}
 use Rattle.meaning.specs.Vocabulary.{Axiom, axiomAt, axiomFits, axiomNext, axiomsOf, firstAxiom, soundAxiom, vocabularyOf, vocabularyRefusal}
 use Rattle.records.proofs.Chains.{Walking, read-along, walking-ends, walking-falls, walking-on, walking-sound, walking-starts}
-use Rattle.records.specs.Chains.{Along, Links}
+use Rattle.records.specs.Chains.{Along, Links, listed}
 
-unfoldable pub axiomLinks : List ℕ → Links Axiom
-axiomLinks v = record { last = lastOf 4 v; next = axiomNext v; item = axiomAt v; Sound = λ k. axiomFits v k ≡ true }
+unfoldable pub axiomLinks : List ℕ → Links (List Axiom)
+axiomLinks v = listed (lastOf 4 v) (axiomNext v) (axiomAt v) (λ k. axiomFits v k ≡ true)
 
 pub axioms-along : (v : List ℕ) → vocabularyRefusal v ≡ 0 → Along (axiomLinks v) (firstAxiom v) (vocabularyOf v .axioms)
 unfolding vocabularyRefusal vocabularyOf axiomsOf axiomLinks
 axioms-along v h =
     let u = simp (passed 0, passed 1, tests) at h in
-    read-along (axiomLinks v) 2 (soundAxiom v) (λ k s. simp tests at s) (length v) (firstAxiom v)
+    read-along (axiomAt v) 2 (soundAxiom v) (λ k s. simp tests at s) (length v) (firstAxiom v)
     (u .1 .0 .1 .1 .1, omega (arith, falling-le (lastOf 4 v) (firstAxiom v))) (u .1 .1)
 
 -- a loop that does one step for each record: the steps that are left lead where all of them do
@@ -33,6 +33,7 @@ module _ {S : Type 0} {v : List ℕ} {step : S → Axiom → S} {s₀ : S} {k : 
 
   module _ {s : S} (w : Folding v step s₀ k s) where
     pub folding-ends : k ≡ 0 → s ≡ foldl step s₀ (vocabularyOf v .axioms)
+    unfolding axiomLinks
     folding-ends z = walking-ends (w .walk) z
 
     module _ (n : k ≡ 0 → ⊥) where
