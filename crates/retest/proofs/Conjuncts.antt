@@ -1,4 +1,4 @@
--- Laws of the conjuncts from a record on: the first and the rest, one by its kind, and what is told of them.
+-- Laws of the conjuncts from a record on: one after another, one by its kind, and what is told of them.
 use Prim.Native.Nat.{_-_, _<_, _≤_, pred, ℕ}
 use mathlib.Core.Bool.{Bool, _&&_, _||_, and-true, cond, false, not, true}
 use mathlib.Core.List.{List, [], _∷_}
@@ -10,93 +10,79 @@ use lib.Dec.{eqb}
 use Rattle.carriers.specs.Carriers.{slotOf}
 use Rattle.layout.specs.Tables.{setAt}
 use Rattle.layout.specs.declared.Tables.{Tables}
-use Rattle.meaning.proofs.Links.{falls}
-use Rattle.meaning.proofs.Terms.{chain-at}
-use Rattle.meaning.specs.Accepted.{Reads, reads-end}
+use Rattle.meaning.specs.Accepted.{depth}
 use Rattle.meaning.specs.Intervals.{Constraint}
 use Rattle.meaning.specs.Limits.{mostRecords}
 use Rattle.meaning.specs.Lists.{any, counting}
-use Rattle.meaning.specs.Policy.{childOf, end, kindOf, nameOf, nextOf}
-use Rattle.meaning.specs.Records.{falling, lastOf}
+use Rattle.meaning.specs.Policy.{Chain, childOf, kindOf, nameOf, nextOf}
+use Rattle.policy.proofs.Conjuncts.{Going, child-level, depth-first, going-conjunct, going-ends, going-found, going-on, going-starts}
 use Rattle.policy.specs.Terms.{conjunctOf, conjunctsAt}
 use Rattle.retest.proofs.Masks.{agrees-left, agrees-right}
 use Rattle.retest.proofs.Memory.{recall-sure, settled-known, sure-remembered, tells-always}
-use Rattle.retest.specs.Memory.{Below, Pending, Sure, TellsAll, TellsCarried, TellsOne, TellsStill, Testable, recalled, remembered}
-use Rattle.subsumption.proofs.Conjuncts.{Cut, cut}
-use Rattle.subsumption.specs.Tests.{Individual}
+use Rattle.retest.specs.Memory.{Asked, Below, Pending, Sure, TellsAll, TellsCarried, TellsOne, TellsStill, Testable, recalled, remembered}
 use Rattle.retest.specs.Reasons.{Agrees, Choice, hasCarried, hasStill, isCarried, isStill}
-use Rattle.subsumption.specs.Tests.{hasSuccessor, holdsAt, isPassing}
 use Rattle.retest.specs.declared.Reason.{Reason}
+use Rattle.subsumption.proofs.Conjuncts.{holds-first}
+use Rattle.subsumption.specs.Tests.{Individual, hasSuccessor, holdsAt, isPassing}
 use Rattle.words.specs.Sets.{inSet}
-
--- ---- the first conjunct and the rest
-
-module _ {q dials c w : List ℕ} {t : Tables} {s : List ℕ} {left k : ℕ} (g : Testable q dials c w t s left k) (z : k ≡ 0 → ⊥) where
-  cut-here : Cut q left k (conjunctsAt q k)
-  cut-here = cut z (g .reads) (g .shallow)
-
-  rest : {s′ : List ℕ} → Sure q c w t s′ → Testable q dials c w t s′ left (nextOf q k)
-  rest m = record { testing = g .testing; listed = g .listed; sure = m; reads = cut-here .next; shallow = cut-here .shallow }
-
-  -- the child chain, of a role
-  below : {s′ : List ℕ} → kindOf q k ≡ 3 → Sure q c w t s′ → Testable q dials c w t s′ (left - 1) (childOf q k)
-  below i m = record { testing = g .testing; listed = g .listed; sure = m; reads = cut-here .child i; shallow = cut-here .below i }
 
 -- ---- one after another
 
--- the test of individual x has come from record first to record k, and what has passed relies on the dials of the mask: what is told of the
--- conjuncts from there on is told of all
-pub record Going (q dials c w : List ℕ) (t : Tables) (s : List ℕ) (left first x mask k : ℕ) : Type 0 where
-  pub testable : Testable q dials c w t s left k
-  pub individual : Individual t x
-  pub fails : (v : ℕ → Constraint) → holdsAt v w t (conjunctsAt q k) x ≡ false → holdsAt v w t (conjunctsAt q first) x ≡ false
-  pub passes : (v : ℕ → Constraint) → Choice v w (t .constraints) → Agrees dials w mask v → holdsAt v w t (conjunctsAt q k) x ≡ true →
+-- what has passed relies on the dials of the mask: what is told of the conjuncts that are left is told of those from record first on
+pub record Rest (q dials w : List ℕ) (t : Tables) (left first x mask : ℕ) (l : Chain) : Type 0 where
+  pub shallow : depth l ≤ left
+  pub fails : (v : ℕ → Constraint) → holdsAt v w t l x ≡ false → holdsAt v w t (conjunctsAt q first) x ≡ false
+  pub passes : (v : ℕ → Constraint) → Choice v w (t .constraints) → Agrees dials w mask v → holdsAt v w t l x ≡ true →
       holdsAt v w t (conjunctsAt q first) x ≡ true
 
-pub test-starts : {q dials c w : List ℕ} {t : Tables} {s : List ℕ} {left k x : ℕ} → Testable q dials c w t s left k → Individual t x → Going q dials c w t s left k x 0 k
-test-starts g i = record { testable = g; individual = i; fails = λ v f. f; passes = λ v c a h. h }
+pub test-starts : {q dials c w : List ℕ} {t : Tables} {s : List ℕ} {left k x : ℕ} → Testable q dials c w t s left k → Going (Rest q dials w t left k x 0) q k
+test-starts g = going-starts (g .reads) (record { shallow = g .shallow; fails = λ v f. f; passes = λ v c a h. h })
 
-module _ {q dials c w : List ℕ} {t : Tables} {s : List ℕ} {left first x mask k : ℕ} (g : Going q dials c w t s left first x mask k) where
-  pub test-ends : {r : Reason} → r .holds ≡ true → r .dials ≡ mask → k ≡ 0 → TellsAll q dials c w t first x s r
-  test-ends y e z =
-      let r : Reads q k end = reads-end z in
-      record { tells = record { same = λ v a d. g .passes v a (rw e at d) (rw (chain-at r)) ∙ sym y }; sure = g .testable .sure }
+module _ {q dials w : List ℕ} {t : Tables} {left first x mask k : ℕ} (g : Going (Rest q dials w t left first x mask) q k) where
+  pub test-ends : {c s : List ℕ} {r : Reason} → Sure q c w t s → r .holds ≡ true → r .dials ≡ mask → k ≡ 0 → TellsAll q dials c w t first x s r
+  test-ends m y e z = record { tells = record { same = λ v a d. going-ends g z .passes v a (rw e at d) refl ∙ sym y }; sure = m }
 
   module _ (z : k ≡ 0 → ⊥) where
-    pub test-falls : {y : ℕ} → y ≡ nextOf q k → falling (lastOf 6 q) y < falling (lastOf 6 q) k
-    test-falls e = let h = cut-here (g .testable) z .here in rw e (falls (lastOf 6 q) k (nextOf q k) (h .inside) (h .next))
+    pub test-asked : {c s s′ : List ℕ} {i : ℕ} → Testable q dials c w t s left i → Sure q c w t s′ → Individual t x → Asked q dials c w t s′ left k x
+    test-asked h m i = record {
+      testing = h .testing;
+      listed = h .listed;
+      sure = m;
+      conjunct = going-conjunct g z;
+      shallow = going-found g z (λ l r. depth-first q k left _ l (r .shallow) .0);
+      individual = i;
+    }
 
     -- what is told of record k's
-    module _ {s′ : List ℕ} {one : Reason} (f : TellsOne q dials c w t k x s′ one) where
+    module _ {c s′ : List ℕ} {one : Reason} (f : TellsOne q dials c w t k x s′ one) where
       pub test-fails : not (one .holds) ≡ true → TellsAll q dials c w t first x s′ one
       test-fails h = record {
         tells = record {
           same = λ v a d.
               let no = f .tells .same v a d ∙ not-true (one .holds) h in
-              g .fails v (cut-here (g .testable) z .step v w t x ∙ rw no) ∙ sym (not-true (one .holds) h);
+              going-found g z (λ l r. r .fails v (holds-first v w t x q k _ l ∙ rw no)) ∙ sym (not-true (one .holds) h);
         };
         sure = f .sure;
       }
 
-      pub test-on : {y : ℕ} → not (one .holds) ≡ false → y ≡ nextOf q k → Going q dials c w t s′ left first x (bitOr mask (one .dials)) y
-      test-on {y} h ey = record {
-        testable = rw ey (rest (g .testable) z (f .sure));
-        individual = g .individual;
-        fails = λ v later. g .fails v (cut-here (g .testable) z .step v w t x ∙ no v (holdsAt v w t (conjunctOf q k) x) (ap (λ (j : ℕ). holdsAt v w t (conjunctsAt q j) x) (sym ey) ∙ later));
-        passes = λ v a d later. g .passes v a (agrees-left mask (one .dials) d) (cut-here (g .testable) z .step v w t x
-            ∙ rw (f .tells .same v a (agrees-right mask (one .dials) d), not-false (one .holds) h) (ap (λ (j : ℕ). holdsAt v w t (conjunctsAt q j) x) (sym ey) ∙ later));
-      }
+      pub test-on : {y : ℕ} → not (one .holds) ≡ false → y ≡ nextOf q k → Going (Rest q dials w t left first x (bitOr mask (one .dials))) q y
+      test-on h ey = going-on g z ey (λ l r. record {
+        shallow = depth-first q k left _ l (r .shallow) .1;
+        fails = λ v later. r .fails v (holds-first v w t x q k _ l ∙ no (holdsAt v w t (conjunctOf q k) x) (holdsAt v w t l x) later);
+        passes = λ v a d later. r .passes v a (agrees-left mask (one .dials) d)
+            (holds-first v w t x q k _ l ∙ rw (f .tells .same v a (agrees-right mask (one .dials) d), not-false (one .holds) h) later);
+      })
         where
-          no : (v : ℕ → Constraint) (b : Bool) → holdsAt v w t (conjunctsAt q (nextOf q k)) x ≡ false → b && holdsAt v w t (conjunctsAt q (nextOf q k)) x ≡ false
-          no v true e = e
-          no v false e = refl
+          no : (a b : Bool) → b ≡ false → a && b ≡ false
+          no true b e = e
+          no false b e = refl
 
 -- ---- a class, and the impossible concept
 
 pub kind-other : (q : List ℕ) (k : ℕ) {kind n : ℕ} → kind ≡ kindOf q k → (kind ≡ n → ⊥) → kindOf q k ≡ n → ⊥
 kind-other q k e f h = f (e ∙ h)
 
-module _ {q dials c w : List ℕ} {t : Tables} {s : List ℕ} {left k x : ℕ} (g : Testable q dials c w t s left k) {kind : ℕ} (ek : kind ≡ kindOf q k) where
+module _ {q dials c w : List ℕ} {t : Tables} {s : List ℕ} {left k x : ℕ} (g : Asked q dials c w t s left k x) {kind : ℕ} (ek : kind ≡ kindOf q k) where
   pub class-told : {r : Reason} {a i : ℕ} → a ≡ nameOf q k → kind ≡ 1 → i ≡ x - 1 → r .holds ≡ inSet (setAt w i) a → TellsOne q dials c w t k x s r
   class-told {r} {a} {i} ea h er f =
       let j : i ≡ pred x = omega arith in
@@ -127,8 +113,11 @@ module _ {q dials c w : List ℕ} {t : Tables} {s : List ℕ} {left k x slot sta
     {r y : ℕ} (er : r ≡ nameOf q k) (ey : y ≡ childOf q k) where
   -- the child chain is held to the individual's successors
   pub role-below : {s′ : List ℕ} → Sure q c w t s′ → Below q dials c w t s′ left y x
-  role-below m =
-      record { level = cut-here (g .testable) (g .some) .level own; testable = rw ey (below (g .testable) (g .some) own m); individual = g .individual }
+  role-below m = let a = g .asked in let d = child-level q k own (a .shallow) in record {
+    level = d .0;
+    testable = rw ey (record { testing = a .testing; listed = a .listed; sure = m; reads = a .conjunct .child own; shallow = d .1 });
+    individual = a .individual;
+  }
 
   abbrev still : (ℕ → Constraint) → Bool
   still v = hasStill c w (t .individuals) x r (holdsAt v w t (conjunctsAt q y))
@@ -188,21 +177,21 @@ pub settled-small : {n : ℕ} (b : Bool) → n ≡ cond b 1 2 → n < 4
 settled-small true e = omega arith
 settled-small false e = omega arith
 
-pub individual-few : {q dials c w : List ℕ} {t : Tables} {s : List ℕ} {left k x : ℕ} → Testable q dials c w t s left k → Individual t x → x ≤ mostRecords
-individual-few g i = omega (arith, i .within, g .testing .standing .individuals)
+pub individual-few : {q dials c w : List ℕ} {t : Tables} {s : List ℕ} {left k x : ℕ} → Asked q dials c w t s left k x → x ≤ mostRecords
+individual-few g = omega (arith, g .individual .within, g .testing .standing .individuals)
 
-module _ {q dials c w : List ℕ} {t : Tables} {s : List ℕ} {left k x slot state : ℕ} (g : Testable q dials c w t s left k) (i : Individual t x) (es : slot ≡ slotOf c x) (ek : state ≡ recalled s k slot x) where
+module _ {q dials c w : List ℕ} {t : Tables} {s : List ℕ} {left k x slot state : ℕ} (g : Asked q dials c w t s left k x) (es : slot ≡ slotOf c x) (ek : state ≡ recalled s k slot x) where
   few : slot ≤ 16
-  few = omega (arith, g .listed .few x (i .within))
+  few = omega (arith, g .listed .few x (g .individual .within))
 
   pub recalled-passes : {r : Reason} → state ≡ 1 → r .holds ≡ true → TellsOne q dials c w t k x s r
-  recalled-passes e y = record { tells = record { same = λ v a d. recall-sure (g .sure) k slot few i ek .passes e v a ∙ sym y }; sure = g .sure }
+  recalled-passes e y = record { tells = record { same = λ v a d. recall-sure (g .sure) k slot few (g .individual) ek .passes e v a ∙ sym y }; sure = g .sure }
 
   pub recalled-fails : {r : Reason} → state ≡ 2 → r .holds ≡ false → TellsOne q dials c w t k x s r
-  recalled-fails e z = record { tells = record { same = λ v a d. recall-sure (g .sure) k slot few i ek .fails e v a ∙ sym z }; sure = g .sure }
+  recalled-fails e z = record { tells = record { same = λ v a d. recall-sure (g .sure) k slot few (g .individual) ek .fails e v a ∙ sym z }; sure = g .sure }
 
-  pub recalled-pending : (k ≡ 0 → ⊥) → (kindOf q k ≡ 1 → ⊥) → (kindOf q k ≡ 2 → ⊥) → Pending q dials c w t s left k x slot state
-  recalled-pending z a b = record { testable = g; individual = i; some = z; other = (a, b); slotted = few; known = recall-sure (g .sure) k slot few i ek }
+  pub recalled-pending : (kindOf q k ≡ 1 → ⊥) → (kindOf q k ≡ 2 → ⊥) → Pending q dials c w t s left k x slot state
+  recalled-pending a b = record { asked = g; other = (a, b); slotted = few; known = recall-sure (g .sure) k slot few (g .individual) ek }
 
   pub recalled-noted : {s₁ s₂ : List ℕ} {one : Reason} {code : ℕ} → TellsOne q dials c w t k x s₁ one → one .dials ≡ 0 → code ≡ cond (one .holds) 1 2 →
       s₂ ≡ remembered s₁ k slot x code → TellsOne q dials c w t k x s₂ one

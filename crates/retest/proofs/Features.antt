@@ -54,17 +54,17 @@ module _ {q dials c w : List ℕ} {t : Tables} {s : List ℕ} {left k x slot sta
     pub feature-whole : {r : Reason} → now ≡ 1 → r .holds ≡ true → TellsOne q dials c w t k x s r
     feature-whole e y = record {
       tells = record { same = λ v a d. sym (conjunct v) ∙ whole-always w (t .constraints) x f lo hi (h .passes e) v a ∙ sym y };
-      sure = g .testable .sure;
+      sure = g .asked .sure;
     }
 
     pub feature-fails : {r : Reason} → now ≡ 2 → r .holds ≡ false → TellsOne q dials c w t k x s r
     feature-fails e z = record {
       tells = record { same = λ v a d. sym (conjunct v) ∙ none-passes v w (t .constraints) x f lo hi a (h .fails e) ∙ sym z };
-      sure = g .testable .sure;
+      sure = g .asked .sure;
     }
 
     pub feature-noted : {s′ : List ℕ} → (now ≡ 1 → ⊥) → s′ ≡ remembered s k slot x 3 → Sure q c w t s′
-    feature-noted n e = sure-remembered (g .testable .sure) k slot (g .slotted) (omega arith) (record {
+    feature-noted n e = sure-remembered (g .asked .sure) k slot (g .slotted) (omega arith) (record {
       passes = λ z. absurd (omega arith);
       fails = λ z. absurd (omega arith);
       rests = λ _. record { role = λ z. absurd (other z); feature = λ _. rw (← ef, ← el, ← eh) (h .none n) };

@@ -11,7 +11,7 @@ use Rattle.layout.specs.declared.Tables.{Tables}
 use Rattle.meaning.specs.Accepted.{Reads, depth}
 use Rattle.meaning.specs.Intervals.{Constraint}
 use Rattle.meaning.specs.Policy.{childOf, hiOf, kindOf, loOf, nameOf}
-use Rattle.policy.specs.Terms.{conjunctOf, conjunctsAt}
+use Rattle.policy.specs.Terms.{ConjunctOf, conjunctOf, conjunctsAt}
 use Rattle.retest.specs.Reasons.{Choice, Tells, Testing, hasCarried, hasStill}
 use Rattle.retest.specs.declared.Reason.{Reason}
 use Rattle.subsumption.specs.Tests.{Individual, hasWhole, holdsAt}
@@ -68,17 +68,18 @@ pub record Below (q dials c w : List ℕ) (t : Tables) (s : List ℕ) (left k x 
   pub testable : Testable q dials c w t s (left - 1) k
   pub individual : Individual t x
 
--- the tables hold a combination, and record k's conjunct is held to individual x
+-- the tables hold a combination, what is remembered is so, and record k's conjunct has no more levels than are left and is held to individual x
 pub record Asked (q dials c w : List ℕ) (t : Tables) (s : List ℕ) (left k x : ℕ) : Type 0 where
-  pub some : k ≡ 0 → ⊥
-  pub testable : Testable q dials c w t s left k
+  pub testing : Testing dials w t
+  pub listed : Listed c w (t .individuals)
+  pub sure : Sure q c w t s
+  pub conjunct : ConjunctOf q k
+  pub shallow : depth (conjunctOf q k) ≤ left
   pub individual : Individual t x
 
 -- the same, and record k is a role's or a feature's, of which and of individual x this much is known
 pub record Pending (q dials c w : List ℕ) (t : Tables) (s : List ℕ) (left k x slot state : ℕ) : Type 0 where
-  pub testable : Testable q dials c w t s left k
-  pub individual : Individual t x
-  pub some : k ≡ 0 → ⊥
+  pub asked : Asked q dials c w t s left k x
   pub other : (kindOf q k ≡ 1 → ⊥) × (kindOf q k ≡ 2 → ⊥)
   pub slotted : slot ≤ 16
   pub known : State q c w t k x state

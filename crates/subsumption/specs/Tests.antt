@@ -11,7 +11,7 @@ use Rattle.meaning.specs.Intervals.{Constraint}
 use Rattle.meaning.specs.Lists.{any, counting}
 use Rattle.meaning.specs.Policy.{Chain, class, end, impossible, interval, some}
 use Rattle.meaning.specs.Subsumption.{includes}
-use Rattle.policy.specs.Terms.{conjunctsAt}
+use Rattle.policy.specs.Terms.{ConjunctOf, conjunctOf, conjunctsAt}
 use Rattle.words.specs.Sets.{inSet}
 
 -- ---- the test
@@ -63,6 +63,13 @@ pub record Testable (q w : List ℕ) (t : Tables) (left k : ℕ) : Type 0 where
   pub nested : Nested w t
   pub reads : Reads q k (conjunctsAt q k)
   pub shallow : depth (conjunctsAt q k) ≤ left
+
+-- the tables stand, and record k's conjunct has no more levels than are left
+pub record Asked (q w : List ℕ) (t : Tables) (left k : ℕ) : Type 0 where
+  pub standing : Standing w t
+  pub nested : Nested w t
+  pub conjunct : ConjunctOf q k
+  pub shallow : depth (conjunctOf q k) ≤ left
 
 -- the first of n constraints that is of individual x or of a later one
 pub record FirstOf (w : List ℕ) (n x r : ℕ) : Type 0 where

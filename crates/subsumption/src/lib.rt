@@ -22,7 +22,7 @@ ghost use Rattle.layout.specs.Nesting.{Nested};
 ghost use Rattle.layout.specs.Tables.{HasEntry, Standing, constraintAt};
 ghost use Rattle.meaning.specs.Subsumption.{includes};
 ghost use Rattle.policy.specs.Terms.{conjunctOf, conjunctsAt};
-ghost use Rattle.subsumption.specs.Tests.{FirstOf, Individual, Testable, hasSuccessor, hasWhole, holdsWhole};
+ghost use Rattle.subsumption.specs.Tests.{Asked, FirstOf, Individual, Testable, hasSuccessor, hasWhole, holdsWhole};
 
 // The first constraint of individual x, or where it would stand: constraints go by individual, so that halving finds it.
 pub fn first_constraint(work: &[u32], t: Tables, x: u32) -> usize
@@ -95,7 +95,7 @@ fn test_successors(q: &[u32], work: &[u32], t: Tables, left: u32, k: u32, x: u32
 
 // One conjunct, record k, of individual x. Line 3: its set is closed upward, so one bit tells.
 fn test_conjunct(q: &[u32], work: &[u32], t: Tables, left: u32, k: u32, x: u32) -> bool
-    requires { ⌜ (k ≡ 0 → ⊥) × Testable (now q) (now work) t left k × Individual t x ⌝ }
+    requires { ⌜ Asked (now q) (now work) t left k × Individual t x ⌝ }
     ensures { λ b. ⌜ b ≡ holdsWhole (now (work .entry)) t (conjunctOf (now (q .entry)) k) x ⌝ }
 {
     let kind = kind_of(q, k);

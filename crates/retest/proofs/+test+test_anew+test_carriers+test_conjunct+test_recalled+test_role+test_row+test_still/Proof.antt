@@ -9,10 +9,11 @@ use native.Mathlib.Omega.{arith}
 use borrow.Fn.Kinds.{In, PK}
 use borrow.Fn.PlainCycle.{Measures, and, falls}
 use Rattle.meaning.specs.Records.{falling, lastOf}
+use Rattle.retest.specs.Memory.{Sure}
 use Rattle.retest.proofs.Carried.{Carrying, list-ends, list-falls, list-found, list-on, list-row, list-starts}
-use Rattle.retest.proofs.Conjuncts.{Going, class-told, impossible-told, individual-few, kind-other, recalled-fails, recalled-noted, recalled-passes, recalled-pending, settled-small}
+use Rattle.retest.proofs.Conjuncts.{Rest, class-told, impossible-told, individual-few, kind-other, recalled-fails, recalled-noted, recalled-passes, recalled-pending, settled-small}
 use Rattle.retest.proofs.Conjuncts.{role-below, role-carried, role-none, role-noted, role-open, role-still}
-use Rattle.retest.proofs.Conjuncts.{test-ends, test-fails, test-falls, test-on, test-starts}
+use Rattle.retest.proofs.Conjuncts.{test-asked, test-ends, test-fails, test-on, test-starts}
 use Rattle.retest.proofs.Successors.{Seeking, row-other, row-own, still-ends, still-falls, still-found, still-listed, still-on, still-row, still-starts}
 use Rattle.retest.proofs.+test+test_anew+test_carriers+test_conjunct+test_recalled+test_role+test_row+test_still.{statement}
 use Rattle.retest.proofs.+test+test_anew+test_carriers+test_conjunct+test_recalled+test_role+test_row+test_still.Tie.{close}
@@ -46,6 +47,7 @@ use Rattle.carriers.proofs.slot_of.Reads as slot-of-reads
 use Rattle.layout.proofs.has_class.Reads as has-class-reads
 use Rattle.layout.proofs.next_successor.Reads as next-successor-reads
 use Rattle.layout.proofs.role_of.Reads as role-of-reads
+use Rattle.policy.proofs.Conjuncts.{Going, going-falls}
 use Rattle.policy.proofs.child_of.Reads as child-of-reads
 use Rattle.policy.proofs.kind_of.Reads as kind-of-reads
 use Rattle.policy.proofs.name_of.Reads as name-of-reads
@@ -87,7 +89,7 @@ abbrev asked : (ps : List (PK 5)) → Measures 5 ps ℕ → In 5 ps → (ℕ →
 asked ps μ P r t = and 5 ps (falls 5 ps r μ t) P
 
 abbrev test-Inv-loop : test-lts.InvT-loop
-test-Inv-loop q work dials carriers memory₀ t left k x all₀ at₀ memory all at = (length memory ≡ length memory₀) × Going q dials carriers work t memory left k x all at
+test-Inv-loop q work dials carriers memory₀ t left k x all₀ at₀ memory all at = (length memory ≡ length memory₀) × Sure q carriers work t memory × Going (Rest q dials work t left k x all) q at
 
 abbrev test-μ-loop : test-lts.MeasureT-loop
 test-μ-loop q work dials carriers memory₀ t left k x all₀ at₀ memory all at = falling (lastOf 6 q) at
@@ -119,13 +121,13 @@ pub +test+test-anew+test-carriers+test-conjunct+test-recalled+test-role+test-row
     test.Post
     test-Inv-loop
     test-μ-loop
-    (λ c. (search needs, search test-starts))
-    (λ c κs. search needs)
+    (λ c. (search needs, search needs, search test-starts))
+    (λ c κs. search (needs, test-asked))
     (λ c. search needs)
     (λ c. search (needs, test-fails))
     (λ c κs. search needs)
-    (λ c. search test-falls)
-    (λ c. (search needs, search test-on))
+    (λ c. search going-falls)
+    (λ c. (search needs, search needs, search test-on))
     (λ c. search needs)
     (λ c. search (needs, test-ends)))
     (λ t. test-anew-lts.spec (
@@ -215,7 +217,7 @@ pub +test+test-anew+test-carriers+test-conjunct+test-recalled+test-role+test-row
     (λ c κs. search needs)
     (λ c κs. search (individual-few, settled-small))
     (λ c. search needs)
-    (λ c. let n = c .before .before .before .before .before .before .before .before .before in let d = n .before .before .before .before in let p = d .before .before .before .before .before .before .before .before .pre in recalled-noted (p .1 .0 .testable) (p .1 .0 .individual) (d .before .before .slot-of .ensures) (d .recall .ensures) (n .test-anew .ensures) (c .before .before .before .before .before .if3 .taken) (c .before .before .before .settled .ensures) (c .before .before .remember .ensures))
+    (λ c. let n = c .before .before .before .before .before .before .before .before .before in let d = n .before .before .before .before in let p = d .before .before .before .before .before .before .before .before .pre in recalled-noted (p .1 .0) (d .before .before .slot-of .ensures) (d .recall .ensures) (n .test-anew .ensures) (c .before .before .before .before .before .if3 .taken) (c .before .before .before .settled .ensures) (c .before .before .remember .ensures))
     (λ c. search needs)
     (λ c. search needs))
     (λ t. test-role-lts.spec (

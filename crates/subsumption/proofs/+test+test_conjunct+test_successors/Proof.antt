@@ -10,8 +10,8 @@ use borrow.Fn.PlainCycle.{Measures, and, falls}
 use Rattle.meaning.specs.Records.{falling, lastOf}
 use Rattle.subsumption.proofs.+test+test_conjunct+test_successors.{statement}
 use Rattle.subsumption.proofs.+test+test_conjunct+test_successors.Tie.{close}
-use Rattle.subsumption.proofs.Conjuncts.{Going, child-level, child-testable, class-told, impossible-told, interval-told, some-told}
-use Rattle.subsumption.proofs.Conjuncts.{test-ends, test-fails, test-falls, test-on, test-starts}
+use Rattle.subsumption.proofs.Conjuncts.{Rest, class-told, impossible-told, interval-told, some-level, some-testable, some-told}
+use Rattle.subsumption.proofs.Conjuncts.{test-asked, test-ends, test-fails, test-on, test-starts}
 use Rattle.subsumption.proofs.Successors.{Seeking, walk-ends, walk-falls, walk-found, walk-other, walk-past, walk-starts}
 use Rattle.subsumption.proofs.+test+test_conjunct+test_successors.Lts-test as test-lts
 use Rattle.subsumption.proofs.+test+test_conjunct+test_successors.Lts-test_conjunct as test-conjunct-lts
@@ -25,6 +25,7 @@ use Rattle.subsumption.proofs.test_successors.Reads as test-successors
 use Rattle.layout.proofs.has_class.Reads as has-class-reads
 use Rattle.layout.proofs.next_successor.Reads as next-successor-reads
 use Rattle.layout.proofs.role_of.Reads as role-of-reads
+use Rattle.policy.proofs.Conjuncts.{Going, going-falls}
 use Rattle.policy.proofs.child_of.Reads as child-of-reads
 use Rattle.policy.proofs.hi_of.Reads as hi-of-reads
 use Rattle.policy.proofs.kind_of.Reads as kind-of-reads
@@ -49,7 +50,7 @@ abbrev asked : (ps : List (PK 2)) → Measures 2 ps ℕ → In 2 ps → (ℕ →
 asked ps μ P r t = and 2 ps (falls 2 ps r μ t) P
 
 abbrev test-Inv-loop : test-lts.InvT-loop
-test-Inv-loop q work t left k x at₀ at = Going q work t left k x at
+test-Inv-loop q work t left k x at₀ at = Going (Rest q work t left k x) q at
 
 abbrev test-μ-loop : test-lts.MeasureT-loop
 test-μ-loop q work t left k x at₀ at = falling (lastOf 6 q) at
@@ -69,9 +70,9 @@ pub +test+test-conjunct+test-successors-spec : {M : Type 1} → statement M
     test-Inv-loop
     test-μ-loop
     -- the first conjunct
-    (λ c. search test-starts) (λ c κs. search needs) (λ c. search (needs, test-fails))
+    (λ c. search test-starts) (λ c κs. search (needs, test-asked)) (λ c. search (needs, test-fails))
     -- the next one
-    (λ c κs. search needs) (λ c. search test-falls) (λ c. search test-on) (λ c. search (needs, test-ends)))
+    (λ c κs. search needs) (λ c. search going-falls) (λ c. search test-on) (λ c. search (needs, test-ends)))
     (λ t. test-conjunct-lts.spec (
       kind-of-reads.Asked,
       kind-of-reads.Learnt,
@@ -97,7 +98,7 @@ pub +test+test-conjunct+test-successors-spec : {M : Type 1} → statement M
     -- what is read
     (λ c κs. search needs) (λ c κs. search needs) (λ c. search needs) (λ c κs. search needs) (λ c κs. search needs) (λ c κs. search needs)
     -- the successors, against the child chain
-    (λ c κs. search (needs, child-level, child-testable))
+    (λ c κs. search (needs, some-level, some-testable))
     (λ c κs. search needs) (λ c κs. search needs) (λ c κs. search needs)
     -- the answers
     (λ c. search (needs, class-told)) (λ c. search (needs, impossible-told)) (λ c. search some-told) (λ c. search interval-told))
