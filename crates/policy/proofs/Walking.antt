@@ -71,13 +71,14 @@ then : {s s′ : List ℕ} {n r : ℕ} {q : Walk} (on : List ℕ → Walk) → n
 then on z (going {seen = seen} e m) later = later seen m
 then on z (stopped e) later = absurd (e z)
 
--- either link of record k stays inside
-module _ {p : List ℕ} {k x : ℕ} (h : Here p k) where
-  pub child-inside : x ≡ childOf p k → x ≤ lastOf 6 p
-  child-inside e = rw e (onward-le (lastOf 6 p) k (childOf p k) (h .child))
-
-  pub next-inside : x ≡ nextOf p k → x ≤ lastOf 6 p
-  next-inside e = rw e (onward-le (lastOf 6 p) k (nextOf p k) (h .next))
+-- where a chain ends nothing is reached
+walk-none : {v p : List ℕ} {left k : ℕ} {s : List ℕ} → k ≡ 0 → Follows v p left k s s 0
+unfolding walk
+walk-none {v} {p} {left} {k} {s} e = record { arrives = go }
+  where
+    go : (f : ℕ) (seen : List ℕ) → Enough (lastOf 6 p) f k → Marks s seen → Arrived s 0 (walk f v p (depthAt left) k seen)
+    go zero seen h m = going refl m
+    go (suc f) seen h m = rw e (going refl m)
 
 -- the walk of a chain has come to record k with the bits s: what is known of the walk from there is known of the whole
 pub record Going (v p : List ℕ) (left first : ℕ) (s₀ : List ℕ) (k : ℕ) (s : List ℕ) : Type 0 where
@@ -89,12 +90,7 @@ walk-starts h = record { inside = h; whole = λ f. f }
 
 module _ {v p : List ℕ} {left first : ℕ} {s₀ : List ℕ} {k : ℕ} {s : List ℕ} (g : Going v p left first s₀ k s) where
   pub walk-ends : k ≡ 0 → Follows v p left first s₀ s 0
-  unfolding walk
-  walk-ends e = g .whole (record { arrives = go })
-    where
-      go : (f : ℕ) (seen : List ℕ) → Enough (lastOf 6 p) f k → Marks s seen → Arrived s 0 (walk f v p (depthAt left) k seen)
-      go zero seen h m = going refl m
-      go (suc f) seen h m = rw e (going refl m)
+  walk-ends e = g .whole (walk-none e)
 
   -- n is the fault at record k
   module _ {n : ℕ} (m : k ≡ 0 → ⊥) (en : n ≡ faultAt v p (depthAt left) k s) where
@@ -104,8 +100,11 @@ module _ {v p : List ℕ} {left first : ℕ} {s₀ : List ℕ} {k : ℕ} {s : Li
       unfolding faultAt
       cleared = clear (inSet s k) (soundRecord v p (depthAt left) k) (eqb (depthAt left) levels) (sym en ∙ y)
 
-      pub here : Here p k
+      here : Here p k
       here = let u = simp tests at (cleared .0) in record { inside = (omega arith, g .inside); child = u .1 .0; next = u .1 .1 }
+
+      pub child-inside : {x : ℕ} → x ≡ childOf p k → x ≤ lastOf 6 p
+      child-inside e = rw e (onward-le (lastOf 6 p) k (childOf p k) (here .child))
 
       pub level : 1 ≤ left
       level = let q = eqb-false (depthAt left) levels (cleared .1) in omega arith
@@ -145,7 +144,11 @@ module _ {v p : List ℕ} {left first : ℕ} {s₀ : List ℕ} {k : ℕ} {s : Li
 
         pub walk-on : {x : ℕ} → a ≡ 0 → x ≡ nextOf p k → Going v p left first s₀ x w
         walk-on z e = record {
-          inside = next-inside (here y) e;
+          inside = rw e (onward-le (lastOf 6 p) k (nextOf p k) (here y .next));
           whole = λ later. step (λ f seen h b. rw y (then (walk f v p (depthAt left) (nextOf p k)) z (below h b)
               (λ seen b. rw e at (later .arrives f seen (rw e (next-enough (here y) h)) b))));
         }
+
+      -- the same, with no child chain
+      pub walk-past : {x y : ℕ} {u : List ℕ} → n ≡ 0 → left ≤ levels → y ≡ childOf p k → y ≡ 0 → u ≡ including s k → x ≡ nextOf p k → Going v p left first s₀ x u
+      walk-past o d ey z eu e = walk-on o d ey eu (walk-none z) refl e

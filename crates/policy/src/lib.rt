@@ -150,13 +150,15 @@ fn walk_from(v: &[u32], p: &[u32], left: u32, first: u32, seen: &mut [u32]) -> u
             return fault;
         }
         let child = child_of(p, k);
-        let next = next_of(p, k);
         insert(seen, k);
+        k = next_of(p, k);
+        if child == 0 {
+            continue;
+        }
         let inner = walk_from(v, p, left - 1, child, seen);
         if inner != 0 {
             return inner;
         }
-        k = next;
     }
     0
 }

@@ -5,11 +5,10 @@ use mathlib.Core.Path.{_≡_}
 use lib.ListN.{length}
 use borrow.Fn.Kinds.{In}
 use borrow.Fn.PlainCycle.{Measures, and, falls, is}
-use Rattle.meaning.specs.Accepted.{Here}
 use Rattle.meaning.specs.Records.{falling, lastOf}
 use Rattle.policy.proofs.+walk_from.{statement}
 use Rattle.policy.proofs.+walk_from.Tie.{close}
-use Rattle.policy.proofs.Walking.{Going, child-inside, here, level, level-falls, next-falls, next-inside, walk-ends, walk-faults, walk-on, walk-starts, walk-stops}
+use Rattle.policy.proofs.Walking.{Going, child-inside, level, level-falls, next-falls, walk-ends, walk-faults, walk-on, walk-past, walk-starts, walk-stops}
 use Rattle.policy.proofs.walk_from.Reads as walk-from
 use Rattle.policy.proofs.walk_from.Kinds as walk-from-kinds
 use Rattle.policy.proofs.+walk_from.Lts-walk_from as walk-from-lts
@@ -40,10 +39,10 @@ pub +walk-from-spec : {M : Type 1} → statement M
   fault-at-reads.Learnt,
   child-of-reads.Asked,
   child-of-reads.Learnt,
-  next-of-reads.Asked,
-  next-of-reads.Learnt,
   insert-reads.Asked,
   insert-reads.Learnt,
+  next-of-reads.Asked,
+  next-of-reads.Learnt,
   walk-from-below t,
   walk-from.Post,
 )
@@ -61,25 +60,25 @@ pub +walk-from-spec : {M : Type 1} → statement M
     (λ c. search walk-faults)
     -- child-of-requires
     (λ c κs. search needs)
-    -- next-of-requires
-    (λ c κs. search needs)
     -- insert-requires
     (λ c κs. search needs)
+    -- next-of-requires
+    (λ c κs. search needs)
+    -- loop-less
+    (λ c. search next-falls)
+    -- loop-again
+    (λ c. (search walk-past, search needs))
     -- sub-walk-from
     (λ c. search (needs, level))
     -- walk-from-requires
-    (λ c κs.
-    let h : Here
-    (c .before .before .before .before .before .before .before .before .before .before .before .before .before .before .before .args .p .now)
-    (c .before .before .before .before .before .before .before .before .before .before .before .loop .k) = search here in
-    (search level-falls, (search needs, search needs, search (child-inside, next-inside), search needs)))
+    (λ c κs. (search level-falls, (search needs, search needs, search child-inside, search needs)))
     -- same-length-2
     (λ c. search needs)
     -- returns-2
     (λ c. search walk-stops)
-    -- loop-less
+    -- loop-less-2
     (λ c. search next-falls)
-    -- loop-again
+    -- loop-again-2
     (λ c. (search walk-on, search needs))
     -- same-length-3
     (λ c. search needs)
