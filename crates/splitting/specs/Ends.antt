@@ -11,7 +11,7 @@ use Rattle.meaning.specs.Limits.{mostRecords}
 use Rattle.meaning.specs.Lists.{_∈_, flatMap}
 use Rattle.meaning.specs.Policy.{Chain, Policy, class, end, impossible, interval, policyRefusal, some}
 use Rattle.meaning.specs.Splitting.{Sorted, ends}
-use Rattle.policy.specs.Terms.{conjunctsAt}
+use Rattle.policy.specs.Terms.{ConjunctOf, conjunctOf, conjunctsAt}
 
 -- ---- the ends
 
@@ -42,6 +42,12 @@ pub record Chained (q e : List ℕ) (left k n : ℕ) : Type 0 where
   pub reads : Reads q k (conjunctsAt q k)
   pub shallow : depth (conjunctsAt q k) ≤ left
   pub room : n + 2 * count (conjunctsAt q k) ≤ length e
+
+-- record k is a conjunct's, which has at most so many levels, and there is room for its keys after n words
+pub record Single (q e : List ℕ) (left k n : ℕ) : Type 0 where
+  pub conjunct : ConjunctOf q k
+  pub shallow : depth (conjunctOf q k) ≤ left
+  pub room : n + 2 * count (conjunctOf q k) ≤ length e
 
 -- some vocabulary accepts the policy, and there is room for its keys
 pub record Collectable (q e : List ℕ) : Type 0 where

@@ -27,7 +27,7 @@ ghost use Rattle.meaning.specs.Intervals.{NonEmpty};
 ghost use Rattle.meaning.specs.Policy.{Policy, policyOf};
 ghost use Rattle.meaning.specs.Splitting.{pieces};
 ghost use Rattle.policy.specs.Terms.{conjunctOf, conjunctsAt};
-ghost use Rattle.splitting.specs.Ends.{Chained, Collectable, Collected, Ends, NextEnd, NextUpper, keysOf};
+ghost use Rattle.splitting.specs.Ends.{Chained, Collectable, Collected, Ends, NextEnd, NextUpper, Single, keysOf};
 ghost use Rattle.splitting.specs.Constraints.{Few, Multiplied, Splittable, Started};
 
 // The keys of a constraint's two ends.
@@ -41,7 +41,7 @@ fn add_ends(ends: &mut [u64], n: usize, f: FeatureNo, lo: u32, hi: u32) -> usize
 
 // The keys of record k, among the first n: its own, or those of its child chain, with a level less.
 fn collect_at(q: &[u32], ends: &mut [u64], left: u32, k: u32, n: usize) -> usize
-    requires { ⌜ (k ≡ 0 → ⊥) × Chained (now q) (now ends) left k n ⌝ }
+    requires { ⌜ Single (now q) (now ends) left k n ⌝ }
     ensures { λ r. ⌜ Gathered (keysOf (conjunctOf (now (q .entry)) k)) n (now (ends .entry)) (now (ends .exit)) r ⌝ }
 {
     let kind = kind_of(q, k);

@@ -1,13 +1,16 @@
 -- `collect_at` and `collect_from`: a loop along the chain, over its records, and a call for each child chain, with a level less.
 use borrow.Author.Needs.{needs}
 use Prim.Native.Nat.{_*_, _+_, _<_, ℕ}
+use mathlib.Core.Path.{_≡_}
+use lib.ListN.{length}
 use borrow.Fn.Kinds.{In}
 use borrow.Fn.PlainCycle.{Measures, and, falls, is}
 use Rattle.meaning.specs.Records.{falling, lastOf}
+use Rattle.policy.proofs.Conjuncts.{Going, going-falls}
 use Rattle.splitting.proofs.+collect_at+collect_from.{statement}
 use Rattle.splitting.proofs.+collect_at+collect_from.Tie.{close}
-use Rattle.splitting.proofs.Collecting.{Going, child-chained, child-falls, child-level, constraint-gathered, going-ends, going-falls, going-on, going-starts}
-use Rattle.splitting.proofs.Collecting.{other-gathered, ends-fit, role-gathered}
+use Rattle.splitting.proofs.Collecting.{Rest, chain-ends, chain-on, chain-single, chain-starts, child-chained, constraint-gathered, ends-fit}
+use Rattle.splitting.proofs.Collecting.{other-gathered, role-falls, role-gathered, role-level}
 use Rattle.splitting.proofs.+collect_at+collect_from.Lts-collect_at as collect-at-lts
 use Rattle.splitting.proofs.+collect_at+collect_from.Lts-collect_from as collect-from-lts
 use Rattle.splitting.proofs.collect_at.Kinds as collect-at-kinds
@@ -42,7 +45,7 @@ abbrev collect-from-below : ℕ → In 2 collect-from-kinds.ps
 collect-from-below t = and 2 collect-from-kinds.ps (falls 2 collect-from-kinds.ps _<_ μ-collect-from t) collect-from.Pre
 
 abbrev collect-from-Inv-loop : collect-from-lts.InvT-loop
-collect-from-Inv-loop q ends₀ left first m k₀ n₀ ends k n = Going q ends₀ left first m ends n k
+collect-from-Inv-loop q ends₀ left first m k₀ n₀ ends k n = (length ends ≡ length ends₀) × Going (Rest q ends₀ left first m ends n) q k
 
 abbrev collect-from-μ-loop : collect-from-lts.MeasureT-loop
 collect-from-μ-loop q ends₀ left first m k₀ n₀ ends k n = falling (lastOf 6 q) k
@@ -68,9 +71,9 @@ pub +collect-at+collect-from-spec : {M : Type 1} → statement M
     collect-at.Post
     -- a role
     (λ c κs. search needs)
-    (λ c. search (needs, child-level))
+    (λ c. search (needs, role-level))
     (λ c κs. search needs)
-    (λ c κs. (search child-falls, search child-chained))
+    (λ c κs. (search role-falls, search child-chained))
     (λ c. search needs)
     (λ c. search role-gathered)
     -- a constraint
@@ -87,6 +90,10 @@ pub +collect-at+collect-from-spec : {M : Type 1} → statement M
     collect-from-Inv-loop
     collect-from-μ-loop
     -- one after another
-    (λ c. search going-starts) (λ c κs. search needs) (λ c κs. search needs) (λ c. search going-falls) (λ c. search going-on)
+    (λ c. search chain-starts)
+    (λ c κs. (search needs, search chain-single))
+    (λ c κs. search needs)
+    (λ c. search going-falls)
+    (λ c. (search needs, search chain-on))
     -- the end
-    (λ c. c .before .loop .inv .same) (λ c. search going-ends)
+    (λ c. c .before .loop .inv .0) (λ c. search chain-ends)
