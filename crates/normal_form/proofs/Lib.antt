@@ -1,6 +1,5 @@
 -- The laws that the functions' proofs cite.
 pub mod Laws
-pub mod Chains
 pub mod Adding
 pub mod Conjuncts
 pub mod Joining

@@ -23,7 +23,7 @@ use Rattle.meaning.specs.Policy.{Chain, childOf, nameOf}
 use Rattle.meaning.specs.Splitting.{constraintsBelow}
 use Rattle.meaning.specs.Vocabulary.{Vocabulary, roleCount, vocabularyOf}
 use Rattle.normal_form.specs.Parts.{Arm, armAt, bottomHere, bottomHereAll, classesAll, classesIn, countAll, hasBottomAll}
-use Rattle.policy.specs.Terms.{conjunctsAt}
+use Rattle.policy.specs.Terms.{ConjunctOf, conjunctOf, conjunctsAt}
 use Rattle.normal_form.specs.Parts.{intervalCount, intervalsAll, intervalsIn, joins, live, parts, roles, rolesAll, successorsOf}
 use Rattle.normal_form.specs.Parts.{weigh, wordsAt}
 use Rattle.normal_form.specs.declared.Draft.{Draft}
@@ -119,6 +119,13 @@ HasRoomFor w m g c = HasRoom w m g (length (roles c)) (intervalCount c)
 
 abbrev pub HasRoomForAll : List ℕ → ℕ → Draft → List Arm → Type 0
 HasRoomForAll w m g l = HasRoom w m g (length (rolesAll l)) (countAll l)
+
+-- record k is a conjunct's whose names have rows, and there is room for what it adds
+pub record Single (p w : List ℕ) (m : ℕ) (g : Draft) (k : ℕ) : Type 0 where
+  pub some : k ≡ 0 → ⊥
+  pub conjunct : ConjunctOf p k
+  pub named : NamedChain mostClasses mostRoles mostFeatures (conjunctOf p k)
+  pub room : HasRoomFor w m g (conjunctOf p k)
 
 -- arms pending from j to stop, with room for all that they hold
 pub record Gatherable (p w : List ℕ) (j stop m : ℕ) (g : Draft) : Type 0 where

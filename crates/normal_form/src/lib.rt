@@ -29,7 +29,7 @@ ghost use Rattle.meaning.specs.Limits.{mostRoles};
 ghost use Rattle.meaning.specs.Policy.{termAt};
 ghost use Rattle.normal_form.specs.Parts.{armAt, joins};
 ghost use Rattle.policy.specs.Terms.{conjunctOf, conjunctsAt};
-ghost use Rattle.normal_form.specs.Steps.{Adding, BuiltFrom, Gatherable, Gathered, Good, HasRoomFor, NodedFrom, Placed, Room, Waiting, front};
+ghost use Rattle.normal_form.specs.Steps.{Adding, BuiltFrom, Gatherable, Gathered, Good, HasRoomFor, NodedFrom, Placed, Room, Single, Waiting, front};
 ghost use Rattle.normal_form.specs.Steps.{startOf};
 ghost use Rattle.normal_form.specs.Tables.{Fit, Normalised};
 ghost use Rattle.words.specs.Sets.{inSet};
@@ -111,7 +111,7 @@ fn conjunct(
     first: usize,
     g: Draft,
 ) -> Draft
-    requires { ⌜ (k ≡ 0 → ⊥) × Good (now p) k × HasRoomFor (now work) first g (conjunctsAt (now p) k) ⌝ }
+    requires { ⌜ Single (now p) (now work) first g k ⌝ }
     ensures { λ r. ⌜ Adding (inSet (f .features)) (now (p .entry)) x first (conjunctOf (now (p .entry)) k)
         (now (work .entry)) (now (work .exit)) g r ⌝ }
 {
