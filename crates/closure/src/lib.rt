@@ -140,11 +140,15 @@ fn raise(v: &[u32], work: &mut [u32], heads: &mut [u32; HEADS], next: &[u32; NEX
     }
 }
 
-// Raises each class's row, the upper first, whatever the records' order: without a cycle nothing is left to the passes.
+// Raises each class's row, the upper first, whatever the records' order: without a cycle nothing is left to the passes. Without a record
+// nothing is raised.
 fn raise_all(v: &[u32], work: &mut [u32])
     requires { ⌜ (vocabularyRefusal (now v) ≡ 0) × (classCount (now v) * classWords ≤ length (now work)) ⌝ }
     ensures { λ _. ⌜ Raised (now (v .entry)) (now (work .entry)) (now (work .exit)) ⌝ }
 {
+    if first_axiom(v) == 0 {
+        return;
+    }
     let mut heads = [0; HEADS];
     let mut next = [0; NEXTS];
     index(v, &mut heads, &mut next);

@@ -15,7 +15,7 @@ abbrev μ-loop : tie.MeasureT-loop
 μ-loop v work₀ heads₀ next i₀ i-end work heads i = i-end - i
 
 index-requires : tie.Need-index-requires Inv-loop μ-loop
-index-requires c κs = (c .before .before .before .before .pre .0, heads-none _ 257 0, nexts-none _ 1025)
+index-requires c κs = (c .before .before .before .before .before .before .pre .0, heads-none _ 257 0, nexts-none _ 1025)
 
 loop-holds : tie.Need-loop-holds Inv-loop μ-loop
 loop-holds c = (omega arith, raised-none refl, c .before .index .ensures .0)
@@ -23,7 +23,7 @@ loop-holds c = (omega arith, raised-none refl, c .before .index .ensures .0)
 raise-requires : tie.Need-raise-requires Inv-loop μ-loop
 raise-requires c κs =
     let d = c .before .before .before .before .before in
-    let s = d .before .before .before .before .before .before in
+    let s = d .before .before .before .before .before .before .before .before in
     let v = s .args .v .now in
     let l = c .before .before .before .before .loop .inv in record {
       accepted = s .pre .0;
@@ -37,7 +37,7 @@ loop-again : tie.Need-loop-again Inv-loop μ-loop
 loop-again c = let e = c .before .before .raise .ensures in (omega arith, raised-then (c .before .before .before .before .before .before .before .loop .inv .1) (e .0), e .1 .0)
 
 same-length : tie.Need-same-length Inv-loop μ-loop
-same-length c = let p = c .before .before .before .before .before .before .before .before .pre in raised-length (p .0) (p .1) (c .before .loop .inv .1)
+same-length c = let p = c .before .before .before .before .before .before .before .before .before .before .pre in raised-length (p .0) (p .1) (c .before .loop .inv .1)
 
 pub raise-all-spec : {M : Type 1} → statement M
 raise-all-spec =
@@ -45,6 +45,10 @@ raise-all-spec =
     (tie.spec
     Inv-loop
     μ-loop
+    -- no record
+    (λ c κs. search needs)
+    (λ c. raised-none refl)
+    -- class by class
     index-requires
     (λ c κs. search needs)
     loop-holds
