@@ -1,0 +1,183 @@
+#!/usr/bin/env python3
+"""refusals.py: docs/REFUSALS.md and docs/SPECIFICATION.md name the refusals that the definitions give.
+
+The table in REFUSALS.md has a row for each number that a definition in crates/meaning/specs gives, in number order, and no other row; a
+row names exactly the operations that can give its number. The section of SPECIFICATION.md that an operation's link leads to has the
+line "Refusals, in order:", with exactly the operation's numbers, in the order in which its definition looks for them.
+
+The numbers are read from the definitions' text. A number is given by `refused`, `refuses`, `fault` or `refusalAlong` with a numeral
+behind it, and in a definition whose name ends in Refusal by an arm of `cond` that is a numeral. An operation gives what its definition
+names and what is given by those that it names. An arm that is written out is looked for before one that is a name of `let`, since
+the definitions bind by `let` what comes later.
+"""
+import os
+import re
+import sys
+from glob import glob
+
+TABLE, PAGE, HEADER = 'docs/REFUSALS.md', 'docs/SPECIFICATION.md', 'crates/exports/gimbuka.h'
+# the operations by their names in C, and the program: the name in the table, and the definition
+OPERATIONS = {
+    'read_vocabulary': ('Read vocabulary', 'readVocabulary'),
+    'read_policy': ('Read policy', 'readPolicy'),
+    'read_second_policy': ('Read second policy', 'readSecondPolicy'),
+    'possible': ('Possible', 'possibility'),
+    'compliance': ('Compliance', 'compliance'),
+    'equality': ('Equality', 'equality'),
+    'model_check': ('Model check', 'modelCheck'),
+}
+PROGRAM = ('program', 'program')
+GIVES = ('refused', 'refuses', 'fault', 'refusalAlong')
+SIGNATURE = re.compile(r'(?:abbrev |unfoldable )?(?:pub )?([^\s(]+) : ')
+
+
+def is_numeral(item):
+    return isinstance(item, str) and item.isdigit()
+
+
+def parsed(tokens):
+    """Tokens up to a closing bracket as a list, with a list for what stands in brackets."""
+    items = []
+    for token in tokens:
+        if token == ')':
+            break
+        items.append(parsed(tokens) if token == '(' else token)
+    return items
+
+
+def definitions():
+    """For each name the right-hand sides of its clauses."""
+    bodies, name = {}, None
+    for path in glob('crates/meaning/specs/*.antt'):
+        for line in open(path, encoding='utf-8'):
+            line = re.sub(r'(^|\s)--.*', '', line.rstrip())
+            signature = SIGNATURE.match(line)
+            if signature:
+                name = signature[1]
+                bodies.setdefault(name, [])
+            elif name and line.startswith(name + ' '):
+                bodies[name].append(line.split(' =', 1)[1])
+            elif name and line.startswith(' ') and bodies[name]:
+                bodies[name][-1] += line
+            elif line:
+                name = None
+    return {name: [parsed(iter(re.findall(r'[()]|[^\s()]+', body))) for body in clauses] for name, clauses in bodies.items()}
+
+
+class Numbers:
+    """The numbers that definitions give, in the order in which they are looked for; one may come more than once."""
+
+    def __init__(self):
+        self.bodies = definitions()
+        self.within = []
+        # a second policy's numbers are so many more
+        (self.more,) = [int(clause[0]) for clause in self.bodies['secondRefusal'] if clause[1:] == ['+', 'suc', 'n']]
+
+    def given(self, name):
+        if name not in self.bodies or name in self.within:
+            return []
+        self.within.append(name)
+        numbers = [n for clause in self.bodies[name] for n in self.of(clause, {})]
+        self.within.pop()
+        return numbers
+
+    def of(self, items, lets):
+        numbers, i = [], 0
+        while i < len(items):
+            item = items[i]
+            if item == 'let':
+                end = items.index('in', i)
+                lets = {**lets, items[i + 1]: (items[items.index('=', i) + 1:end], lets)}
+                i = end
+            elif item == 'cond':
+                numbers += self.of([items[i + 1]], lets)
+                for arm in sorted(items[i + 2:i + 4], key=lambda arm: isinstance(arm, str) and arm in lets):
+                    if is_numeral(arm) and self.within[-1].endswith('Refusal'):
+                        numbers += [int(arm)] if int(arm) else []
+                    else:
+                        numbers += self.of([arm], lets)
+                i += 3
+            elif item == 'secondRefusal' and i + 1 < len(items):
+                numbers += [self.more + n for n in self.of([items[i + 1]], lets)]
+                i += 1
+            elif item in GIVES and i + 1 < len(items) and is_numeral(items[i + 1]):
+                numbers.append(int(items[i + 1]))
+                i += 1
+            elif isinstance(item, list):
+                numbers += self.of(item, lets)
+            elif item in lets:
+                numbers += self.of(*lets[item])
+            else:
+                numbers += self.given(item)
+            i += 1
+        return numbers
+
+
+def orders(numbers, wrong):
+    """For each operation its numbers, in order."""
+    exported = re.findall(r'\bgimbuka_(\w+)\(', open(HEADER).read())
+    wrong += ['%s: an operation that this test does not know: %s' % (HEADER, name) for name in exported if name not in OPERATIONS]
+    found = {title: list(dict.fromkeys(numbers.given(name))) for title, name in [*OPERATIONS.values(), PROGRAM]}
+    # the program lends Compliance a full work slice
+    assert 'workSize' in str(numbers.bodies['program'])
+    found['program'] = [n for n in found['program'] if n != 21]
+    known = {n for name in numbers.bodies for n in numbers.given(name)}
+    wrong += ['the definitions give %d, and no operation does' % n for n in sorted(known - set(sum(found.values(), [])))]
+    for name in numbers.bodies:
+        if re.match('[a-z].*Refusal$', name) and name != 'secondRefusal' and not numbers.given(name):
+            wrong.append('%s: no number is found in its definition' % name)
+    return found
+
+
+def rows(text, found, wrong):
+    """The table's numbers, each with its operations."""
+    table = {}
+    for line in text.split('\n'):
+        cells = [cell.strip() for cell in line.split('|')[1:-1]]
+        if cells and cells[0].isdigit():
+            number = int(cells[0])
+            if len(cells) != 4 or not all(cells):
+                wrong.append('%s: row %d has not four cells' % (TABLE, number))
+            if table and number <= max(table):
+                wrong.append('%s: row %d is not in number order' % (TABLE, number))
+            table[number] = list(found) if cells[1] == 'all' else re.findall(r'\[([^\]]+)\]', cells[1])
+    return table
+
+
+def stated(page, link):
+    """The order of refusals in the section that a link leads to."""
+    for section in re.split(r'\n(?=##)', page):
+        heading = section.split('\n')[0].lstrip('# ').lower()
+        if link == re.sub(r'[^\w -]', '', heading).replace(' ', '-'):
+            told = re.search(r'\nRefusals, in order: ([^.]*)\.', section)
+            return [int(n) for n in re.findall(r'\d+', told[1])] if told else []
+    return []
+
+
+def main():
+    os.chdir(os.path.join(os.path.dirname(os.path.abspath(__file__)), '..'))
+    wrong = []
+    found = orders(Numbers(), wrong)
+    text, page = (open(path, encoding='utf-8').read() for path in (TABLE, PAGE))
+    table = rows(text, found, wrong)
+    for number in sorted(set(table) | set(sum(found.values(), []))):
+        wanted = [title for title in found if number in found[title]]
+        if not wanted:
+            wrong.append('%s: row %d is of no refusal' % (TABLE, number))
+        elif number not in table:
+            wrong.append('%s: no row for %d' % (TABLE, number))
+        elif table[number] != wanted:
+            wrong.append('%s: row %d names %s; it is given by %s' % (TABLE, number, ', '.join(table[number]), ', '.join(wanted)))
+    links = dict(re.findall(r'\n\[([^\]]+)\]: SPECIFICATION\.md#(\S+)', text))
+    for title, order in found.items():
+        told = stated(page, links.get(title))
+        if told != order:
+            wrong.append('%s: the order of %s is %s; the definitions have %s' % (PAGE, title, told, order))
+    for line in wrong:
+        print(line)
+    print('%d refusals of %d operations, %d wrong' % (len(table), len(found), len(wrong)))
+    sys.exit(1 if wrong else 0)
+
+
+if __name__ == '__main__':
+    main()
