@@ -35,11 +35,11 @@ CountsModel w t r = (K : Vocabulary) (u : Form) → Modelled K u w t → r ≡ l
 abbrev pub ModelWritten : List ℕ → Tables → List ℕ → List ℕ → Type 0
 ModelWritten w t o o′ = (K : Vocabulary) (u : Form) → Modelled K u w t → o′ ≡ outputAfter (countermodel K u) o
 
--- "classes rising", of row i, individual i + 1
+-- the classes, rising (SPECIFICATION 8.4), of row i, individual i + 1
 unfoldable pub memberFacts : List ℕ → ℕ → List Fact
 memberFacts w i = map (λ c. member c (i + 1)) (members (setAt w i))
 
--- ---- "(feature, value) pairs rising, no repeats", of individual x among n constraints
+-- ---- the pairs of a feature and a value, rising, each once, of individual x among n constraints
 
 abbrev pub valueFact : ℕ → Constraint → Fact
 valueFact x s = value (s .feature) x (valueOf s)
@@ -67,7 +67,7 @@ valuesFrom w n x m = let here = valueFact x (pieceAt w m) ∷ map (valueFact x) 
 abbrev pub NextPair : List ℕ → ℕ → ℕ → ℕ → ℕ → Type 0
 NextPair w n x m r = (r ≤ n) × (valuesFrom w n x r ≡ map (valueFact x) (pairsAbove w n x m))
 
--- ---- "edges by target", of individual x
+-- ---- the edges by target, of individual x
 
 -- the edges of individual x among so many rows from j on; a smaller parent's row stands after all that is below x
 unfoldable pub edgesFrom : List ℕ → ℕ → ℕ → ℕ → List Fact
@@ -80,7 +80,7 @@ edgesFrom w x (suc left) j =
 abbrev pub edgeFacts : List ℕ → ℕ → ℕ → List Fact
 edgeFacts w n x = edgesFrom w x (n - x) x
 
--- ---- "For each individual in turn"
+-- ---- for each individual in turn
 
 unfoldable pub factsAt : List ℕ → Tables → ℕ → List Fact
 factsAt w t i = memberFacts w i ++ (valueFacts w (t .constraints) (i + 1) ++ edgeFacts w (t .individuals) (i + 1))

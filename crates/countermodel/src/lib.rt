@@ -209,7 +209,7 @@ fn write_row(work: &[u32], t: Tables, i: u32, out: &mut [u32], k: usize, last: u
     write_edges(work, place(t.individuals), i + 1, out, b, last)
 }
 
-// All records: "For each individual in turn: classes rising; (feature, value) pairs rising, no repeats; edges by target."
+// All records, in the order of SPECIFICATION 8.4: for each individual in turn its classes, its pairs, its edges.
 fn write_rows(work: &[u32], t: Tables, last: usize, out: &mut [u32])
     requires { ⌜ Standing (now work) t × RoomFor last 1 (tableFacts (now work) t) (now out) ⌝ }
     ensures { λ _. ⌜ now (out .exit) ≡ recorded last 1 (tableFacts (now (work .entry)) t) (now (out .entry)) ⌝ }

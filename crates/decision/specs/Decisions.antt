@@ -52,7 +52,7 @@ Reports s c w t o o′ r =
 abbrev pub decision : List ℕ → List ℕ → List ℕ → ℕ → Outcome VerdictResult
 decision v p q o = reported (vocabularyOf v) o outside (decide (vocabularyOf v) (policyOf p) (policyOf q)) (says compliant)
 
--- "22: some possible simple policy of the first has over 65,536 combinations": one of them
+-- 22 (SPECIFICATION 9.6): a term is possible and has too many combinations
 abbrev pub exceeds : Vocabulary → Policy → Chain → Bool
 exceeds K Q c = possible K c && ltb mostCombinations (combinationCount Q (normalForm K c))
 

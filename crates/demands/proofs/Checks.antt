@@ -28,14 +28,14 @@ is-yes checked.Yes e = refl
 is-yes checked.No e = absurd (let z : _≡_ {A = ℕ} 0 1 = cc in omega arith)
 is-yes (checked.Refused n) e = absurd (let z : _≡_ {A = ℕ} 0 1 = cc in omega arith)
 
--- demand 2: "passes if and only if it satisfies the vocabulary and its first individual is in the policy and outside the consent"
+-- demand 2: yes if and only if it satisfies the vocabulary and has individual 1 in the first policy and outside the second
 pub yes-where : {v p q m w w′ : List ℕ} {r : Checked} → ModelCheckPost v p q m w w′ r → (IsRefusal (checkedAnswer r) → ⊥) → (r ≡ checked.Yes) ↔ Countered v p q m
 yes-where {v} {p} {q} {m} {w} {r = r} j t =
     let e = j .answer in
     let h = check-right v p q m (length w) (λ x. t (x .0, e ∙ x .1)) in
     (λ y. h .0 (sym e ∙ ap checkedAnswer y), λ y. is-yes r (e ∙ h .1 y))
 
--- "A countermodel handed to the model check ..": what is written is answered yes, with any full work slice
+-- demand 2: every countermodel that is written is answered yes, with any full work slice
 pub outside-checked : {v p q w w′ o o′ : List ℕ} {s c n : ℕ} → CompliancePost v p q w w′ o o′ (verdict.Outside s c n) → {w₁ w₁′ : List ℕ} {r : Checked} →
     ModelCheckPost v p q (take n o′) w₁ w₁′ r → workSize ≤ length w₁ → r ≡ checked.Yes
 outside-checked {v} {p} {q} {w} {o = o} {n = n} a {w₁} {r = r} j l =

@@ -91,7 +91,7 @@ equal-or-differs {r = comparison.Differs side s k n} c t = inr (record {
 })
 equal-or-differs {r = comparison.Refused n} c t = absurd (t (n, refl))
 
--- demand 3: "else, the output being long enough, it names a side and writes a finite interpretation that does"
+-- demand 3: else, where the output is long enough, it names a side and writes a finite interpretation that tells them apart
 pub differs-where : {v p q w w′ o o′ : List ℕ} {r : Comparison} → EqualityPost v p q w w′ o o′ r → Comparable v p q (length w) (length o) →
     ToldApart (vocabularyOf v) (policyOf p) (policyOf q) → NamesASide v p q o′ r
 differs-where c a x =
@@ -101,7 +101,7 @@ differs-where c a x =
 pub names-told-apart : {v p q o : List ℕ} {r : Comparison} → NamesASide v p q o r → ToldApart (vocabularyOf v) (policyOf p) (policyOf q)
 names-told-apart n = ⊎-elim (λ e. inl (refutes-apart (n .first e))) (λ e. inr (refutes-apart (n .second e))) (n .one-or-two)
 
--- demand 3: "policies found equal get the same compliance verdicts with every third policy, on either side, wherever neither call is refused"
+-- demand 3: policies found equal get the same verdict with every third policy, on either side, where neither call is refused
 module _ {v p q w w′ o o′ : List ℕ} (c : EqualityPost v p q w w′ o o′ comparison.Equal) {t w₁ w₁′ o₁ o₁′ w₂ w₂′ o₂ o₂′ : List ℕ} {r s : Verdict} where
   pub same-verdict : CompliancePost v p t w₁ w₁′ o₁ o₁′ r → CompliancePost v q t w₂ w₂′ o₂ o₂′ s → Answers r → Answers s → (r ≡ verdict.Compliant) ↔ (s ≡ verdict.Compliant)
   same-verdict a b x y = (

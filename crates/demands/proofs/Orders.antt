@@ -1,4 +1,4 @@
--- The definitions follow document 01's order of refusals.
+-- The definitions follow the orders of refusals, SPECIFICATION 9.2 to 9.8.
 use Prim.Native.Nat.{suc, zero, ℕ}
 use mathlib.Core.Bool.{Bool, _||_, cond, false, true}
 use mathlib.Core.List.{List, [], _∷_}

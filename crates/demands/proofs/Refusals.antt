@@ -1,4 +1,4 @@
--- Demand 1: an operation ends "with a result, or with the first refusal in document 01's order".
+-- Demand 1: an operation ends with a result, or with the first refusal in its order (SPECIFICATION 9.2 to 9.8).
 use Prim.Native.Nat.{ℕ}
 use mathlib.Core.List.{List}
 use mathlib.Core.Logic.{_↔_}
@@ -49,7 +49,7 @@ checked-refused checked.Yes e = absurd (let z : _≡_ {A = ℕ} 0 1 = cc in omeg
 checked-refused checked.No e = absurd (let z : _≡_ {A = ℕ} 0 1 = cc in omega arith)
 checked-refused (checked.Refused m) e = cc
 
--- an operation refuses n exactly when n is the first refusal in document 01's order
+-- an operation refuses n exactly when n is the first refusal in its order
 pub read-vocabulary-refused-iff : (v : List ℕ) {r : Reading} → readingAnswer r ≡ readVocabulary v → {n : ℕ} → (r ≡ reading.Refused n) ↔ FirstRefusal n (vocabularyOrder v)
 read-vocabulary-refused-iff v {r} a =
     let h = refused-iff (vocabulary-follows v) in

@@ -1,4 +1,4 @@
--- Demand 1: "A refusal writes no output, and both write only the words named there", of each operation that is lent a work slice.
+-- Demand 1: what is written, SPECIFICATION 9.9, and nothing else, of each operation that is lent a work slice.
 use Prim.Native.Nat.{ℕ}
 use mathlib.Core.List.{List}
 use mathlib.Core.Path.{_∙_, _≡_, ap, refl, sym}
@@ -33,15 +33,15 @@ use Rattle.meaning.specs.declared.Verdict.the-variants as verdict
 -- ---- Compliance
 
 module _ {v p q w w′ o o′ : List ℕ} {r : Verdict} (c : CompliancePost v p q w w′ o o′ r) where
-  -- "a refusal up to and including 21 writes in no slice": an early one, not in the work slice
+  -- an early refusal writes nothing in the work slice
   pub compliance-refused-early-work : {n : ℕ} → r ≡ verdict.Refused n → Early n → w′ ≡ w
   compliance-refused-early-work {n} e l = work-kept (refused n) l (rw e at (c .work))
 
-  -- "one that comes after 21 leaves the first 16,384 work words 0 and writes nothing else"
+  -- a late refusal leaves the first 16,384 words of the work slice 0, and later ones as they were
   pub compliance-refused-late-work : {n : ℕ} → r ≡ verdict.Refused n → isLate n ≡ true → WorkCleared w w′
   compliance-refused-late-work {n} e l = work-cleared (refused n) l (after-21 v p q (length w) (compliance-refused-iff c .0 e) l) (rw e at (c .work))
 
-  -- "After a result the first 16,384 work words are 0 and later ones untouched"
+  -- so does a result
   pub compliance-result-work : Answers r → WorkCleared w w′
   compliance-result-work t =
       let f = compliance-follows v p q (length w) (length o) in
@@ -55,7 +55,7 @@ module _ {v p q w w′ o o′ : List ℕ} {r : Verdict} (c : CompliancePost v p 
       ∙ ap (λ (l : List ℕ). outputAfter l o)
       (verdict-silent (compliance v p q (length w) (length o)) (compliance-told v p q (length w) (length o)) (λ s k n e. f s k n (c .answer ∙ e)))
 
-  -- "A refusal writes no output"
+  -- a refusal leaves the output
   pub refusal-silent : {n : ℕ} → r ≡ verdict.Refused n → o′ ≡ o
   refusal-silent e = silent-verdict (λ s k n h. let x = ap verdictAnswer e in absurd (let z : _≡_ {A = ℕ} 0 1 = cc in omega arith))
 
@@ -63,7 +63,7 @@ module _ {v p q w w′ o o′ : List ℕ} {r : Verdict} (c : CompliancePost v p 
   pub compliant-silent : r ≡ verdict.Compliant → o′ ≡ o
   compliant-silent e = silent-verdict (λ s k n h. let x = ap verdictAnswer e in absurd (let z : _≡_ {A = ℕ} 0 1 = cc in omega arith))
 
-  -- "a countermodel leaves what follows it"
+  -- a countermodel is written at the front of the output, and what follows is as it was
   pub outside-output : {s k n : ℕ} → r ≡ verdict.Outside s k n → WritesFirst n o o′
   outside-output e =
       let h = verdict-written _ (compliance-told v p q (length w) (length o)) (sym (c .answer) ∙ ap verdictAnswer e) in
@@ -94,7 +94,7 @@ module _ {v p q w w′ o o′ : List ℕ} {r : Comparison} (c : EqualityPost v p
       ∙ ap (λ (l : List ℕ). outputAfter l o)
       (comparison-silent (equality v p q (length w) (length o)) (equality-compared v p q (length w) (length o)) (λ side s k n e. f side s k n (c .answer ∙ e)))
 
-  -- "A refusal writes no output"
+  -- a refusal leaves the output
   pub refused-silent : {n : ℕ} → r ≡ comparison.Refused n → o′ ≡ o
   refused-silent e = silent-comparison (λ side s k n h. let x = ap comparisonAnswer e in absurd (let z : _≡_ {A = ℕ} 0 1 = cc in omega arith))
 
@@ -102,7 +102,7 @@ module _ {v p q w w′ o o′ : List ℕ} {r : Comparison} (c : EqualityPost v p
   pub equal-silent : r ≡ comparison.Equal → o′ ≡ o
   equal-silent e = silent-comparison (λ side s k n h. let x = ap comparisonAnswer e in absurd (let z : _≡_ {A = ℕ} 0 1 = cc in omega arith))
 
-  -- "a countermodel leaves what follows it"
+  -- a countermodel is written at the front of the output, and what follows is as it was
   pub differs-output : {side s k n : ℕ} → r ≡ comparison.Differs side s k n → WritesFirst n o o′
   differs-output e =
       let h = comparison-written _ (equality-compared v p q (length w) (length o)) (sym (c .answer) ∙ ap comparisonAnswer e) in

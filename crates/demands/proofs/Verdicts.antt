@@ -37,7 +37,7 @@ module _ {v p q w w′ o o′ : List ℕ} {r : Verdict} (c : CompliancePost v p 
   pub compliant-where : Answers r → Contained (vocabularyOf v) (policyOf p) (policyOf q) → r ≡ verdict.Compliant
   compliant-where t h = is-compliant r (c .answer ∙ contained-right v p q (length w) (length o) h (λ x. t (x .0, c .answer ∙ x .1)))
 
-  -- demand 2: "compliant" if and only if in every interpretation that satisfies the vocabulary each individual of the policy is in the consent
+  -- demand 2: "compliant" if and only if the first policy is contained in the second, over all interpretations (SPECIFICATION 5.4)
   pub compliant-iff : Answers r → (r ≡ verdict.Compliant) ↔ Contained (vocabularyOf v) (policyOf p) (policyOf q)
   compliant-iff t = (compliant-only, compliant-where t)
 
@@ -47,7 +47,8 @@ module _ {v p q w w′ o o′ : List ℕ} {r : Verdict} (c : CompliancePost v p 
       let h = compliant-iff-not-apart v p q (length w) (length o) (λ x. t (x .0, c .answer ∙ x .1)) in
       (λ e. h .0 (sym (c .answer) ∙ ap verdictAnswer e), λ none. is-compliant r (c .answer ∙ h .1 none))
 
-  -- within the limits, whatever the output's length, "compliant" if and only if no interpretation has an individual in the policy and outside the consent
+  -- within the limits, whatever the output's length, "compliant" if and only if no interpretation has an individual in the policy and
+  -- outside the consent
   pub compliant-iff-within : WithinLimits v p q (length w) → (r ≡ verdict.Compliant) ↔ (Apart (vocabularyOf v) (policyOf p) (policyOf q) → ⊥)
   compliant-iff-within a =
       let h = within-compliant-iff v p q (length w) (length o) (a .accepted) (a .full) (a .few) in

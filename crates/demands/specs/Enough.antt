@@ -15,7 +15,7 @@ use Rattle.meaning.specs.Vocabulary.{Vocabulary, vocabularyOf}
 use Rattle.meaning.specs.declared.Comparison.{Comparison}
 use Rattle.meaning.specs.declared.Verdict.{Verdict}
 
--- "Yes is "compliant", no is s and q with the words written; a refusal is neither": a verdict that is no refusal
+-- a verdict that is no refusal
 abbrev pub Answers : Verdict → Type 0
 Answers r = IsRefusal (verdictAnswer r) → ⊥
 
@@ -23,12 +23,12 @@ Answers r = IsRefusal (verdictAnswer r) → ⊥
 abbrev pub Compares : Comparison → Type 0
 Compares r = IsRefusal (comparisonAnswer r) → ⊥
 
--- "an output is long enough when it has at least as many words as the countermodel to be reported takes"; else what follows has to be
+-- the output has as many words as the countermodel to be reported takes; where there is none, what follows has to be
 abbrev pub Long : Vocabulary → ℕ → Decision → Type 0 → Type 0
 Long K o contained rest = rest
 Long K o (escapes s q u) rest = length (countermodel K u) ≤ o
 
--- Compliance's limits: accepted tables, "a work slice is full from 16,384 words on", "over 65,536 combinations" nowhere in the first policy
+-- Compliance's limits: accepted tables, a full work slice, over 65,536 combinations nowhere in the first policy
 pub record WithinLimits (v p q : List ℕ) (w : ℕ) : Type 0 where
   pub accepted : inputRefusal v p q ≡ 0
   pub full : workSize ≤ w

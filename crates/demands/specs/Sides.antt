@@ -15,7 +15,7 @@ use Rattle.meaning.specs.declared.Comparison.the-variants as comparison
 abbrev pub RefutedBy : List ℕ → List ℕ → List ℕ → List ℕ → Type 0
 RefutedBy v p q words = Refutes (vocabularyOf v) (policyOf p) (policyOf q) (individualCount words) (factsOf words)
 
--- "Side 1 means an individual in the first policy and outside the second, side 2 the reverse", of the words at the front of the output
+-- what a side means (SPECIFICATION 9.7), of the words at the front of the output
 pub record NamesASide (v p q o : List ℕ) (r : Comparison) : Type 0 where
   pub side : ℕ
   pub term : ℕ

@@ -29,7 +29,7 @@ pub record Compares (x : Outcome ComparisonResult) (o o′ : List ℕ) (r : Comp
   pub answer : comparisonAnswer r ≡ x .answer
   pub output : o′ ≡ outputAfter (x .words) o
 
--- "the first direction's difference is reported before the second's": with an output of so many words, and after 21
+-- the first direction's difference before the second's (SPECIFICATION 9.7), with an output of so many words, and after 21
 abbrev pub reverse : List ℕ → List ℕ → List ℕ → ℕ → Outcome ComparisonResult
 reverse v p q o = reported (vocabularyOf v) o (differs 2) (decide (vocabularyOf v) (policyOf q) (policyOf p)) (says equal)
 

@@ -49,7 +49,7 @@ Taken p = (v : List ℕ) × (vocabularyRefusal v ≡ 0) × (policyRefusal v p �
 
 -- ---- the conjunct at record k
 
--- "role a reaches an individual in child"
+-- kind 3: role a reaches an individual of which the child chain holds
 abbrev pub edgeInto : ℕ → (ℕ → Bool) → Fact → Bool
 edgeInto a q (member b i) = false
 edgeInto a q (edge r i j) = eqb a r && q j

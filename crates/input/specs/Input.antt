@@ -16,7 +16,7 @@ thirdPart ws = nextPart ws (nextPart ws 0)
 abbrev pub partsEnd : List ℕ → ℕ
 partsEnd ws = nextPart ws (thirdPart ws)
 
--- an input of so many bytes is neither "cut short" nor "followed by more"
+-- an input of so many bytes is neither cut short nor followed by more (SPECIFICATION 10.1)
 abbrev pub exact : ℕ → List ℕ → Bool
 exact bytes ws = eqb bytes (4 * partsEnd ws)
 

@@ -40,7 +40,7 @@ pub record IndividualBy (v : ℕ → Constraint) (K : Vocabulary) (w : List ℕ)
   pub classes : Above K (setAt w n) (m .classes)
   pub pieces : chosenFrom v w (suc n) top 0 ≡ m .constraints
 
--- the individuals below individual i have the rows from n on, "parent first, then each child's subtree in place order"
+-- the individuals below individual i have the rows from n on, in the order of their numbers (SPECIFICATION 6.2)
 abbrev pub BelowBy : (ℕ → Constraint) → Vocabulary → List ℕ → ℕ → Successors → ℕ → ℕ → Type 0
 BelowBy v K w top none i n = Unit {0}
 BelowBy v K w top (successor r m under next) i n =
@@ -65,7 +65,8 @@ Combined K u w t = CombinedBy (pieceAt w) K u w t
 
 -- ---- for a walk over the successors of an individual
 
--- the individuals ks are all that is below individual x from row j on, among so many rows: they end there, or a smaller parent's row follows
+-- the individuals ks are all that is below individual x from row j on, among so many rows: they end there, or a smaller parent's
+-- row follows
 pub record Kin (v : ℕ → Constraint) (K : Vocabulary) (w : List ℕ) (t : Tables) (x j : ℕ) (ks : Successors) : Type 0 where
   pub below : BelowBy v K w (t .constraints) ks x j
   pub fits : j + size ks ≤ t .individuals

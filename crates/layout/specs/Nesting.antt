@@ -1,4 +1,4 @@
--- The order of the tables: "parent first, then each child's subtree in place order", and constraints "by individual".
+-- The order of the tables: individuals by their numbers (SPECIFICATION 6.2), constraints by individual (SPECIFICATION 7.3).
 use Prim.Native.Nat.{_<_, _≤_, ℕ}
 use mathlib.Core.List.{List}
 use Rattle.layout.specs.Tables.{holderAt, parentAt}

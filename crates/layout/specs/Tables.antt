@@ -94,7 +94,7 @@ pub record RowStands (K : Vocabulary) (w : List ℕ) (n i r : ℕ) (cs : List �
   pub role : roleAt w n ≡ r
   pub classes : Above K (setAt w n) cs
 
--- the individuals below individual i have the rows from n on, "parent first, then each child's subtree in place order"
+-- the individuals below individual i have the rows from n on, in the order of their numbers (SPECIFICATION 6.2)
 abbrev pub RowsStand : Vocabulary → List ℕ → Successors → ℕ → ℕ → Type 0
 RowsStand K w none i n = Unit {0}
 RowsStand K w (successor r m under next) i n =
@@ -109,7 +109,7 @@ abbrev pub heldBelow : Successors → ℕ → List Held
 heldBelow none k = []
 heldBelow (successor r n under next) k = heldBy k (n .constraints) ++ (heldBelow under (suc k) ++ heldBelow next (suc k + size under))
 
--- "Constraints go by individual, then by place in the walk": `constraints t`, each with its individual
+-- the constraints by individual, then by place (SPECIFICATION 7.3): `constraints t`, each with its individual
 abbrev pub heldIn : Form → List Held
 heldIn t = heldBy 1 (t .node .constraints) ++ heldBelow (t .successors) 2
 

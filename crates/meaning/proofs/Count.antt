@@ -16,7 +16,7 @@ use Rattle.meaning.specs.Policy.{Policy}
 use Rattle.meaning.specs.Splitting.{choices, combinationCount, combinations, constraintsBelow, constraintsOf, pieces}
 use Rattle.meaning.specs.Splitting.{piecesAt, piecesFrom, points, product, splitNode, splitSuccessors, wide, wideNeighbours}
 
--- "Their count is the size of X plus the neighbours that differ by 2 or more."
+-- SPECIFICATION 7.2: their number is the size of X plus the neighbours that differ by 2 or more
 count-from : (f x : ℕ) (l : List ℕ) → length (piecesFrom f x l) ≡ suc (length l) + wide x l
 count-from f x [] = refl
 count-from f x (y ∷ l) = go (ltb (suc x) y) (count-from f y l)

@@ -76,7 +76,7 @@ module _ (v p q : List ℕ) where
   pub indistinct-right : (w o : ℕ) → Indistinct (vocabularyOf v) (policyOf p) (policyOf q) → (IsRefusal (equality v p q w o .answer) → ⊥) → equality v p q w o .answer ≡ result equal
   indistinct-right w o i = finite-equal w o (contained-finite (one-way i)) (contained-finite (other-way i))
 
--- "policies found equal get the same compliance verdicts with every third policy, on either side, wherever neither call is refused"
+-- demand 3: policies found equal get the same verdict with a third policy, on either side, where neither call is refused
 module _ (v p q : List ℕ) (w o : ℕ) (e : equality v p q w o .answer ≡ result equal) (r : List ℕ) (w₁ o₁ w₂ o₂ : ℕ) where
   indistinct : Indistinct (vocabularyOf v) (policyOf p) (policyOf q)
   indistinct = equal-right v p q w o e

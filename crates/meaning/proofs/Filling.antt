@@ -13,12 +13,12 @@ abbrev pub Takes : Policy → (ℕ → ℕ) → (ℕ → Constraint) → ℕ →
 Takes Q d v o [] = Unit {0}
 Takes Q d v o (s ∷ l) = At (v o) (pieces Q s) (d o) × Takes Q d v (suc o) l
 
--- the digits as one number: "the last varying fastest"
+-- the digits as one number, the last varying fastest (SPECIFICATION 7.3)
 abbrev pub number : Policy → (ℕ → ℕ) → ℕ → List Constraint → ℕ
 number Q d o [] = 0
 number Q d o (s ∷ l) = d o * product Q l + number Q d (suc o) l
 
--- the form with v o, v (o + 1), .. in place of its constraints: they "go by individual, then by place in the walk"
+-- the form with v o, v (o + 1), .. in place of its constraints, which go by individual, then by place (SPECIFICATION 7.3)
 abbrev pub fillConstraints : (ℕ → Constraint) → ℕ → List Constraint → List Constraint
 fillConstraints v o [] = []
 fillConstraints v o (s ∷ l) = v o ∷ fillConstraints v (suc o) l

@@ -135,7 +135,7 @@ module _ (F : List Fact) where
   pub in-iff : (n : ℕ) (P : Policy) (i : ℕ) → T (isIn F P i) ↔ In (stands n F) P i
   in-iff n P i = (λ t. any-mono (λ p u. holds-out n F p i u) (any-out (λ p. holds F p i) P t), λ h. any-in (λ p. holds F p i) (any-mono (λ p u. holds-in n F p i u) h))
 
-  -- demand 2: "it satisfies the vocabulary and its first individual is in the policy and outside the consent"
+  -- demand 2: it satisfies the vocabulary, and individual 1 is in the first policy and outside the second
   pub refutes-iff : (n : ℕ) (K : Vocabulary) (P Q : Policy) →
       T (refutes F K P Q) ↔ (Satisfies (stands n F) K × In (stands n F) P 1 × (In (stands n F) Q 1 → ⊥))
   unfolding refutes

@@ -96,7 +96,7 @@ module _ (K : Vocabulary) where
     pub only-collapses : {k : ℕ} → Applies K k (normalForm K p) → T (collapses k)
     only-collapses h = ⊎-elim (normal-at _ K (normalForm-normal-unbounded K p .node)) (normal-in _ K (normalForm-normal-unbounded K p .successors)) h
 
-    -- "Normal form is by Table 1's seven rules": none applies to that of a possible term
+    -- SPECIFICATION 6.5: none of the rules applies to the normal form of a possible term
     pub no-rule : T (possible K p) → {k : ℕ} → Applies K k (normalForm K p) → ⊥
     unfolding possible
     no-rule t {k} h =

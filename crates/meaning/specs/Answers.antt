@@ -1,4 +1,4 @@
--- The answers in document 01's words: a refusal, or a result of the operation's own; and the one that each case of an enum stands for.
+-- SPECIFICATION 9.1, the answers: a refusal, or a result of the operation's own; and the one that each case of an enum stands for.
 use Prim.Native.Nat.{ℕ}
 use Rattle.meaning.specs.declared.Reading.{Reading}
 use Rattle.meaning.specs.declared.Possibility.{Possibility}
@@ -11,12 +11,12 @@ use Rattle.meaning.specs.declared.Verdict.the-variants as verdict
 use Rattle.meaning.specs.declared.Comparison.the-variants as comparison
 use Rattle.meaning.specs.declared.Checked.the-variants as checked
 
--- "A refusal is its number."
+-- a refusal is a number
 pub data Answer (A : Type 0) : Type 0 where
   refused : ℕ → Answer A
   result : A → Answer A
 
--- "Both readers otherwise answer "accepted"."
+-- Read vocabulary, Read policy, Read second policy
 pub data ReadingResult : Type 0 where
   accepted : ReadingResult
 
@@ -24,7 +24,7 @@ abbrev pub readingAnswer : Reading → Answer ReadingResult
 readingAnswer reading.Accepted = result accepted
 readingAnswer (reading.Refused n) = refused n
 
--- Possible: "the first simple policy whose normal form is not impossible, or "impossible""
+-- Possible: the first possible term, or "impossible"
 pub data PossibilityResult : Type 0 where
   firstPossible : ℕ → PossibilityResult
   nonePossible : PossibilityResult
@@ -34,7 +34,7 @@ possibilityAnswer (possibility.Possible s) = result (firstPossible s)
 possibilityAnswer possibility.Impossible = result nonePossible
 possibilityAnswer (possibility.Refused n) = refused n
 
--- Compliance: ""compliant", or simple policy s and combination q", and how many words were written
+-- Compliance: "compliant", or outside, with term s, combination q and how many words were written
 pub data VerdictResult : Type 0 where
   compliant : VerdictResult
   outside : ℕ → ℕ → ℕ → VerdictResult
@@ -44,7 +44,7 @@ verdictAnswer verdict.Compliant = result compliant
 verdictAnswer (verdict.Outside s q n) = result (outside s q n)
 verdictAnswer (verdict.Refused n) = refused n
 
--- Equality: "equal", or a side with its s and q, and how many words were written
+-- Equality: "equal", or different, with a side, its s and q and how many words were written
 pub data ComparisonResult : Type 0 where
   equal : ComparisonResult
   differs : ℕ → ℕ → ℕ → ℕ → ComparisonResult
@@ -54,7 +54,7 @@ comparisonAnswer comparison.Equal = result equal
 comparisonAnswer (comparison.Differs side s q n) = result (differs side s q n)
 comparisonAnswer (comparison.Refused n) = refused n
 
--- Model check: "Yes or no."
+-- Model check
 pub data CheckResult : Type 0 where
   yes : CheckResult
   no : CheckResult

@@ -1,4 +1,5 @@
--- Containment of one policy in another: what it means, and how it is decided by combinations and Algorithm 1.
+-- Containment of one policy in another: what it means, SPECIFICATION 5.4, and how it is decided by combinations and Algorithm 1,
+-- SPECIFICATION 7.4 and 7.5.
 use Prim.Native.Nat.{_≤_, suc, ℕ}
 use mathlib.Core.Bool.{Bool, _&&_, cond}
 use mathlib.Core.List.{List, [], _∷_}
@@ -14,7 +15,7 @@ use Rattle.meaning.specs.Splitting.{combinationCount, combinations}
 use Rattle.meaning.specs.Subsumption.{subsumed}
 use Rattle.meaning.specs.Vocabulary.{Vocabulary}
 
--- demand 2: "in every interpretation that satisfies the vocabulary each individual of the policy is in the consent"
+-- SPECIFICATION 5.4: in every interpretation that satisfies the vocabulary each individual of the first policy is in the second
 abbrev pub Contained : Vocabulary → Policy → Policy → Type 1
 Contained K P Q = (I : Interpretation) → Proper I → Satisfies I K → (d : ℕ) → I .individual d → In I P d → In I Q d
 
@@ -29,7 +30,7 @@ ContainedFinite K P Q =
     (n : ℕ) (F : List Fact) → Proper (stands n F) → Satisfies (stands n F) K →
     (d : ℕ) → (1 ≤ d) × (d ≤ n) → In (stands n F) P d → In (stands n F) Q d
 
--- demand 3: "no interpretation, finite or countable, tells the two policies apart"
+-- demand 3: in every interpretation the two policies have the same individuals
 abbrev pub Indistinct : Vocabulary → Policy → Policy → Type 1
 Indistinct K P Q = (I : Interpretation) → Proper I → Satisfies I K → (d : ℕ) → I .individual d → In I P d ↔ In I Q d
 
@@ -48,7 +49,7 @@ pub record Apart (K : Vocabulary) (P Q : Policy) : Type 1 where
   pub within : In interpretation P witness
   pub without : In interpretation Q witness → ⊥
 
--- demand 3: an interpretation "tells the two apart": it has an individual in one policy and outside the other
+-- SPECIFICATION 5.4: an interpretation tells the two apart, with an individual in one policy and outside the other
 abbrev pub ToldApart : Vocabulary → Policy → Policy → Type 1
 ToldApart K P Q = Apart K P Q ⊎ Apart K Q P
 
@@ -69,7 +70,7 @@ firstFailure K Q p =
     let tried = firstFailing (passes K Q) 1 (combinations Q (normalForm K p)) in
     cond (possible K p) tried nowhere
 
--- contained, or "simple policy s and combination q, both counted from 1 and the first to fail in that order"
+-- SPECIFICATION 7.5: contained, or term s and combination q, both counted from 1 and the first to fail in that order
 pub data Decision : Type 0 where
   contained : Decision
   escapes : ℕ → ℕ → Form → Decision
@@ -85,6 +86,6 @@ decideFrom K Q s (p ∷ P) = let rest = decideFrom K Q (suc s) P in orEscape s (
 unfoldable pub decide : Vocabulary → Policy → Policy → Decision
 decide K P Q = decideFrom K Q 1 P
 
--- "22: some possible simple policy of the first has over 65,536 combinations, wherever it stands."
+-- 22 (SPECIFICATION 9.6): a possible term of the first, wherever it stands, has too many combinations
 unfoldable pub tooMany : Vocabulary → Policy → Policy → Bool
 tooMany K P Q = any (λ p. possible K p && ltb mostCombinations (combinationCount Q (normalForm K p))) P

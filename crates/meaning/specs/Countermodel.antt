@@ -1,4 +1,4 @@
--- Document 01, "The countermodel is the canonical model of Definition 2": its facts in their order, and the words written.
+-- SPECIFICATION 8.4, Bonatti, Definition 2: the canonical model of a combination, its facts in their order, and the words written.
 use Prim.Native.Nat.{_+_, suc, ℕ}
 use mathlib.Core.Bool.{Bool, _&&_, _||_, cond}
 use mathlib.Core.List.{List, [], _++_, _∷_, map}
@@ -10,7 +10,7 @@ use Rattle.meaning.specs.NormalForm.{Form, Node, Successors, none, succe
 use Rattle.meaning.specs.Stated.{isBelow}
 use Rattle.meaning.specs.Vocabulary.{Vocabulary}
 
--- "Individuals are numbered from 1, parent first, then each child's subtree in place order."
+-- how many individuals there are, numbered as in SPECIFICATION 6.2
 abbrev pub size : Successors → ℕ
 size none = 0
 size (successor r n under next) = 1 + size under + size next
@@ -18,11 +18,11 @@ size (successor r n under next) = 1 + size under + size next
 abbrev pub individuals : Form → ℕ
 individuals t = suc (size (t .successors))
 
--- "classes closed upward", "classes rising": of the classes those above one of the individual's
+-- the classes above one of the individual's, rising
 abbrev pub classesAbove : Vocabulary → Node → List ℕ
 classesAbove K n = filter (λ b. any (λ c. isBelow K c b) (n .classes)) (counting 1 (K .classes))
 
--- "(feature, value) pairs rising, no repeats"
+-- the pairs of a feature and a value, rising, each once
 abbrev pub samePair : Constraint → Constraint → Bool
 samePair s t = eqb (s .feature) (t .feature) && eqb (valueOf s) (valueOf t)
 
@@ -37,7 +37,7 @@ abbrev pub pairs : List Constraint → List Constraint
 pairs [] = []
 pairs (s ∷ l) = insertPair s (pairs l)
 
--- "edges by target": individual i's successors have the numbers from k on
+-- the edges by target: individual i's successors have the numbers from k on
 abbrev pub edges : Successors → ℕ → ℕ → List Fact
 edges none i k = []
 edges (successor r n under next) i k = edge r i k ∷ edges next i (suc k + size under)
@@ -53,8 +53,7 @@ recordsBelow K none k = []
 recordsBelow K (successor r n under next) k =
     recordsOf K n under k ++ (recordsBelow K under (suc k) ++ recordsBelow K next (suc k + size under))
 
--- the canonical model of a combination: "For each individual in turn: classes rising; (feature, value) pairs rising, no
--- repeats; edges by target."
+-- the canonical model of a combination: for each individual in turn its classes, its pairs, its edges
 unfoldable pub canonicalModel : Vocabulary → Form → List Fact
 canonicalModel K t = recordsOf K (t .node) (t .successors) 1 ++ recordsBelow K (t .successors) 2
 

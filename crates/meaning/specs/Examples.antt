@@ -1,4 +1,4 @@
--- Document 01, "The consent desk's examples": the starred ones as one table, from words to answers and printed bytes.
+-- SPECIFICATION 11, the consent desk's examples: `starred` is one table, from words to answers and printed bytes.
 use Prim.Native.Nat.{_%_, _/_, suc, zero, ℕ}
 use Prim.Native.String.{String}
 use mathlib.Core.List.{List, [], _++_, _∷_, map}
@@ -25,8 +25,7 @@ five a b c d e rest = a ∷ four b c d e rest
 abbrev six : ℕ → ℕ → ℕ → ℕ → ℕ → ℕ → List ℕ → List ℕ
 six a b c d e f rest = a ∷ five b c d e f rest
 
--- "classes 1 to 4, roles 1 to 3, feature 1; 2 below 1, 4 below 1, 4 below 3; 1 and 3 disjoint; roles 1, 2 and feature 1
--- functional; role 3 has range 1"
+-- SPECIFICATION 11.1: the desk's vocabulary
 abbrev pub desk : List ℕ
 desk =
     four 4 3 1 1
@@ -51,7 +50,7 @@ loose =
     (four 3 2 0 7
     (four 5 3 1 0 [])))))))
 
--- "R1.C means role 1 reaching C": role r reaching class c
+-- role r reaching class c; R1.2 is `reaching 1 2`
 abbrev reaching : ℕ → ℕ → List ℕ
 reaching r c = six 1 0 0 0 0 0 (six 5 0 0 0 2 0 (six 3 r 0 0 3 0 (six 1 c 0 0 0 0 [])))
 
@@ -83,14 +82,14 @@ spanOr lo hi lo′ hi′ =
 abbrev spanWith : ℕ → ℕ → ℕ → ℕ → List ℕ
 spanWith lo hi lo′ hi′ = six 1 0 0 0 0 0 (six 5 0 0 0 2 0 (six 4 1 lo hi 0 3 (six 4 1 lo′ hi′ 0 0 [])))
 
--- "A policy with no simple policy", and "one whose only term is empty"
+-- the policy with no term, and the one whose only term is empty
 abbrev nobody : List ℕ
 nobody = six 0 0 0 0 0 0 []
 
 abbrev everybody : List ℕ
 everybody = six 1 0 0 0 0 0 (six 5 0 0 0 0 0 [])
 
--- "each policy above"
+-- each policy above
 abbrev policies : List (List ℕ)
 policies =
     reaching 1 2
@@ -123,7 +122,7 @@ pub data Example : Type 0 where
 abbrev lines : List String → List ℕ
 lines ts = flatMap (λ t. bytes t ++ (10 ∷ [])) ts
 
--- "little-endian words .. each a word count and its words"
+-- the bytes of a word, and of the three parts
 abbrev wordBytes : ℕ → List ℕ
 wordBytes w = four (w % 256) (w / 256 % 256) (w / 65536 % 256) (w / 16777216) []
 

@@ -1,16 +1,16 @@
--- Intervals, "from lo to hi, both ends included": all that is asked of one, and of a constraint, which is one on a feature.
+-- Intervals lo..hi, both ends included: all that is asked of one, and of a constraint, which is one on a feature.
 use Prim.Native.Nat.{_<_, _≤_, max, min, ℕ}
 use mathlib.Core.Bool.{Bool, _&&_}
 use lib.Dec.{leb}
 
--- v is "a value from lo to hi, both ends included"
+-- SPECIFICATION 5.3: v is in lo..hi
 abbrev pub Within : ℕ → ℕ → ℕ → Type 0
 Within lo hi v = (lo ≤ v) × (v ≤ hi)
 
 abbrev pub isWithin : ℕ → ℕ → ℕ → Bool
 isWithin lo hi v = leb lo v && leb v hi
 
--- "lo greater than hi is legal and impossible"
+-- SPECIFICATION 4.5: lo greater than hi is legal, and no value is in it
 abbrev pub Empty : ℕ → ℕ → Type 0
 Empty lo hi = hi < lo
 
@@ -34,6 +34,6 @@ pub record Constraint : Type 0 where
 abbrev pub meet : Constraint → Constraint → Constraint
 meet s t = record { feature = s .feature; lo = max (s .lo) (t .lo); hi = min (s .hi) (t .hi) }
 
--- "each piece's upper end as value"
+-- SPECIFICATION 8.4: the value of a piece in the countermodel is its upper end
 unfoldable pub valueOf : Constraint → ℕ
 valueOf s = s .hi

@@ -1,4 +1,4 @@
--- The definitions, in the order of document 01.
+-- The definitions, in the order of docs/SPECIFICATION.md; "SPECIFICATION 4.2" is a section of it.
 pub mod Lists
 pub mod Limits
 pub mod Records

@@ -1,7 +1,7 @@
--- Document 01's limits, each under one name; src/limits.rt has them for the code.
+-- The limits (SPECIFICATION 12), each under one name; src/limits.rt has them for the code.
 use Prim.Native.Nat.{ℕ}
 
--- "class count N (1 to 256), role count R (0 to 64), feature count F (0 to 64)"
+-- names of each series
 abbrev pub mostClasses : ℕ
 mostClasses = 256
 
@@ -11,25 +11,25 @@ mostRoles = 64
 abbrev pub mostFeatures : ℕ
 mostFeatures = 64
 
--- a vocabulary: "At most 1,024 records follow the header", "over 4,100 words"
+-- a vocabulary: records behind the header, and words in all
 abbrev pub mostAxioms : ℕ
 mostAxioms = 1024
 
 abbrev pub mostVocabularyWords : ℕ
 mostVocabularyWords = 4100
 
--- a policy: "At most 512 records follow", "over 3,078"
+-- a policy: records behind the header, and words in all
 abbrev pub mostRecords : ℕ
 mostRecords = 512
 
 abbrev pub mostPolicyWords : ℕ
 mostPolicyWords = 3078
 
--- "the deepest is 16"
+-- the depth of a conjunct
 abbrev pub mostDepth : ℕ
 mostDepth = 16
 
--- a model: "individuals outside 1 to 512", "over 700,005", which leaves room for 140,000 records
+-- a model: individuals, records behind the header, and words in all
 abbrev pub mostIndividuals : ℕ
 mostIndividuals = 512
 
@@ -39,15 +39,15 @@ mostFacts = 140000
 abbrev pub mostModelWords : ℕ
 mostModelWords = 700005
 
--- "over 65,536 combinations"
+-- combinations of a possible term
 abbrev pub mostCombinations : ℕ
 mostCombinations = 65536
 
--- "A work slice is full from 16,384 words on"
+-- a work slice is full from so many words on
 abbrev pub workSize : ℕ
 workSize = 16384
 
--- the program: "an output of 16,384 words", "Input over 65,536 bytes"
+-- the program: the words of its output slice, and the bytes of its longest input
 abbrev pub outputSize : ℕ
 outputSize = 16384
 

@@ -1,4 +1,4 @@
--- Document 01, "Model check": what is decided of the interpretation that a model's facts stand for.
+-- SPECIFICATION 9.8: what Model check decides of the interpretation that a model's facts stand for.
 use Prim.Native.Nat.{ℕ}
 use mathlib.Core.Bool.{Bool, _&&_, _||_, false, not, true}
 use mathlib.Core.List.{List}
@@ -61,6 +61,6 @@ obeys F (range r c) = all (onEdge r (λ i j. any (isMember c j) F)) F
 abbrev pub isModel : List Fact → Vocabulary → Bool
 isModel F K = all (obeys F) (K .axioms)
 
--- demand 2: "it satisfies the vocabulary and its first individual is in the policy and outside the consent"
+-- it satisfies the vocabulary, and individual 1 is in the first policy and outside the second
 unfoldable pub refutes : List Fact → Vocabulary → Policy → Policy → Bool
 refutes F K P Q = isModel F K && (isIn F P 1 && not (isIn F Q 1))

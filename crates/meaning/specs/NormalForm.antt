@@ -1,4 +1,4 @@
--- Document 01, "Normal form is by Table 1's seven rules", and source document 004, Table 1.
+-- SPECIFICATION 6: normal form, by the seven rules of Bonatti, Table 1.
 use Prim.Native.Nat.{ℕ}
 use mathlib.Core.Bool.{Bool, _&&_, _||_, cond, false, not, true}
 use mathlib.Core.List.{List, [], _∷_}
@@ -19,13 +19,13 @@ pub data Successors : Type 0 where
   none : Successors
   successor : ℕ → Node → Successors → Successors → Successors
 
--- a normal form: "parent first, then each child's subtree in place order" is the order of the constructors
+-- a normal form: the order of its individuals' numbers, SPECIFICATION 6.2, is the order of the constructors
 pub record Form : Type 0 where
   pub node : Node
   pub successors : Successors
 
--- rule 5: "Merged functional conjuncts stand at the first one's place"; "Equal conjuncts of a .. feature that is not functional stay
--- separate."
+-- SPECIFICATION 6.3, rule 5: constraints on a functional feature are merged at the first one's place; those on another stay
+-- separate
 abbrev pub placeConstraint : Bool → Constraint → List Constraint → List Constraint
 placeConstraint one s [] = s ∷ []
 placeConstraint one s (t ∷ l) = cond (one && eqb (t .feature) (s .feature)) (meet t s ∷ l) (t ∷ placeConstraint one s l)
@@ -33,8 +33,8 @@ placeConstraint one s (t ∷ l) = cond (one && eqb (t .feature) (s .feature)) (m
 abbrev pub graft : ℕ → Form → Successors → Successors
 graft r t next = successor r (t .node) (t .successors) next
 
--- rule 4: `grow` adds the inner conjuncts to the first individual by r where r is functional, "the first's inner conjuncts
--- before the second's", else to a new one
+-- rule 4: `grow` adds the inner conjuncts to the first individual by r where r is functional, behind those that it has, else to a
+-- new one
 abbrev pub placeSuccessor : Bool → ℕ → Form → (Form → Form) → Successors → Successors
 placeSuccessor one r fresh grow none = graft r (grow fresh) none
 placeSuccessor one r fresh grow (successor q n under next) =
@@ -61,7 +61,7 @@ withSuccessor K r grow t = record {
   successors = placeSuccessor (isFunctionalRole K r) r (bare (ranges K r)) grow (t .successors);
 }
 
--- the conjuncts of a chain, one after another, added to a form
+-- SPECIFICATION 6.3: the conjuncts of a chain, one after another, added to a form
 abbrev pub add : Vocabulary → Chain → Form → Form
 add K end t = t
 add K (class a next) t = add K next (withClass a t)
@@ -84,11 +84,11 @@ hasBottom (interval f lo hi next) = hasBottom next
 abbrev pub clash : Vocabulary → ℕ → ℕ → Bool
 clash K a b = any (λ p. isBelow K a (p .0) && isBelow K b (p .1)) (disjointPairs K)
 
--- rule 3 at no constraint: "lo greater than hi is legal and impossible"
+-- rule 3 at no constraint: none has lo greater than hi
 abbrev pub areNonEmpty : List Constraint → Bool
 areNonEmpty l = all (λ s. isNonEmpty (s .lo) (s .hi)) l
 
--- rule 7 at no two classes: "Rule 7 also takes one class twice"
+-- rule 7 at no two classes, and at none that is taken twice
 abbrev pub compatible : Vocabulary → List ℕ → Bool
 compatible K l = all (λ a. all (λ b. not (clash K a b)) l) l
 
@@ -99,7 +99,7 @@ abbrev pub cleanSuccessors : Vocabulary → Successors → Bool
 cleanSuccessors K none = true
 cleanSuccessors K (successor r n under next) = cleanNode K n && (cleanSuccessors K under && cleanSuccessors K next)
 
--- "possible when its normal form is not impossible"
+-- SPECIFICATION 6.4: the term is possible
 unfoldable pub possible : Vocabulary → Chain → Bool
 possible K p =
     not (hasBottom p) && (cleanNode K (normalForm K p .node) && cleanSuccessors K (normalForm K p .successors))

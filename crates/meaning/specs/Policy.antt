@@ -1,4 +1,4 @@
--- Document 01, "The policy": its records, what Read policy refuses, and the terms that an accepted table states.
+-- SPECIFICATION 4 and 9.3: a policy's records, what Read policy refuses, and the terms that an accepted table states.
 use Prim.Native.Nat.{_*_, _+_, suc, zero, ℕ}
 use mathlib.Core.Bool.{Bool, _&&_, cond}
 use mathlib.Core.List.{List, [], _∷_}
@@ -9,8 +9,7 @@ use Rattle.meaning.specs.Lists.{any}
 use Rattle.meaning.specs.Records.{isName, isOnward, isSized, lastOf, listAlong}
 use Rattle.meaning.specs.Vocabulary.{classCount, featureCount, roleCount}
 
--- A chain of conjuncts: a record, its child chain, its next. "Kinds: .. 1, class a; 2, the impossible concept;
--- 3, role a reaches an individual in child; 4, feature a has a value from lo to hi, both ends included."
+-- SPECIFICATION 4.2: a chain of conjuncts, each a record with its child chain and its next, kinds 1 to 4
 pub data Chain : Type 0 where
   end : Chain
   class : ℕ → Chain → Chain
@@ -18,11 +17,11 @@ pub data Chain : Type 0 where
   some : ℕ → Chain → Chain → Chain
   interval : ℕ → ℕ → ℕ → Chain → Chain
 
--- a policy is its terms, document 01's simple policies, each the chain of its conjuncts: "A header link of 0 means no individual."
+-- a policy is its terms, each the chain of its conjuncts; there is none where the header's link is 0 (SPECIFICATION 4.5)
 abbrev pub Policy : Type 0
 Policy = List Chain
 
--- "Records have 6 words: kind, a, lo, hi, child, next"
+-- SPECIFICATION 4.2: the words of record k
 abbrev pub kindOf : List ℕ → ℕ → ℕ
 kindOf p k = getD p (6 * k) 0
 
@@ -41,7 +40,7 @@ childOf p k = getD p (6 * k + 4) 0
 abbrev pub nextOf : List ℕ → ℕ → ℕ
 nextOf p k = getD p (6 * k + 5) 0
 
--- "the header's word 0 is the first simple policy and its other words are 0"
+-- SPECIFICATION 4.1: the header
 abbrev pub firstTerm : List ℕ → ℕ
 firstTerm p = getD p 0 0
 
@@ -50,8 +49,7 @@ headedPolicy p =
     leb (firstTerm p) (lastOf 6 p)
     && (eqb (getD p 1 0) 0 && (eqb (getD p 2 0) 0 && (eqb (getD p 3 0) 0 && (eqb (getD p 4 0) 0 && eqb (getD p 5 0) 0))))
 
--- "Fields a kind does not use are 0. Kind 5 stands only in the header's chain, the others only below."
--- Depth 0 is the header's chain
+-- SPECIFICATION 4.2 and 4.3: a record's kind, name and zeros, at a depth; depth 0 is the header's chain
 abbrev pub recordFits : List ℕ → List ℕ → ℕ → ℕ → Bool
 recordFits v p depth k =
     cond (eqb depth 0) (eqb (kindOf p k) 5 && (eqb (nameOf p k) 0 && (eqb (loOf p k) 0 && eqb (hiOf p k) 0)))
@@ -60,7 +58,7 @@ recordFits v p depth k =
     (cond (eqb (kindOf p k) 3) (isName (roleCount v) (nameOf p k) && (eqb (loOf p k) 0 && eqb (hiOf p k) 0))
     (eqb (kindOf p k) 4 && (isName (featureCount v) (nameOf p k) && eqb (childOf p k) 0)))))
 
--- "Child and next follow the vocabulary's link rule"
+-- and both links, as in SPECIFICATION 2.3
 abbrev pub soundRecord : List ℕ → List ℕ → ℕ → ℕ → Bool
 soundRecord v p depth k =
     recordFits v p depth k && (isOnward (lastOf 6 p) k (childOf p k) && isOnward (lastOf 6 p) k (nextOf p k))
@@ -74,9 +72,8 @@ abbrev pub onward : Walk → (List ℕ → Walk) → Walk
 onward (reached seen) go = go seen
 onward (fault n) go = fault n
 
--- "The walk visits a record, then its child chain, then its next." "the walk's first fault, at one record in the order
--- 7, 6, 8. 7: reached before. 6: kind, name, zero or link. 8: depth 17."
--- From record k on, at a depth, with the records reached before
+-- SPECIFICATION 4.4: a record, then its child chain, then its next; at one record 7, reached before, then 6, not sound, then 8, too
+-- deep. From record k on, at a depth, with the records reached before
 unfoldable pub walk : ℕ → List ℕ → List ℕ → ℕ → ℕ → List ℕ → Walk
 walk zero v p depth k seen = reached seen
 walk (suc f) v p depth k seen =
@@ -91,15 +88,14 @@ abbrev pub faultOf : Walk → ℕ
 faultOf (reached seen) = 0
 faultOf (fault n) = n
 
--- "4: length not a multiple of 6, under 6 or over 3,078. 5: header link past the last record, or another header word not 0.
--- Then the walk's first fault". The first refusal of Read policy; 0 is none
+-- 4: the length; then 5, the header; then the walk's first fault. The first refusal of Read policy (SPECIFICATION 9.3); 0 is none
 unfoldable pub policyRefusal : List ℕ → List ℕ → ℕ
 policyRefusal v p =
     let walked = faultOf (walk (length p) v p 0 (firstTerm p) []) in
     let header = cond (headedPolicy p) walked 5 in
     cond (isSized 6 mostPolicyWords (length p)) header 4
 
--- "For a second policy these are 14 to 18."
+-- SPECIFICATION 9.4: a second policy's numbers are 14 to 18
 abbrev pub secondRefusal : ℕ → ℕ
 secondRefusal zero = 0
 secondRefusal (suc n) = 10 + suc n

@@ -1,4 +1,4 @@
--- Document 01, "The program", as a function from the bytes of standard input to the bytes printed.
+-- SPECIFICATION 10: the program, as a function from the bytes of standard input to the bytes printed.
 use Prim.Native.Char.{code}
 use Prim.Native.Nat.{_%_, _*_, _+_, _/_, suc, zero, ℕ}
 use Prim.Native.String.{String, [] as []ˢ, _∷_ as _∷ˢ_}
@@ -12,14 +12,14 @@ use Rattle.meaning.specs.Lists.{counting, flatMap}
 use Rattle.meaning.specs.Model.{Fact, edge, factsOf, member, value}
 use Rattle.meaning.specs.Operations.{Outcome, compliance}
 
--- "little-endian words": word i of the input
+-- word i of the input, its least significant byte first
 abbrev pub wordAt : List ℕ → ℕ → ℕ
 wordAt b i = getD b (4 * i) 0 + 256 * getD b (4 * i + 1) 0 + 65536 * getD b (4 * i + 2) 0 + 16777216 * getD b (4 * i + 3) 0
 
 abbrev pub wordsOf : List ℕ → List ℕ
 wordsOf b = map (wordAt b) (counting 0 (length b / 4))
 
--- "three parts (vocabulary, two policies), each a word count and its words": the part that begins at word i, and where the next begins
+-- SPECIFICATION 10.1: the part that begins at word i with its word count, and where the next begins
 abbrev pub partAt : List ℕ → ℕ → List ℕ
 partAt ws i = take (getD ws i 0) (drop (suc i) ws)
 
@@ -44,24 +44,23 @@ abbrev pub line : List ℕ → List ℕ → List ℕ
 line name [] = name ++ (10 ∷ [])
 line name (n ∷ l) = line (name ++ (32 ∷ decimal n)) l
 
--- "compliant", "refused n" or "outside s q"
+-- SPECIFICATION 10.3: the first line
 abbrev pub answerLine : Answer VerdictResult → List ℕ
 answerLine (refused n) = line (bytes "refused") (n ∷ [])
 answerLine (result compliant) = line (bytes "compliant") []
 answerLine (result (outside s q n)) = line (bytes "outside") (s ∷ (q ∷ []))
 
--- "member class individual", "edge role from to", "value feature individual value"
+-- SPECIFICATION 10.3: the line of a record
 abbrev pub factLine : Fact → List ℕ
 factLine (member a i) = line (bytes "member") (a ∷ (i ∷ []))
 factLine (edge r i j) = line (bytes "edge") (r ∷ (i ∷ (j ∷ [])))
 factLine (value f i v) = line (bytes "value") (f ∷ (i ∷ (v ∷ [])))
 
--- "with one line a record"
+-- the whole text
 unfoldable pub printed : Outcome VerdictResult → List ℕ
 printed r = answerLine (r .answer) ++ flatMap factLine (factsOf (r .words))
 
--- "It decides compliance with an output of 16,384 words." "Input over 65,536 bytes, cut short or followed by more is
--- "refused 40", before any other number."
+-- SPECIFICATION 10.1 and 10.2: 40 before any other number, then Compliance
 unfoldable pub program : List ℕ → List ℕ
 program b =
     let ws = wordsOf b in

@@ -1,4 +1,4 @@
--- What the answers promise: the statements that proofs/ proves of the operations' definitions.
+-- SPECIFICATION 9.10, what the answers promise: the statements that proofs/ proves of the operations' definitions.
 use Prim.Native.Nat.{_≤_, suc, ℕ}
 use mathlib.Core.Bool.{Bool, not}
 use mathlib.Core.List.{List, _++_, _∷_}

@@ -1,4 +1,4 @@
--- What the three tables of records share: names, links, lengths, and refusals in order.
+-- SPECIFICATION 2, what the tables share: names, links, lengths, and refusals in order.
 use Prim.Native.Nat.{_%_, _-_, _/_, _<_, _≤_, suc, zero, ℕ}
 use mathlib.Core.Bool.{Bool, _&&_, _||_, cond}
 use mathlib.Core.List.{List, [], _∷_}
@@ -7,25 +7,25 @@ use mathlib.Core.Path.{_≡_}
 use lib.Dec.{eqb, leb, ltb}
 use lib.ListN.{length}
 
--- "Class, role and feature numbers are three separate series, each from 1": x is a name of a series with so many
+-- SPECIFICATION 2.2: x is a name of a series with so many
 abbrev pub Name : ℕ → ℕ → Type 0
 Name count x = (1 ≤ x) × (x ≤ count)
 
 abbrev pub isName : ℕ → ℕ → Bool
 isName count x = leb 1 x && leb x count
 
--- "Zero ends the chain; any other next is greater than its record's own number and at most the last record."
+-- SPECIFICATION 2.3: record k may link to next, where 0 ends the chain
 abbrev pub Onward : ℕ → ℕ → ℕ → Type 0
 Onward last k next = (next ≡ 0) ⊎ ((k < next) × (next ≤ last))
 
 abbrev pub isOnward : ℕ → ℕ → ℕ → Bool
 isOnward last k next = eqb next 0 || (ltb k next && leb next last)
 
--- "length not a multiple of .., under .. or over ..": records of so many words, a header among them
+-- n words are whole records of so many words, a header among them, and at most so many in all
 abbrev pub isSized : ℕ → ℕ → ℕ → Bool
 isSized width most n = eqb (n % width) 0 && (leb width n && leb n most)
 
--- the number of the last record: the header is record 0
+-- SPECIFICATION 2.1: the number of the last record; the header is record 0
 abbrev pub lastOf : ℕ → List ℕ → ℕ
 lastOf width l = length l / width - 1
 
@@ -53,7 +53,7 @@ refusalAlong r next sound (suc f) k =
     let this = cond (sound k) rest r in
     cond (eqb k 0) 0 this
 
--- "the first refusal in document 01's order"; 0 is none
+-- the first refusal in an operation's order (SPECIFICATION 9.1); 0 is none
 abbrev pub orElse : ℕ → ℕ → ℕ
 orElse zero later = later
 orElse (suc n) later = suc n

@@ -1,4 +1,4 @@
--- Document 01, "Splitting": X, the pieces of a constraint, and the combinations of a normal form.
+-- SPECIFICATION 7.1 to 7.3: X, the pieces of a constraint, and the combinations of a normal form.
 use Prim.Native.Nat.{_*_, _+_, _<_, pred, suc, ℕ}
 use mathlib.Core.Bool.{cond}
 use mathlib.Core.List.{List, [], _++_, _∷_, map}
@@ -35,7 +35,7 @@ abbrev pub insertAll : List ℕ → List ℕ → List ℕ
 insertAll [] l = l
 insertAll (e ∷ es) l = insertAll es (insert e l)
 
--- "let X be lo, hi and every end, between them, of a constraint on f anywhere in the second policy as given"
+-- SPECIFICATION 7.1: X, which is lo, hi and every end between them of the second policy as given
 abbrev pub points : Policy → Constraint → List ℕ
 points Q s =
     insertAll (filter (isWithin (s .lo) (s .hi)) (flatMap (ends (s .feature)) Q)) (insert (s .hi) (s .lo ∷ []))
@@ -47,7 +47,7 @@ only f x = record { feature = f; lo = x; hi = x }
 abbrev pub gap : ℕ → ℕ → ℕ → List Constraint
 gap f x y = cond (ltb (suc x) y) (record { feature = f; lo = suc x; hi = pred y } ∷ []) []
 
--- "The pieces are each member of X and each non-empty gap between neighbours in X, rising."
+-- SPECIFICATION 7.2: the members of X and the gaps between neighbours, rising
 abbrev pub piecesFrom : ℕ → ℕ → List ℕ → List Constraint
 piecesFrom f x [] = only f x ∷ []
 piecesFrom f x (y ∷ l) = only f x ∷ (gap f x y ++ piecesFrom f y l)
@@ -59,7 +59,7 @@ piecesAt f (x ∷ l) = piecesFrom f x l
 abbrev pub pieces : Policy → Constraint → List Constraint
 pieces Q s = piecesAt (s .feature) (points Q s)
 
--- "the neighbours that differ by 2 or more" in x ∷ l, and in a list
+-- how many neighbours differ by 2 or more, in x ∷ l and in a list
 abbrev pub wide : ℕ → List ℕ → ℕ
 wide x [] = 0
 wide x (y ∷ l) = cond (leb (suc (suc x)) y) 1 0 + wide y l
@@ -68,7 +68,7 @@ abbrev pub wideNeighbours : List ℕ → ℕ
 wideNeighbours [] = 0
 wideNeighbours (x ∷ l) = wide x l
 
--- "the choices of one piece per constraint, the last varying fastest"
+-- SPECIFICATION 7.3: the choices of one piece for each constraint, the last varying fastest
 abbrev pub choices : Policy → List Constraint → List (List Constraint)
 choices Q [] = [] ∷ []
 choices Q (s ∷ l) = flatMap (λ p. map (λ r. p ∷ r) (choices Q l)) (pieces Q s)
@@ -81,12 +81,12 @@ splitSuccessors Q none = none ∷ []
 splitSuccessors Q (successor r n under next) =
     flatMap (λ m. flatMap (λ bs. map (λ ns. successor r m bs ns) (splitSuccessors Q next)) (splitSuccessors Q under)) (splitNode Q n)
 
--- "A simple policy's combinations": a combination is again a form, with pieces for constraints
+-- SPECIFICATION 7.3: a term's combinations; a combination is again a form, with pieces for constraints
 unfoldable pub combinations : Policy → Form → List Form
 combinations Q t =
     flatMap (λ n. map (λ ns. record { node = n; successors = ns }) (splitSuccessors Q (t .successors))) (splitNode Q (t .node))
 
--- "Constraints go by individual, then by place in the walk."
+-- SPECIFICATION 7.3: the constraints by individual, then by place
 abbrev pub constraintsBelow : Successors → List Constraint
 constraintsBelow none = []
 constraintsBelow (successor r n under next) = n .constraints ++ (constraintsBelow under ++ constraintsBelow next)

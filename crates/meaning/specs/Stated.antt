@@ -1,5 +1,5 @@
--- What a vocabulary states, by kind. Whatever asks a vocabulary asks these; only reading it, what an interpretation obeys, and the
--- model check look at an axiom's kind themselves.
+-- SPECIFICATION 3.2 and 6.1: what a vocabulary states, by kind. Whatever asks a vocabulary asks these; only reading it, what an
+-- interpretation obeys, and the model check look at an axiom's kind themselves.
 use Prim.Native.Nat.{ℕ}
 use mathlib.Core.Bool.{Bool, _&&_, _||_, cond}
 use mathlib.Core.List.{List, [], _∷_}
@@ -7,7 +7,7 @@ use lib.Dec.{eqb}
 use Rattle.meaning.specs.Lists.{any, flatMap}
 use Rattle.meaning.specs.Vocabulary.{Axiom, Vocabulary, below, disjoint, functionalFeature, functionalRole, range}
 
--- "class a is below class b"
+-- kind 1: a is below b
 abbrev pub subclass : Axiom → List (ℕ × ℕ)
 subclass (below a b) = (a, b) ∷ []
 subclass (disjoint a b) = []
@@ -18,7 +18,7 @@ subclass (range r c) = []
 unfoldable pub subclasses : Vocabulary → List (ℕ × ℕ)
 subclasses K = flatMap subclass (K .axioms)
 
--- "classes a and b share no individual"
+-- kind 2: a and b share no individual
 abbrev pub disjointPair : Axiom → List (ℕ × ℕ)
 disjointPair (below a b) = []
 disjointPair (disjoint a b) = (a, b) ∷ []
@@ -29,7 +29,7 @@ disjointPair (range r c) = []
 unfoldable pub disjointPairs : Vocabulary → List (ℕ × ℕ)
 disjointPairs K = flatMap disjointPair (K .axioms)
 
--- "role a is functional"
+-- kind 3: role a is functional
 abbrev pub functionalRoleName : Axiom → List ℕ
 functionalRoleName (below a b) = []
 functionalRoleName (disjoint a b) = []
@@ -40,7 +40,7 @@ functionalRoleName (range r c) = []
 unfoldable pub functionalRoles : Vocabulary → List ℕ
 functionalRoles K = flatMap functionalRoleName (K .axioms)
 
--- "feature a is functional"
+-- kind 4: feature a is functional
 abbrev pub functionalFeatureName : Axiom → List ℕ
 functionalFeatureName (below a b) = []
 functionalFeatureName (disjoint a b) = []
@@ -51,7 +51,7 @@ functionalFeatureName (range r c) = []
 unfoldable pub functionalFeatures : Vocabulary → List ℕ
 functionalFeatures K = flatMap functionalFeatureName (K .axioms)
 
--- "every value of role a is in class b"
+-- kind 5: b is a range of role a
 abbrev pub rangePair : Axiom → List (ℕ × ℕ)
 rangePair (below a b) = []
 rangePair (disjoint a b) = []
@@ -67,7 +67,7 @@ abbrev pub closure : List (ℕ × ℕ) → ℕ → ℕ → Bool
 closure [] a b = eqb a b
 closure ((x, y) ∷ l) a b = closure l a b || (closure l a x && closure l y b)
 
--- ⊑*, "the reflexive and transitive closure" of the records of kind 1
+-- ⊑*, the reflexive and transitive closure of the records of kind 1
 unfoldable pub isBelow : Vocabulary → ℕ → ℕ → Bool
 isBelow K a b = closure (subclasses K) a b
 

@@ -1,4 +1,4 @@
--- Source document 004, Algorithm 1: structural subsumption of a normal form by a term.
+-- SPECIFICATION 7.4, Bonatti, Algorithm 1: structural subsumption of a normal form by a term.
 use Prim.Native.Nat.{ℕ}
 use mathlib.Core.Bool.{Bool, _&&_, _||_, false, true}
 use lib.Dec.{eqb}

@@ -1,4 +1,4 @@
--- Source document 004, Table 1: when one of its rules, given by its number, applies somewhere in a form.
+-- Bonatti, Table 1: when one of its rules, given by its number, applies somewhere in a form.
 -- Rules 1, ⊥ ⊓ D ⇝ ⊥, and 2, ∃R.⊥ ⇝ ⊥, are of the impossible concept, which no form holds: `possible` refuses a term that has it.
 use Prim.Native.Nat.{ℕ}
 use mathlib.Core.Bool.{Bool, _||_}
@@ -24,7 +24,7 @@ pub data AppliesAt (K : Vocabulary) : ℕ → Node → Type 0 where
   -- 5: [l₁, u₁](f) ⊓ [l₂, u₂](f) ⊓ D ⇝ [max(l₁, l₂), min(u₁, u₂)](f) ⊓ D if func(f) ∈ K
   rule5 : {n : Node} {f : ℕ} → T (isFunctionalFeature K f) → Two (λ s t. (f ≡ s .feature) × (f ≡ t .feature)) (n .constraints) →
       AppliesAt K 5 n
-  -- 7: A₁ ⊓ A₂ ⊓ D ⇝ ⊥ if A₁ ⊑* A₁′, A₂ ⊑* A₂′ and disj(A₁′, A₂′) ∈ K; "Rule 7 also takes one class twice"
+  -- 7: A₁ ⊓ A₂ ⊓ D ⇝ ⊥ if A₁ ⊑* A₁′, A₂ ⊑* A₂′ and disj(A₁′, A₂′) ∈ K; one class may be taken twice (SPECIFICATION 6.5)
   rule7 : {n : Node} {x y : ℕ} → (x, y) ∈ disjointPairs K →
       Any (λ a. T (isBelow K a x)) (n .classes) → Any (λ b. T (isBelow K b y)) (n .classes) → AppliesAt K 7 n
 

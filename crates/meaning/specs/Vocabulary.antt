@@ -1,4 +1,4 @@
--- Document 01, "The vocabulary": its records, what Read vocabulary refuses, and the axioms that an accepted table states.
+-- SPECIFICATION 3 and 9.2: a vocabulary's records, what Read vocabulary refuses, and the axioms that an accepted table states.
 use Prim.Native.Nat.{_*_, _+_, ℕ}
 use mathlib.Core.Bool.{Bool, _&&_, cond}
 use mathlib.Core.List.{List}
@@ -7,8 +7,7 @@ use lib.ListN.{getD, length}
 use Rattle.meaning.specs.Limits.{mostClasses, mostFeatures, mostRoles, mostVocabularyWords}
 use Rattle.meaning.specs.Records.{isName, isOnward, isSized, lastOf, listAlong, refusalAlong}
 
--- "Kinds: 1, class a is below class b; 2, classes a and b share no individual; 3, role a is functional;
--- 4, feature a is functional; 5, every value of role a is in class b."
+-- SPECIFICATION 3.2: what a record states, kinds 1 to 5
 pub data Axiom : Type 0 where
   below : ℕ → ℕ → Axiom
   disjoint : ℕ → ℕ → Axiom
@@ -23,7 +22,7 @@ pub record Vocabulary : Type 0 where
   pub features : ℕ
   pub axioms : List Axiom
 
--- "Record k starts at word 4k: kind, a, b, next."
+-- SPECIFICATION 3.2: the words of record k
 abbrev pub axiomKind : List ℕ → ℕ → ℕ
 axiomKind v k = getD v (4 * k) 0
 
@@ -36,7 +35,7 @@ axiomRight v k = getD v (4 * k + 2) 0
 abbrev pub axiomNext : List ℕ → ℕ → ℕ
 axiomNext v k = getD v (4 * k + 3) 0
 
--- "Record 0 is the header: class count N (1 to 256), role count R (0 to 64), feature count F (0 to 64), first record."
+-- SPECIFICATION 3.1: the words of the header
 abbrev pub classCount : List ℕ → ℕ
 classCount v = getD v 0 0
 
@@ -49,7 +48,7 @@ featureCount v = getD v 2 0
 abbrev pub firstAxiom : List ℕ → ℕ
 firstAxiom v = getD v 3 0
 
--- a record's kind, names and zeros: "In kinds 3 and 4, b is 0."
+-- SPECIFICATION 3.2: a record's kind, names and zeros
 abbrev pub axiomFits : List ℕ → ℕ → Bool
 axiomFits v k =
     cond (eqb (axiomKind v k) 1) (isName (classCount v) (axiomLeft v k) && isName (classCount v) (axiomRight v k))
@@ -61,18 +60,17 @@ axiomFits v k =
 abbrev pub soundAxiom : List ℕ → ℕ → Bool
 soundAxiom v k = axiomFits v k && isOnward (lastOf 4 v) k (axiomNext v k)
 
--- "3: first record in the chain with an unknown kind, a name outside its count, a wrong zero or a bad link."
--- The chain from record k on, at most so many records of it
+-- 3: the first record along the chain that is not sound. The chain from record k on, at most so many records of it
 abbrev pub axiomsRefusal : ℕ → List ℕ → ℕ → ℕ
 axiomsRefusal f v k = refusalAlong 3 (axiomNext v) (soundAxiom v) f k
 
--- "2: header count or link out of range."
+-- 2: the header's counts and its link
 abbrev pub headedVocabulary : List ℕ → Bool
 headedVocabulary v =
     isName mostClasses (classCount v)
     && (leb (roleCount v) mostRoles && (leb (featureCount v) mostFeatures && leb (firstAxiom v) (lastOf 4 v)))
 
--- "1: length not a multiple of 4, under 4 or over 4,100 words." The first refusal of Read vocabulary; 0 is none
+-- 1: the length; then 2, then 3. The first refusal of Read vocabulary (SPECIFICATION 9.2); 0 is none
 unfoldable pub vocabularyRefusal : List ℕ → ℕ
 vocabularyRefusal v =
     let chain = axiomsRefusal (length v) v (firstAxiom v) in
@@ -91,7 +89,7 @@ axiomAt v k =
 abbrev pub axiomsFrom : ℕ → List ℕ → ℕ → List Axiom
 axiomsFrom f v k = listAlong (axiomNext v) (axiomAt v) f k
 
--- "everything the vocabulary's chain states"
+-- all that the vocabulary's chain states
 unfoldable pub axiomsOf : List ℕ → List Axiom
 axiomsOf v = axiomsFrom (length v) v (firstAxiom v)
 

@@ -1,4 +1,4 @@
-// Document 01's limits. specs/Limits.antt has them for the definitions; the contracts of the functions that test them hold the two
+// The limits, SPECIFICATION 12. specs/Limits.antt has them for the definitions; the contracts of the functions that test them hold the two
 // together.
 
 pub const MOST_CLASSES: u32 = 256;

@@ -1,4 +1,5 @@
--- The number of a combination: its digits, "the last varying fastest", the number after a skip, and the order. Assumes nothing.
+-- The number of a combination: its digits, the last varying fastest (SPECIFICATION 7.3), the number after a skip, and the order.
+-- Assumes nothing.
 use Prim.Native.Nat.{_%_, _*_, _+_, _-_, _/_, _<_, _≤_, suc, zero, ℕ}
 use mathlib.Core.Bool.{Bool, cond, false, true}
 use mathlib.Core.List.{List, [], _∷_}

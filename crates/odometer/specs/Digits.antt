@@ -1,4 +1,5 @@
--- Combinations by digits: the digit of a constraint is the place of its piece, counted from 0. What is known to pass, and by which constraints.
+-- Combinations by digits: the digit of a constraint is the place of its piece, counted from 0. What is known to pass, and by which
+-- constraints.
 use Prim.Native.Nat.{_*_, _+_, _<_, suc, zero, ℕ}
 use mathlib.Core.Bool.{Bool, _&&_, true}
 use mathlib.Core.List.{List}
@@ -8,7 +9,7 @@ use lib.ListN.{getD, length}
 use Rattle.meaning.specs.Lists.{any, counting}
 use Rattle.words.specs.Sets.{testBit}
 
--- the first n digits as one number: "the last varying fastest"; constraint i has s i pieces
+-- the first n digits as one number, the last varying fastest (SPECIFICATION 7.3); constraint i has s i pieces
 abbrev pub value : (ℕ → ℕ) → (ℕ → ℕ) → ℕ → ℕ
 value s c zero = 0
 value s c (suc m) = value s c m * s m + c m

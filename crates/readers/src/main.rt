@@ -1,5 +1,5 @@
 // Runs the readers over damaged tables and prints each refusal's number, 0 where a table is accepted. What it must print is
-// worked out from document 01's rules by tests/readers.py.
+// worked out from the rules of SPECIFICATION 9.2 to 9.4 by tests/readers.py.
 use libc::STDOUT_FILENO;
 use meaning::Reading;
 ghost use Prim.Native.Nat.{_<_};

@@ -40,7 +40,7 @@ linkOf u x = cond (eqb u (numberOf x)) (link (ownerOf x) (otherOf x)) none
 abbrev pub Gives : (Fact → Link) → ℕ → ℕ → List Fact → Type 0
 Gives says i j F = Any (λ x. link i j ≡ says x) F
 
--- "no individual has two values"
+-- functional: no individual has two values (SPECIFICATION 5.2)
 abbrev pub Single : (Fact → Link) → List Fact → Type 0
 Single says F = (i j k : ℕ) → Gives says i j F → Gives says i k F → j ≡ k
 

@@ -20,7 +20,7 @@ use Rattle.spans.specs.Cuts.{Tabled, cutCount, isAmong, rowPlace}
 use Rattle.spans.specs.Joining.{Handed}
 use Rattle.words.specs.Sets.{inSet}
 
--- "feature a has a value from lo to hi"
+-- kind 4: feature a has a value in lo..hi
 abbrev pub valueWithin : ℕ → ℕ → ℕ → Fact → Bool
 valueWithin a lo hi (member b i) = false
 valueWithin a lo hi (edge r i j) = false
