@@ -15,7 +15,7 @@ use Rattle.words.specs.Sets.{inSet}
 abbrev pub trailWords : ℕ
 trailWords = mostRecords / 32
 
--- "at one record in the order 7, 6, 8": reached before, by the bits s; not sound; at depth 17. 0 is none
+-- SPECIFICATION 4.4, the fault at one record: 7, reached before, by the bits s; 6, not sound; 8, at depth 17. 0 is none
 unfoldable pub faultAt : List ℕ → List ℕ → ℕ → ℕ → List ℕ → ℕ
 faultAt v p depth k s = cond (inSet s k) 7 (cond (soundRecord v p depth k) (cond (eqb depth (suc mostDepth)) 8 0) 6)
 

@@ -77,7 +77,7 @@ fn last_record(p: &[u32]) -> usize
     p.len() / 6 - 1
 }
 
-// Kind 5 stands only in the header's chain, the others only below.
+// SPECIFICATION 4.3: kind 5 in the header's chain, the others below it.
 fn is_placed(depth: u32, kind: u32) -> bool
     ensures { λ r. ⌜ r ≡ cond (eqb depth 0) (eqb kind 5) (not (eqb kind 5)) ⌝ }
 {

@@ -1,4 +1,4 @@
--- Document 01, "Splitting": the constraints of the tables, how many combinations they have, and the pieces that stand beside them.
+-- SPECIFICATION 7.2 and 7.3: the constraints of the tables, how many combinations they have, and the pieces that stand beside them.
 use Prim.Native.Nat.{_<_, _≤_, min, suc, ℕ}
 use mathlib.Core.List.{List, map}
 use mathlib.Core.Path.{_≡_}

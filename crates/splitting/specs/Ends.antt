@@ -1,4 +1,4 @@
--- Document 01, "Splitting": the ends of the second policy, as keys that rise, and the next piece's upper end.
+-- SPECIFICATION 7.1 and 7.2: the ends of the second policy, as keys that rise, and the next piece's upper end.
 use Prim.Native.Nat.{_*_, _+_, _<_, _≤_, pred, suc, ℕ}
 use mathlib.Core.Bool.{cond}
 use mathlib.Core.List.{List, [], _++_, _∷_}
@@ -15,7 +15,7 @@ use Rattle.policy.specs.Terms.{ConjunctOf, conjunctOf, conjunctsAt}
 
 -- ---- the ends
 
--- "every end of a constraint on f anywhere in the second policy as given"
+-- SPECIFICATION 7.1: every end on f in the second policy as given
 abbrev pub endsOn : Policy → ℕ → List ℕ
 endsOn Q f = flatMap (ends f) Q
 
