@@ -3,6 +3,8 @@
 //! Each function lends its slices to the static library and turns the numbers that come back into an answer. A slice may hold
 //! anything; see `crates/exports/gimbuka.h` for what is written where.
 
+#![expect(unsafe_code, reason = "the static library's functions are called")]
+
 /// The answer of a reader.
 #[derive(Clone, Copy, Debug, PartialEq, Eq)]
 pub enum Reading {

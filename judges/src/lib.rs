@@ -91,7 +91,7 @@ impl Tally {
 /// a run tells the same every time.
 pub fn sweep<E: Send>(
     seeds: Range<u64>,
-    judge: impl Fn(&mut Tally, Given) -> Result<(), E> + Sync,
+    judge: impl Fn(&mut Tally, Given<'_>) -> Result<(), E> + Sync,
 ) -> Result<Tally, (String, E)> {
     let directed = directed();
     let before = directed.len() as u64;

@@ -3,6 +3,8 @@
 //! The six operations read slices of 32-bit words and answer exactly as the paper says, for every
 //! input. The work slice is only ever zeroed; the reasoning uses trees on the heap.
 
+#![forbid(unsafe_code)]
+
 pub mod classes;
 pub mod countermodel;
 pub mod cover;

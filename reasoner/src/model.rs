@@ -71,7 +71,7 @@ pub struct Interpretation {
 impl Interpretation {
     /// Reads the words; the refusal is 31, 32 or 33.
     pub fn read(vocabulary: &Vocabulary, m: &[u32]) -> Result<Self, u32> {
-        if !m.len().is_multiple_of(RECORD) || m.len() < RECORD || m.len() > LONGEST {
+        if m.len() % RECORD != 0 || m.len() < RECORD || m.len() > LONGEST {
             return Err(31);
         }
         let last = (m.len() / RECORD - 1) as u32;

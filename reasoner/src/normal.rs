@@ -54,7 +54,7 @@ fn individual(
     mut classes: ClassSet,
 ) -> Option<Individual> {
     let mut spans: Vec<Span> = Vec::new();
-    let mut reached: Vec<Reached> = Vec::new();
+    let mut reached: Vec<Reached<'_>> = Vec::new();
     for conjunct in std::iter::once(first).chain(more.iter().copied()).flatten() {
         match conjunct {
             Conjunct::Class(class) => classes.absorb(rules.above(*class)),

@@ -72,7 +72,7 @@ impl Policy {
     }
 
     fn walk(vocabulary: &Vocabulary, words: &[u32]) -> Result<Self, Fault> {
-        if !words.len().is_multiple_of(RECORD) || words.len() < RECORD || words.len() > LONGEST {
+        if words.len() % RECORD != 0 || words.len() < RECORD || words.len() > LONGEST {
             return Err(Fault::Length);
         }
         let last = (words.len() / RECORD - 1) as u32;

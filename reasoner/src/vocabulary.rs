@@ -37,7 +37,7 @@ pub struct Vocabulary {
 impl Vocabulary {
     /// "Read vocabulary": the refusal is 1, 2 or 3.
     pub fn read(v: &[u32]) -> Result<Self, u32> {
-        if !v.len().is_multiple_of(RECORD) || v.len() < RECORD || v.len() > LONGEST {
+        if v.len() % RECORD != 0 || v.len() < RECORD || v.len() > LONGEST {
             return Err(1);
         }
         let last = (v.len() / RECORD - 1) as u32;

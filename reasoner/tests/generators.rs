@@ -204,7 +204,7 @@ fn what_no_link_reaches_has_no_effect() {
     for seed in 0..1_500 {
         let case = Case::generate(Family::Small, 30_000 + seed);
         let mut other = case.clone();
-        let reached = reasoner::encode::walk_order(&case.p);
+        let reached = encode::walk_order(&case.p);
         for (number, record) in other.p.chunks_mut(6).enumerate().skip(1) {
             if !reached.contains(&(number as u32)) {
                 record.fill_with(|| rng.word());

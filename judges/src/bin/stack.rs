@@ -3,6 +3,8 @@
 //! `stack` calls every operation, for every case at a limit and every slow model, on a thread whose stack was painted, and prints the most
 //! bytes that each one touched, the thread's own among them. It fails where one touches more than a thread of 128 KB has.
 
+#![expect(unsafe_code, reason = "a thread on a stack of our own is POSIX's to start")]
+
 use judges::OPERATIONS;
 use reasoner::random::{limits, slow, Case};
 use reasoner::FULL_WORK;

@@ -301,7 +301,7 @@ fn constraints(d: &Simple) -> Vec<(u32, u32, u32)> {
 }
 
 /// The normal form with these pieces in place of its constraints.
-fn with_pieces(d: &Simple, chosen: &mut std::slice::Iter<(u32, u32)>) -> Simple {
+fn with_pieces(d: &Simple, chosen: &mut std::slice::Iter<'_, (u32, u32)>) -> Simple {
     let mut new = d.clone();
     for conjunct in new.iter_mut() {
         if let C::In(_, l, u) = conjunct {

@@ -19,7 +19,7 @@ pub struct Interpretation {
 impl Interpretation {
     /// The words read back, with 31 to 33.
     pub fn read(kb: &Kb, m: &[u32]) -> Result<Self, u32> {
-        if !m.len().is_multiple_of(5) || m.len() < 5 || m.len() > 700_005 {
+        if m.len() % 5 != 0 || m.len() < 5 || m.len() > 700_005 {
             return Err(31);
         }
         let last = m.len() as u32 / 5 - 1;
