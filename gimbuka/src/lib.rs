@@ -1,173 +1,178 @@
-//! The six operations of the proved library, for Rust.
+//! The operations of the proved library, for Rust.
 //!
-//! Each function lends its slices to the static library and turns the numbers that come back into an answer. A slice may hold
-//! anything; see `crates/exports/gimbuka.h` for what is written where.
+//! A vocabulary, a policy and a model are slices of words, laid out as `docs/SPECIFICATION.md` says. A slice may hold anything: an
+//! operation takes any words and ends, with an answer that is right or with a [`Refusal`] that says what is wrong.
+//!
+//! ```
+//! use gimbuka::{compliance, model_check, Checked, Refusal, Verdict, WORK_SIZE};
+//!
+//! # fn main() -> Result<(), Refusal> {
+//! // One class, no role, one feature, and nothing stated of them.
+//! let v = [1, 0, 1, 0];
+//! // A buyer keeps data for 1 to 60 days, a subscriber consents to 0 to 30: each is one simple policy, of one conjunct on feature 1.
+//! let p = [1, 0, 0, 0, 0, 0, 5, 0, 0, 0, 2, 0, 4, 1, 1, 60, 0, 0];
+//! let q = [1, 0, 0, 0, 0, 0, 5, 0, 0, 0, 2, 0, 4, 1, 0, 30, 0, 0];
+//! let mut work = vec![0; WORK_SIZE];
+//! let mut out = vec![0; 1_000];
+//!
+//! let verdict = compliance(&v, &p, &q, &mut work, &mut out)?;
+//! assert_eq!(verdict, Verdict::Outside { term: 1, combination: 4, words: 10 });
+//! // The countermodel has one individual, whose feature 1 has the value 59.
+//! let countermodel = &out[..10];
+//! assert_eq!(countermodel, [1, 1, 0, 0, 0, 3, 1, 1, 59, 0]);
+//! assert_eq!(model_check(&v, &p, &q, countermodel, &mut work)?, Checked::Yes);
+//!
+//! // A consent to 0 to 90 days has room for the buyer.
+//! let q = [1, 0, 0, 0, 0, 0, 5, 0, 0, 0, 2, 0, 4, 1, 0, 90, 0, 0];
+//! assert_eq!(compliance(&v, &p, &q, &mut work, &mut out)?, Verdict::Compliant);
+//!
+//! // The second policy is cut short.
+//! let refusal = compliance(&v, &p, &q[..17], &mut work, &mut out).unwrap_err();
+//! assert_eq!(refusal.number(), 14);
+//! println!("refused {}: {refusal}", refusal.number());
+//! # Ok(())
+//! # }
+//! ```
+//!
+//! # What is lent
+//!
+//! A work slice has at least [`WORK_SIZE`] words. After an answer its first [`WORK_SIZE`] words are 0, and after the refusals 22 and
+//! 23; any other refusal writes nothing. The output takes the countermodel: as many words as the answer says, and no others. One of
+//! [`MOST_MODEL_WORDS`] has room for each.
+//!
+//! A call takes nothing of the heap. A thread with 128 KB of stack has room for each (`crates/exports/gimbuka.h` says more).
+//!
+//! # What is linked
+//!
+//! `rt staticlib exports` proves the library and writes it to `target/staticlib`, where this package finds it. The environment variable
+//! `GIMBUKA_LIBRARY` names another folder. The library is proved; this package, which calls it, is not.
 
 #![expect(unsafe_code, reason = "the static library's functions are called")]
 
-/// The answer of a reader.
-#[derive(Clone, Copy, Debug, PartialEq, Eq)]
-pub enum Reading {
-    /// The words are a legal table.
-    Accepted,
-    /// The refusal's number.
-    Refused(u32),
-}
+mod c;
+mod refusal;
+
+pub use refusal::Refusal;
+
+/// The least words of a work slice.
+pub const WORK_SIZE: usize = 16_384;
+
+/// The most words of a model. No countermodel has more.
+pub const MOST_MODEL_WORDS: usize = 700_005;
 
 /// The answer of [`possible`].
-#[derive(Clone, Copy, Debug, PartialEq, Eq)]
+#[derive(Clone, Copy, Debug, PartialEq, Eq, Hash)]
 pub enum Possibility {
-    /// The first possible simple policy, counted from 1.
-    Possible(u32),
+    /// Some interpretation has an individual in the policy.
+    Possible {
+        /// The first simple policy that is possible, counted from 1.
+        term: u32,
+    },
     /// No simple policy is possible.
     Impossible,
-    /// The refusal's number.
-    Refused(u32),
 }
 
 /// The answer of [`compliance`].
-#[derive(Clone, Copy, Debug, PartialEq, Eq)]
+#[derive(Clone, Copy, Debug, PartialEq, Eq, Hash)]
 pub enum Verdict {
     /// The first policy lies inside the second.
     Compliant,
-    /// Simple policy, combination and the number of words written.
-    Outside(u32, u32, usize),
-    /// The refusal's number.
-    Refused(u32),
+    /// It does not, and the output begins with a countermodel.
+    Outside {
+        /// The first simple policy to fail, counted from 1.
+        term: u32,
+        /// Its first combination to fail, counted from 1.
+        combination: u32,
+        /// How many words the countermodel has.
+        words: usize,
+    },
 }
 
 /// The answer of [`equality`].
-#[derive(Clone, Copy, Debug, PartialEq, Eq)]
+#[derive(Clone, Copy, Debug, PartialEq, Eq, Hash)]
 pub enum Comparison {
     /// No interpretation tells the policies apart.
     Equal,
-    /// Side, simple policy, combination and the number of words written.
-    Differs(u32, u32, u32, usize),
-    /// The refusal's number.
-    Refused(u32),
+    /// One does: the output begins with a countermodel.
+    Differs {
+        /// The policy that is not inside the other.
+        side: Side,
+        /// Its first simple policy to fail, counted from 1.
+        term: u32,
+        /// The first combination of that to fail, counted from 1.
+        combination: u32,
+        /// How many words the countermodel has.
+        words: usize,
+    },
+}
+
+/// Which policy has an individual that the other has not.
+#[derive(Clone, Copy, Debug, PartialEq, Eq, Hash)]
+pub enum Side {
+    /// Individual 1 of the countermodel is in the first policy and outside the second.
+    First = 1,
+    /// It is in the second and outside the first. [`model_check`] says yes with the policies changed over.
+    Second = 2,
 }
 
 /// The answer of [`model_check`].
-#[derive(Clone, Copy, Debug, PartialEq, Eq)]
+#[derive(Clone, Copy, Debug, PartialEq, Eq, Hash)]
 pub enum Checked {
-    /// The model refutes the containment.
+    /// The model satisfies the vocabulary, and its individual 1 is in the first policy and outside the second.
     Yes,
-    /// It does not.
+    /// It does not, or the individual is not.
     No,
-    /// The refusal's number.
-    Refused(u32),
-}
-
-mod c {
-    extern "C" {
-        pub fn gimbuka_read_vocabulary(v: *const u32, v_len: usize, number: *mut u32) -> u32;
-        pub fn gimbuka_read_policy(
-            v: *const u32,
-            v_len: usize,
-            p: *const u32,
-            p_len: usize,
-            number: *mut u32,
-        ) -> u32;
-        pub fn gimbuka_read_second_policy(
-            v: *const u32,
-            v_len: usize,
-            q: *const u32,
-            q_len: usize,
-            number: *mut u32,
-        ) -> u32;
-        pub fn gimbuka_possible(
-            v: *const u32,
-            v_len: usize,
-            p: *const u32,
-            p_len: usize,
-            work: *mut u32,
-            work_len: usize,
-            number: *mut u32,
-        ) -> u32;
-        pub fn gimbuka_compliance(
-            v: *const u32,
-            v_len: usize,
-            p: *const u32,
-            p_len: usize,
-            q: *const u32,
-            q_len: usize,
-            work: *mut u32,
-            work_len: usize,
-            out: *mut u32,
-            out_len: usize,
-            number: *mut u32,
-            combination: *mut u32,
-            words: *mut usize,
-        ) -> u32;
-        pub fn gimbuka_equality(
-            v: *const u32,
-            v_len: usize,
-            p: *const u32,
-            p_len: usize,
-            q: *const u32,
-            q_len: usize,
-            work: *mut u32,
-            work_len: usize,
-            out: *mut u32,
-            out_len: usize,
-            number: *mut u32,
-            term: *mut u32,
-            combination: *mut u32,
-            words: *mut usize,
-        ) -> u32;
-        pub fn gimbuka_model_check(
-            v: *const u32,
-            v_len: usize,
-            p: *const u32,
-            p_len: usize,
-            q: *const u32,
-            q_len: usize,
-            m: *const u32,
-            m_len: usize,
-            work: *mut u32,
-            work_len: usize,
-            number: *mut u32,
-        ) -> u32;
-    }
 }
 
 /// A reader's answer, from a call that is given where the refusal's number goes.
-fn reading(call: impl FnOnce(&mut u32) -> u32) -> Reading {
+fn read(call: impl FnOnce(&mut u32) -> u32) -> Result<(), Refusal> {
     let mut number = 0;
     match call(&mut number) {
-        0 => Reading::Refused(number),
-        _ => Reading::Accepted,
+        0 => Err(Refusal::of(number)),
+        _ => Ok(()),
     }
 }
 
-/// Read vocabulary.
-#[must_use]
-pub fn read_vocabulary(v: &[u32]) -> Reading {
+/// Reads a vocabulary: `Ok` where the words are one.
+///
+/// # Errors
+///
+/// Refusals 1 to 3.
+pub fn read_vocabulary(v: &[u32]) -> Result<(), Refusal> {
     // SAFETY: the pointer and length are a slice's, and `number` overlaps nothing.
-    reading(|number| unsafe { c::gimbuka_read_vocabulary(v.as_ptr(), v.len(), number) })
+    read(|number| unsafe { c::gimbuka_read_vocabulary(v.as_ptr(), v.len(), number) })
 }
 
-/// Read policy.
-#[must_use]
-pub fn read_policy(v: &[u32], p: &[u32]) -> Reading {
+/// Reads a vocabulary, then a policy over it: `Ok` where the words are both.
+///
+/// # Errors
+///
+/// Refusals 1 to 3 of the vocabulary, then 4 to 8.
+pub fn read_policy(v: &[u32], p: &[u32]) -> Result<(), Refusal> {
     // SAFETY: as in `read_vocabulary`.
-    reading(|number| unsafe {
+    read(|number| unsafe {
         c::gimbuka_read_policy(v.as_ptr(), v.len(), p.as_ptr(), p.len(), number)
     })
 }
 
-/// Read policy with a second policy's numbers.
-#[must_use]
-pub fn read_second_policy(v: &[u32], q: &[u32]) -> Reading {
+/// Does as [`read_policy`], with a second policy's numbers.
+///
+/// # Errors
+///
+/// Refusals 1 to 3 of the vocabulary, then 14 to 18.
+pub fn read_second_policy(v: &[u32], q: &[u32]) -> Result<(), Refusal> {
     // SAFETY: as in `read_vocabulary`.
-    reading(|number| unsafe {
+    read(|number| unsafe {
         c::gimbuka_read_second_policy(v.as_ptr(), v.len(), q.as_ptr(), q.len(), number)
     })
 }
 
-/// Possible.
-#[must_use]
-pub fn possible(v: &[u32], p: &[u32], work: &mut [u32]) -> Possibility {
+/// Whether an individual can be in the policy `p`.
+///
+/// # Errors
+///
+/// Those of [`read_policy`], then 21.
+pub fn possible(v: &[u32], p: &[u32], work: &mut [u32]) -> Result<Possibility, Refusal> {
     let mut number = 0;
     // SAFETY: the exclusive slices and `number` overlap nothing.
     let kind = unsafe {
@@ -182,15 +187,25 @@ pub fn possible(v: &[u32], p: &[u32], work: &mut [u32]) -> Possibility {
         )
     };
     match kind {
-        0 => Possibility::Refused(number),
-        1 => Possibility::Possible(number),
-        _ => Possibility::Impossible,
+        0 => Err(Refusal::of(number)),
+        1 => Ok(Possibility::Possible { term: number }),
+        _ => Ok(Possibility::Impossible),
     }
 }
 
-/// Compliance.
-#[must_use]
-pub fn compliance(v: &[u32], p: &[u32], q: &[u32], work: &mut [u32], out: &mut [u32]) -> Verdict {
+/// Whether the policy `p` lies inside the policy `q`: in every interpretation that satisfies the vocabulary, each individual of `p`
+/// is in `q`.
+///
+/// # Errors
+///
+/// Those of [`read_policy`] for `p` and of [`read_second_policy`] for `q`, then 21, 22, and 23 where the answer is not "compliant".
+pub fn compliance(
+    v: &[u32],
+    p: &[u32],
+    q: &[u32],
+    work: &mut [u32],
+    out: &mut [u32],
+) -> Result<Verdict, Refusal> {
     let (mut number, mut combination, mut words) = (0, 0, 0);
     // SAFETY: the exclusive slices and the numbers overlap nothing.
     let kind = unsafe {
@@ -211,15 +226,24 @@ pub fn compliance(v: &[u32], p: &[u32], q: &[u32], work: &mut [u32], out: &mut [
         )
     };
     match kind {
-        0 => Verdict::Refused(number),
-        1 => Verdict::Compliant,
-        _ => Verdict::Outside(number, combination, words),
+        0 => Err(Refusal::of(number)),
+        1 => Ok(Verdict::Compliant),
+        _ => Ok(Verdict::Outside { term: number, combination, words }),
     }
 }
 
-/// Equality.
-#[must_use]
-pub fn equality(v: &[u32], p: &[u32], q: &[u32], work: &mut [u32], out: &mut [u32]) -> Comparison {
+/// Whether each of the policies `p` and `q` lies inside the other. A difference of `p` is reported before one of `q`.
+///
+/// # Errors
+///
+/// Those of [`compliance`]; 22 looks at both policies, and 23 comes where the answer is not "equal".
+pub fn equality(
+    v: &[u32],
+    p: &[u32],
+    q: &[u32],
+    work: &mut [u32],
+    out: &mut [u32],
+) -> Result<Comparison, Refusal> {
     let (mut number, mut term, mut combination, mut words) = (0, 0, 0, 0);
     // SAFETY: the exclusive slices and the numbers overlap nothing.
     let kind = unsafe {
@@ -240,16 +264,26 @@ pub fn equality(v: &[u32], p: &[u32], q: &[u32], work: &mut [u32], out: &mut [u3
             &mut words,
         )
     };
+    let side = if number == 1 { Side::First } else { Side::Second };
     match kind {
-        0 => Comparison::Refused(number),
-        1 => Comparison::Equal,
-        _ => Comparison::Differs(number, term, combination, words),
+        0 => Err(Refusal::of(number)),
+        1 => Ok(Comparison::Equal),
+        _ => Ok(Comparison::Differs { side, term, combination, words }),
     }
 }
 
-/// Model check.
-#[must_use]
-pub fn model_check(v: &[u32], p: &[u32], q: &[u32], m: &[u32], work: &mut [u32]) -> Checked {
+/// Whether the model `m` is a countermodel to "`p` lies inside `q`".
+///
+/// # Errors
+///
+/// Those of [`read_policy`] for `p` and of [`read_second_policy`] for `q`, then 31 to 33, then 21.
+pub fn model_check(
+    v: &[u32],
+    p: &[u32],
+    q: &[u32],
+    m: &[u32],
+    work: &mut [u32],
+) -> Result<Checked, Refusal> {
     let mut number = 0;
     // SAFETY: the exclusive slice and `number` overlap nothing.
     let kind = unsafe {
@@ -268,8 +302,8 @@ pub fn model_check(v: &[u32], p: &[u32], q: &[u32], m: &[u32], work: &mut [u32])
         )
     };
     match kind {
-        0 => Checked::Refused(number),
-        1 => Checked::Yes,
-        _ => Checked::No,
+        0 => Err(Refusal::of(number)),
+        1 => Ok(Checked::Yes),
+        _ => Ok(Checked::No),
     }
 }

@@ -3,6 +3,7 @@
 //! One ontology asks for many pairs. Each has names of its own, and no axiom speaks of two pairs or of an individual, so that what
 //! holds of a pair is what its own axioms say.
 
+use crate::cores;
 use reasoner::random::Case;
 use reasoner::text::{Document, Names};
 use std::collections::HashSet;
@@ -67,23 +68,16 @@ fn axioms(number: usize, case: &Case) -> String {
     document.axioms() + &classes
 }
 
-/// Konclude's classification of an ontology. With one worker it never ends.
+/// Konclude's classification of an ontology, by a worker for each core. With one worker it never ends.
 fn classified(ontology: &str, seconds: u32) -> Result<String, Missing> {
     let file = |name| env::temp_dir().join(format!("konclude-{}-{name}", process::id()));
     let (question, answer) = (file("question.ofn"), file("answer.owl"));
     let unable = |error: io::Error| Missing::Silent(error.to_string());
     fs::write(&question, ontology).map_err(unable)?;
     let mut command = Command::new("timeout");
-    command.arg(seconds.to_string()).args([
-        "Konclude",
-        "classification",
-        "-w",
-        "2",
-        "-c",
-        SETTINGS,
-        "-i",
-    ]);
-    let run = command.arg(&question).arg("-o").arg(&answer).output();
+    command.arg(seconds.to_string()).args(["Konclude", "classification", "-c", SETTINGS]);
+    command.arg("-w").arg(cores().max(2).to_string());
+    let run = command.arg("-i").arg(&question).arg("-o").arg(&answer).output();
     let text = fs::read_to_string(&answer);
     for file in [question, answer] {
         // One that was never written need not be removed.

@@ -1,14 +1,21 @@
-//! What the judges share: the cases that no seed makes, a run over numbers on both cores, a count of the answers, Konclude.
+//! What the judges share: the library's answers as the reasoner has them, the cases that no seed makes, a run over numbers on every
+//! core, a count of the answers, Konclude.
 
 pub mod konclude;
+pub mod library;
 
 use reasoner::random::{damage, limits, slow, Case};
 use std::collections::BTreeMap;
+use std::num::NonZero;
 use std::ops::Range;
 use std::sync::atomic::{AtomicU64, Ordering};
 use std::thread;
 
-const THREADS: usize = 2;
+/// How many cores this process may use; 1 where that cannot be told.
+#[must_use]
+pub fn cores() -> usize {
+    thread::available_parallelism().map_or(1, NonZero::get)
+}
 
 /// The operations, in document 01's order.
 pub const OPERATIONS: [&str; 7] = [
@@ -87,7 +94,7 @@ impl Tally {
     }
 }
 
-/// Judges the directed cases, then the seeds, on both cores. What fails is told with its name, and of several the first, so that
+/// Judges the directed cases, then the seeds, on every core. What fails is told with its name, and of several the first, so that
 /// a run tells the same every time.
 pub fn sweep<E: Send>(
     seeds: Range<u64>,
@@ -129,7 +136,7 @@ fn numbers<E: Send>(
         }
     };
     let told: Vec<_> = thread::scope(|scope| {
-        let threads: Vec<_> = (0..THREADS).map(|_| scope.spawn(work)).collect();
+        let threads: Vec<_> = (0..cores()).map(|_| scope.spawn(work)).collect();
         threads.into_iter().map(|thread| thread.join().expect("a judge that ends")).collect()
     });
     merged(told)

@@ -8,7 +8,6 @@
 //!
 //! `bench pairs SECONDS` decides everyday pairs with the library for so long, and prints how many.
 
-use gimbuka::Verdict;
 use judges::konclude::{empty_classes, Missing};
 use reasoner::random::everyday::{sized, Answer};
 use reasoner::random::slow::{self, Pair};
@@ -55,13 +54,13 @@ macro_rules! sides {
         let library = {
             use gimbuka as $side;
             time($cases, &mut slices, |$case, $lent| {
-                black_box($call);
+                let _ = black_box($call);
             })
         };
         let reasoner = {
             use reasoner as $side;
             time($cases, &mut slices, |$case, $lent| {
-                black_box($call);
+                let _ = black_box($call);
             })
         };
         [library, reasoner]
@@ -195,7 +194,13 @@ fn cost(pair: &Pair, lent: &mut Lent) -> Option<f64> {
     let case = pair.case()?;
     let mut round = || {
         let start = Instant::now();
-        black_box(gimbuka::compliance(&case.v, &case.p, &case.q, &mut lent.work, &mut lent.out));
+        let _ = black_box(gimbuka::compliance(
+            &case.v,
+            &case.p,
+            &case.q,
+            &mut lent.work,
+            &mut lent.out,
+        ));
         start.elapsed().as_secs_f64() * 1e6
     };
     Some(round().min(round()))
@@ -230,7 +235,7 @@ fn decide(seconds: f64) -> u64 {
     while start.elapsed().as_secs_f64() < seconds {
         for case in cases.as_flattened() {
             let verdict = gimbuka::compliance(&case.v, &case.p, &case.q, &mut work, &mut out);
-            decided += u64::from(!matches!(verdict, Verdict::Refused(_)));
+            decided += u64::from(verdict.is_ok());
         }
     }
     decided
@@ -253,7 +258,9 @@ fn decide_apart(processes: usize, seconds: f64) -> u64 {
 
 fn rate() {
     println!("\neveryday pairs, half of them compliant, decided by the library");
-    for processes in [1, 2] {
+    let cores = judges::cores();
+    // One by itself, then as many as there are cores.
+    for processes in [1].into_iter().chain((cores > 1).then_some(cores)) {
         let rate = decide_apart(processes, 5.0) as f64 / 5.0;
         println!("{processes} at a time: {rate:>9.0} a second, {:>11.0} a minute", rate * 60.0);
     }

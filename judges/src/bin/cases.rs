@@ -5,7 +5,7 @@
 //! difference it prints the case, made as small as still differs, and fails. An answer that no case has is a failure too: then the
 //! cases do not reach it.
 
-use judges::{Given, Tally, OPERATIONS};
+use judges::{library, Given, Tally, OPERATIONS};
 use reasoner::random::{shrink::shrink, Case};
 use std::process::ExitCode;
 
@@ -43,7 +43,7 @@ macro_rules! told {
 /// What library and reasoner tell of a case. The random words of its slices are made once.
 fn both(case: &Case) -> [Told; 2] {
     let lent = (case.work(), case.out());
-    [told!(gimbuka, case, &lent), told!(reasoner, case, &lent)]
+    [told!(library, case, &lent), told!(reasoner, case, &lent)]
 }
 
 fn differs(case: &Case) -> bool {

@@ -5,7 +5,7 @@
 //! words and as the desk's text, and fails. It fails too where Konclude gives no answer in time, and where fewer than one pair in five
 //! complies, or fewer than one in five does not: then the pairs are no test. Without Konclude it ends with status 3.
 
-use gimbuka::{compliance, equality, possible, Comparison, Possibility, Verdict};
+use gimbuka::{compliance, equality, possible, Comparison, Possibility, Side, Verdict};
 use judges::konclude::{empty_classes, Missing};
 use judges::Tally;
 use reasoner::random::{shrink::shrink, Case, Family};
@@ -57,27 +57,24 @@ fn pair(seed: u64) -> Case {
 fn library(case: &Case) -> Option<Answers> {
     let Case { v, p, q, .. } = case;
     let (work, out) = (&mut [0; FULL_WORK], &mut vec![0; ROOM]);
-    let possible = match possible(v, p, work) {
-        Possibility::Possible(_) => "possible",
+    let possible = match possible(v, p, work).ok()? {
+        Possibility::Possible { .. } => "possible",
         Possibility::Impossible => "impossible",
-        Possibility::Refused(_) => return None,
     };
-    let forth = verdict(compliance(v, p, q, work, out))?;
-    let back = verdict(compliance(v, q, p, work, out))?;
-    let equality = match equality(v, p, q, work, out) {
+    let forth = verdict(compliance(v, p, q, work, out).ok()?);
+    let back = verdict(compliance(v, q, p, work, out).ok()?);
+    let equality = match equality(v, p, q, work, out).ok()? {
         Comparison::Equal => "equal",
-        Comparison::Differs(1, ..) => "side 1",
-        Comparison::Differs(..) => "side 2",
-        Comparison::Refused(_) => return None,
+        Comparison::Differs { side: Side::First, .. } => "side 1",
+        Comparison::Differs { side: Side::Second, .. } => "side 2",
     };
     Some([possible, forth, back, equality])
 }
 
-fn verdict(verdict: Verdict) -> Option<&'static str> {
+fn verdict(verdict: Verdict) -> &'static str {
     match verdict {
-        Verdict::Compliant => Some("compliant"),
-        Verdict::Outside(..) => Some("outside"),
-        Verdict::Refused(_) => None,
+        Verdict::Compliant => "compliant",
+        Verdict::Outside { .. } => "outside",
     }
 }
 

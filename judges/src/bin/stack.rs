@@ -84,25 +84,25 @@ fn measured(stack: &mut [u8], case: &Case) -> [usize; 7] {
     let Case { v, p, q, m, .. } = case;
     [
         of(&mut |_, _| {
-            black_box(gimbuka::read_vocabulary(v));
+            let _ = black_box(gimbuka::read_vocabulary(v));
         }),
         of(&mut |_, _| {
-            black_box(gimbuka::read_policy(v, p));
+            let _ = black_box(gimbuka::read_policy(v, p));
         }),
         of(&mut |_, _| {
-            black_box(gimbuka::read_second_policy(v, q));
+            let _ = black_box(gimbuka::read_second_policy(v, q));
         }),
         of(&mut |work, _| {
-            black_box(gimbuka::possible(v, p, work));
+            let _ = black_box(gimbuka::possible(v, p, work));
         }),
         of(&mut |work, out| {
-            black_box(gimbuka::compliance(v, p, q, work, out));
+            let _ = black_box(gimbuka::compliance(v, p, q, work, out));
         }),
         of(&mut |work, out| {
-            black_box(gimbuka::equality(v, p, q, work, out));
+            let _ = black_box(gimbuka::equality(v, p, q, work, out));
         }),
         of(&mut |work, _| {
-            black_box(gimbuka::model_check(v, p, q, m, work));
+            let _ = black_box(gimbuka::model_check(v, p, q, m, work));
         }),
     ]
 }
