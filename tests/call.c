@@ -67,6 +67,17 @@ int main(void) {
     expect("model check, no", gimbuka_model_check(v, LENGTH(v), q, LENGTH(q), p, LENGTH(p), out, words, work, LENGTH(work), &number) == 2);
     expect("the work slice", is_clear());
 
+    /* 21 comes after the refusals of the tables */
+    expect("possible, policy before work", gimbuka_possible(v, LENGTH(v), p, 6, work, 0, &number) == 0 && number == 5);
+    expect("compliance, second policy before work", gimbuka_compliance(v, LENGTH(v), p, LENGTH(p), q, 6, work, 0, out, LENGTH(out), &number,
+                                                                       &combination, &words) == 0 && number == 15);
+    expect("equality, second policy before work", gimbuka_equality(v, LENGTH(v), p, LENGTH(p), q, 6, work, 0, out, LENGTH(out), &number,
+                                                                   &term, &combination, &words) == 0 && number == 15);
+    expect("model check, model before work", gimbuka_model_check(v, LENGTH(v), p, LENGTH(p), q, LENGTH(q), model, 5, work, 0,
+                                                                 &number) == 0 && number == 32);
+    expect("model check, no work slice", gimbuka_model_check(v, LENGTH(v), p, LENGTH(p), q, LENGTH(q), model, LENGTH(model), work, 0,
+                                                             &number) == 0 && number == 21);
+
     if (!failed) puts("every operation called from C: as it must be");
     return failed;
 }

@@ -5,15 +5,41 @@
  *
  * A function returns the kind of its answer and writes the answer's values, 0 where it has none:
  *
- *   0  refused: *number is the refusal's number
+ *   0  refused: *number is the refusal's number; docs/REFUSALS.md says what each one means
  *   1  accepted; possible (*number: the simple policy); compliant; equal; yes
  *   2  impossible; outside (*number, *combination, *words); different (*number: the side, *term, *combination, *words); no
  *
- * work has at least 16384 words, else the answer is refused 21; afterwards its first 16384 words are 0, unless the call was refused with
- * a number other than 22 and 23, which leaves them. out takes the countermodel: its first *words words; nothing else is written there.
+ * work has at least 16384 words, else the call is refused 21. That comes after the refusals of the tables (vocabulary, policies and
+ * model), and before 22 and 23. After an answer, 22 or 23 the first 16384 words of work are 0; any other refusal leaves them. out takes the
+ * countermodel: its first *words words; nothing else is written there.
  *
- * A call takes at most so much stack, as measured on x86-64 (`.ci/judge stack`), of which a thread of its own needs some: to read 8 KB, possible
- * 39 KB, model check 46 KB, compliance 67 KB, equality 75 KB. A thread of 128 KB has room for each.
+ * A call takes at most so much stack, as measured on x86-64 (`.ci/judge stack`), of which a thread of its own needs some: to read
+ * 8 KB, possible 39 KB, model check 46 KB, compliance 67 KB, equality 75 KB. A thread of 128 KB has room for each.
+ *
+ * An example. A buyer keeps data for 1 to 60 days, a subscriber consents to 0 to 30:
+ *
+ *     #include <stdio.h>
+ *     #include "gimbuka.h"
+ *
+ *     // one class, no role, one feature, and nothing stated of them
+ *     static const uint32_t v[] = {1, 0, 1, 0};
+ *     // the header, one simple policy, and its conjunct: feature 1 has a value from 1 to 60, or from 0 to 30
+ *     static const uint32_t p[] = {1, 0, 0, 0, 0, 0, 5, 0, 0, 0, 2, 0, 4, 1, 1, 60, 0, 0};
+ *     static const uint32_t q[] = {1, 0, 0, 0, 0, 0, 5, 0, 0, 0, 2, 0, 4, 1, 0, 30, 0, 0};
+ *     static uint32_t work[16384], out[16384];
+ *
+ *     int main(void) {
+ *         uint32_t number, combination;
+ *         size_t words;
+ *         switch (gimbuka_compliance(v, 4, p, 18, q, 18, work, 16384, out, 16384, &number, &combination, &words)) {
+ *         case 1: puts("compliant"); break;
+ *         case 2: printf("outside %u %u, %zu words of countermodel\n", number, combination, words); break;
+ *         default: printf("refused %u\n", number);
+ *         }
+ *         return 0;
+ *     }
+ *
+ * prints "outside 1 4, 10 words of countermodel".
  */
 #ifndef GIMBUKA_H
 #define GIMBUKA_H
