@@ -13,8 +13,8 @@
  * model), and before 22 and 23. After an answer, 22 or 23 the first 16384 words of work are 0; any other refusal leaves them. out takes the
  * countermodel: its first *words words; nothing else is written there.
  *
- * A call takes at most so much stack, as measured on x86-64 (`.ci/judge stack`), of which a thread of its own needs some: to read
- * 8 KB, possible 39 KB, model check 46 KB, compliance 67 KB, equality 75 KB. A thread of 128 KB has room for each.
+ * A call takes at most so much stack, as measured on x86-64 (`scripts/judge stack`), of which a thread of its own needs some: to
+ * read 8 KB, possible 39 KB, model check 46 KB, compliance 67 KB, equality 75 KB. A thread of 128 KB has room for each.
  *
  * An example. A buyer keeps data for 1 to 60 days, a subscriber consents to 0 to 30:
  *
