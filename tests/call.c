@@ -1,5 +1,5 @@
-/* Every operation called from C: the desk's example, whose answers document 01 gives. Compile with crates/exports/gimbuka.h at hand and
- * link target/staticlib/libexports.a; scripts/judge does so and runs it. */
+/* Every operation called from C: the desk's example, whose answers SPECIFICATION 11.2 gives. Compile with crates/exports/gimbuka.h at
+ * hand and link target/staticlib/libexports.a; scripts/judge does so and runs it. */
 #include <stdio.h>
 #include <string.h>
 

@@ -3,9 +3,8 @@
 
 The wrapper is a command to put before the program, such as valgrind -q --error-exitcode=99.
 
-Document 01, "The consent desk's examples": those that go through the program, the starred ones (which are also proved) and the
-rest. Each case is a vocabulary and two policies; what the program must print stands in tests/examples/NAME.txt, written by hand
-from the paper. A case with no stored output, or a stored output with no case, is a failure.
+SPECIFICATION 11.2: those that go through the program, the ones that are also proved and the rest. Each case is a vocabulary and
+two policies; what the program must print stands in tests/examples/NAME.txt, written by hand. A case with no stored output, or a stored output with no case, is a failure.
 """
 import os
 import struct

@@ -1,5 +1,5 @@
 #!/usr/bin/env python3
-"""What the program `readers` must print, from document 01's rules alone.
+"""What the program `readers` must print, from SPECIFICATION 9.2 to 9.4 alone.
 
 One line a case: the refusal's number, 0 where the table is accepted. Usage: readers.py [> crates/readers/stdout]
 """
@@ -8,7 +8,7 @@ VOCABULARY = [
     4, 3, 1, 1,  1, 2, 1, 2,  1, 4, 1, 3,  1, 4, 3, 4,  2, 1, 3, 5,  3, 1, 0, 6,  3, 2, 0, 7,  4, 1, 0, 8,  5, 3, 1, 0,
 ]
 
-# two simple policies, a role with a chain below it, a class, an interval, the impossible concept, and a record that nothing reaches
+# two terms, a role with a chain below it, a class, an interval, the impossible concept, and a record that nothing reaches
 POLICY = [
     1, 0, 0, 0, 0, 0,
     5, 0, 0, 0, 2, 6,
@@ -90,7 +90,7 @@ def damaged(table, i, x):
 
 
 def nested(n):
-    """A simple policy of n roles, each the child of the one before."""
+    """A term of n roles, each the child of the one before."""
     table = [1, 0, 0, 0, 0, 0, 5, 0, 0, 0, 2, 0]
     for k in range(2, n + 2):
         table += [3, 1, 0, 0, k + 1 if k < n + 1 else 0, 0]

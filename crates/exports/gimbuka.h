@@ -6,7 +6,7 @@
  * A function returns the kind of its answer and writes the answer's values, 0 where it has none:
  *
  *   0  refused: *number is the refusal's number; docs/REFUSALS.md says what each one means
- *   1  accepted; possible (*number: the simple policy); compliant; equal; yes
+ *   1  accepted; possible (*number: the term); compliant; equal; yes
  *   2  impossible; outside (*number, *combination, *words); different (*number: the side, *term, *combination, *words); no
  *
  * work has at least 16384 words, else the call is refused 21. That comes after the refusals of the tables (vocabulary, policies and
@@ -23,7 +23,7 @@
  *
  *     // one class, no role, one feature, and nothing stated of them
  *     static const uint32_t v[] = {1, 0, 1, 0};
- *     // the header, one simple policy, and its conjunct: feature 1 has a value from 1 to 60, or from 0 to 30
+ *     // the header, one term, and its conjunct: feature 1 has a value from 1 to 60, or from 0 to 30
  *     static const uint32_t p[] = {1, 0, 0, 0, 0, 0, 5, 0, 0, 0, 2, 0, 4, 1, 1, 60, 0, 0};
  *     static const uint32_t q[] = {1, 0, 0, 0, 0, 0, 5, 0, 0, 0, 2, 0, 4, 1, 0, 30, 0, 0};
  *     static uint32_t work[16384], out[16384];

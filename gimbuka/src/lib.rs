@@ -9,7 +9,7 @@
 //! # fn main() -> Result<(), Refusal> {
 //! // One class, no role, one feature, and nothing stated of them.
 //! let v = [1, 0, 1, 0];
-//! // A buyer keeps data for 1 to 60 days, a subscriber consents to 0 to 30: each is one simple policy, of one conjunct on feature 1.
+//! // A buyer keeps data for 1 to 60 days, a subscriber consents to 0 to 30: each is one term, of one conjunct on feature 1.
 //! let p = [1, 0, 0, 0, 0, 0, 5, 0, 0, 0, 2, 0, 4, 1, 1, 60, 0, 0];
 //! let q = [1, 0, 0, 0, 0, 0, 5, 0, 0, 0, 2, 0, 4, 1, 0, 30, 0, 0];
 //! let mut work = vec![0; WORK_SIZE];
@@ -65,10 +65,10 @@ pub const MOST_MODEL_WORDS: usize = 700_005;
 pub enum Possibility {
     /// Some interpretation has an individual in the policy.
     Possible {
-        /// The first simple policy that is possible, counted from 1.
+        /// The first term that is possible, counted from 1.
         term: u32,
     },
-    /// No simple policy is possible.
+    /// No term is possible.
     Impossible,
 }
 
@@ -79,7 +79,7 @@ pub enum Verdict {
     Compliant,
     /// It does not, and the output begins with a countermodel.
     Outside {
-        /// The first simple policy to fail, counted from 1.
+        /// The first term to fail, counted from 1.
         term: u32,
         /// Its first combination to fail, counted from 1.
         combination: u32,
@@ -97,7 +97,7 @@ pub enum Comparison {
     Differs {
         /// The policy that is not inside the other.
         side: Side,
-        /// Its first simple policy to fail, counted from 1.
+        /// Its first term to fail, counted from 1.
         term: u32,
         /// The first combination of that to fail, counted from 1.
         combination: u32,

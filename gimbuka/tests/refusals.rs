@@ -30,7 +30,7 @@ fn bad_vocabularies() -> [(u32, Vec<u32>); 3] {
 /// Policies that are refused, with the numbers of a first one.
 fn bad_policies() -> [(u32, Vec<u32>); 5] {
     let mut twice = policy(&[&[[1, 1, 0, 0]], &[[1, 2, 0, 0]]]);
-    // Both simple policies have record 4 for their first conjunct.
+    // Both terms have record 4 for their first conjunct.
     twice[10] = 4;
     [
         (4, WIDE[..23].to_vec()),

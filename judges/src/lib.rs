@@ -17,7 +17,7 @@ pub fn cores() -> usize {
     thread::available_parallelism().map_or(1, NonZero::get)
 }
 
-/// The operations, in document 01's order.
+/// The operations, in SPECIFICATION's order.
 pub const OPERATIONS: [&str; 7] = [
     "read_vocabulary",
     "read_policy",

@@ -1,6 +1,6 @@
 //! Sets of classes, 256 bits wide.
 
-/// "Class, role and feature numbers are three separate series, each from 1."
+/// SPECIFICATION 2.2: classes, roles and features are numbered in three series, each from 1.
 #[derive(Clone, Copy, Debug, PartialEq, Eq, PartialOrd, Ord, Hash)]
 pub struct ClassNo(pub u32);
 

@@ -43,7 +43,7 @@ impl Countermodel {
             .extend(individual.children.iter().map(|(role, child)| [2, role.0, own, child.number]));
     }
 
-    /// "It takes 5 × (records + 1) words."
+    /// SPECIFICATION 8.4: it takes 5 × (records + 1) words.
     #[must_use]
     pub fn length(&self) -> usize {
         RECORD * (self.facts.len() + 1)

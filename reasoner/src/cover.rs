@@ -1,7 +1,7 @@
-//! Is every combination of a split simple policy inside the second policy, and if not, which is
+//! Is every combination of a split term inside the second policy, and if not, which is
 //! the first that is outside?
 //!
-//! The canonical models of a simple policy's combinations differ only in the values of features.
+//! The canonical models of a term's combinations differ only in the values of features.
 //! So each term of the second policy, tested once against the normal form, leaves a condition on
 //! the chosen pieces. The search goes through the combinations in order, and skips those that a
 //! condition met already is known to cover.
@@ -77,7 +77,7 @@ impl Condition {
     }
 }
 
-/// A split simple policy's constraints that have more than one piece: at most 16 of them, since
+/// A split term's constraints that have more than one piece: at most 16 of them, since
 /// the combinations are at most 65,536. The first dial turns slowest.
 struct Dials<'a> {
     split: &'a Split,
@@ -168,7 +168,7 @@ pub struct Uncovered {
     pub choice: Vec<usize>,
 }
 
-/// The first combination of the split simple policy that no term of the second policy covers.
+/// The first combination of the split term that no term of the second policy covers.
 #[must_use]
 pub fn first_uncovered(split: &Split, second: &[Term]) -> Option<Uncovered> {
     let dials = Dials::of(split);

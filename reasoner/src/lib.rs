@@ -1,6 +1,6 @@
-//! An independent reasoner for "Policy containment over a consent vocabulary" (document 01).
+//! An independent reasoner for policy containment over a consent vocabulary (`docs/SPECIFICATION.md`).
 //!
-//! The six operations read slices of 32-bit words and answer exactly as the paper says, for every
+//! The six operations read slices of 32-bit words and answer exactly as it says, for every
 //! input. The work slice is only ever zeroed; the reasoning uses trees on the heap.
 
 #![forbid(unsafe_code)]
@@ -26,7 +26,7 @@ use policy::{Place, Policy};
 use split::{Ends, Split};
 use vocabulary::{Rules, Vocabulary};
 
-/// "A work slice is full from 16,384 words on."
+/// SPECIFICATION 9.9: a work slice is full from 16,384 words on.
 pub const FULL_WORK: usize = 16_384;
 
 /// The answer of a reader.
@@ -41,9 +41,9 @@ pub enum Reading {
 /// The answer of [`possible`].
 #[derive(Clone, Copy, Debug, PartialEq, Eq, Hash)]
 pub enum Possibility {
-    /// The first simple policy whose normal form is not impossible, counted from 1.
+    /// The first term whose normal form is not impossible, counted from 1.
     Possible(u32),
-    /// Every simple policy is impossible.
+    /// Every term is impossible.
     Impossible,
     /// The number of the refusal.
     Refused(u32),
@@ -54,7 +54,7 @@ pub enum Possibility {
 pub enum Verdict {
     /// The first policy is inside the second.
     Compliant,
-    /// Simple policy s, combination q and the number of words written.
+    /// Term s, combination q and the number of words written.
     Outside(u32, u32, u32),
     /// The number of the refusal.
     Refused(u32),
@@ -65,7 +65,7 @@ pub enum Verdict {
 pub enum Comparison {
     /// Each policy is inside the other.
     Equal,
-    /// Side, simple policy s, combination q and the number of words written.
+    /// Side, term s, combination q and the number of words written.
     Differs(u32, u32, u32, u32),
     /// The number of the refusal.
     Refused(u32),
@@ -105,7 +105,7 @@ fn accepted<T>(read: Result<T, u32>) -> Reading {
     read.map_or_else(Reading::Refused, |_| Reading::Accepted)
 }
 
-/// Possible: "the first simple policy whose normal form is not impossible, or "impossible"".
+/// SPECIFICATION 9.5.
 #[must_use]
 pub fn possible(v: &[u32], p: &[u32], work: &mut [u32]) -> Possibility {
     first_possible(v, p, work).unwrap_or_else(Possibility::Refused)
@@ -190,7 +190,7 @@ fn clear(work: &mut [u32]) -> Result<(), u32> {
     Ok(())
 }
 
-/// A vocabulary and two policies, read in the paper's order.
+/// A vocabulary and two policies, read in the operations' order.
 struct Question {
     vocabulary: Vocabulary,
     first: Policy,
@@ -206,7 +206,7 @@ impl Question {
     }
 }
 
-/// One direction of a comparison: the left policy's simple policies, normalised and split against
+/// One direction of a comparison: the left policy's terms, normalised and split against
 /// the right policy's ends; an impossible one is none.
 struct Direction<'a> {
     left: Vec<Option<Split>>,
@@ -230,7 +230,7 @@ impl<'a> Direction<'a> {
         Ok(Self { left, right })
     }
 
-    /// The first simple policy and combination to fail, "in that order".
+    /// The first term and combination to fail, "in that order".
     fn first_difference(&self) -> Option<Difference<'_>> {
         self.left.iter().zip(1..).find_map(|(split, s)| {
             let split = split.as_ref()?;

@@ -163,7 +163,7 @@ impl Interpretation {
         })
     }
 
-    /// "An individual is in a policy when it is in one of its simple policies."
+    /// SPECIFICATION 5.3: an individual is in a policy when it is in one of its terms.
     #[must_use]
     pub fn is_in(&self, individual: u32, policy: &Policy) -> bool {
         policy.terms.iter().any(|term| self.extension(term).contains(individual))

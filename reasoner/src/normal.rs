@@ -24,7 +24,7 @@ pub struct Individual {
     pub classes: ClassSet,
     /// Its constraints in place order.
     pub spans: Vec<Span>,
-    /// The place of its first constraint among all of the simple policy's.
+    /// The place of its first constraint among all of the term's.
     pub first_slot: usize,
     /// Its role values in place order.
     pub children: Vec<(RoleNo, Individual)>,
@@ -37,7 +37,7 @@ struct Reached<'a> {
     more: Vec<&'a [Conjunct]>,
 }
 
-/// The normal form of a simple policy, or none if it is the impossible concept.
+/// The normal form of a term, or none if it is the impossible concept.
 #[must_use]
 pub fn normalise(rules: &Rules, term: &[Conjunct]) -> Option<Individual> {
     let mut root = individual(rules, term, &[], ClassSet::EMPTY)?;
@@ -108,7 +108,7 @@ struct Numbering {
     slots: usize,
 }
 
-/// "Constraints go by individual, then by place in the walk."
+/// SPECIFICATION 7.3: constraints go by individual, then by place.
 fn number(individual: &mut Individual, numbering: &mut Numbering) {
     numbering.individuals += 1;
     individual.number = numbering.individuals;

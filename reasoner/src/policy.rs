@@ -7,7 +7,7 @@ const RECORD: usize = 6;
 const LONGEST: usize = 3_078;
 const DEEPEST: u32 = 16;
 
-/// A conjunct of a simple policy, with what it holds inside.
+/// A conjunct of a term, with what it holds inside.
 #[derive(Clone, Debug, PartialEq, Eq)]
 pub enum Conjunct {
     /// Kind 1: class a.
@@ -20,13 +20,13 @@ pub enum Conjunct {
     Within(FeatureNo, u32, u32),
 }
 
-/// A simple policy: its conjuncts in place order.
+/// A term: its conjuncts in place order.
 pub type Term = Vec<Conjunct>;
 
-/// An accepted policy: its simple policies in the header's order.
+/// An accepted policy: its terms in the header's order.
 #[derive(Clone, Debug, PartialEq, Eq)]
 pub struct Policy {
-    /// The simple policies.
+    /// The terms.
     pub terms: Vec<Term>,
 }
 
@@ -35,7 +35,7 @@ pub struct Policy {
 pub enum Place {
     /// Refusals 4 to 8.
     First,
-    /// "For a second policy these are 14 to 18."
+    /// SPECIFICATION 9.4: for a second policy these are 14 to 18.
     Second,
 }
 
@@ -103,7 +103,7 @@ struct Walk<'a> {
 }
 
 impl Walk<'_> {
-    /// The header's chain of simple policies.
+    /// The header's chain of terms.
     fn terms(&mut self, first: u32) -> Result<Vec<Term>, Fault> {
         let mut terms = Vec::new();
         let mut at = first;
@@ -157,7 +157,7 @@ impl Walk<'_> {
         link_fits(at, record.child, self.last) && link_fits(at, record.next, self.last)
     }
 
-    /// "Fields a kind does not use are 0." A role's inner conjuncts are still to be read.
+    /// SPECIFICATION 4.2: words that a kind does not use are 0. A role's inner conjuncts are still to be read.
     fn conjunct(&self, record: &Record) -> Option<Conjunct> {
         let &Record { kind, a, lo, hi, child, .. } = record;
         match kind {

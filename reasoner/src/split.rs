@@ -4,7 +4,7 @@ use crate::classes::FeatureNo;
 use crate::normal::{Individual, Span};
 use crate::policy::{Conjunct, Policy};
 
-/// "some possible simple policy of the first has over 65,536 combinations"
+/// SPECIFICATION 9.6, 22: some possible term of the first policy has over 65,536 combinations.
 pub const MOST_COMBINATIONS: u64 = 65_536;
 
 /// For each feature the ends of its constraints "anywhere in the second policy as given", sorted.
@@ -77,7 +77,7 @@ impl Ends {
     }
 }
 
-/// A possible simple policy with its pieces.
+/// A possible term with its pieces.
 pub struct Split {
     /// The normal form.
     pub root: Individual,

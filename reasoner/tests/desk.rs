@@ -32,14 +32,33 @@ fn explained(document: &Document) -> String {
 fn what_is_no_answer_is_not_read() {
     let document = desk("Policy(:Data) Policy()");
     let silent = |answer: &str| document.aloud(answer).expect_err("a mistake");
-    assert_eq!(silent(""), "this is no answer of the program");
-    assert_eq!(silent("outside 1"), "this is no answer of the program");
+    assert_eq!(silent(""), "this is no answer");
+    assert_eq!(silent("outside 1"), "this is no answer");
     assert_eq!(silent("outside 1 x"), "\"x\" is no number");
+    assert_eq!(silent("differs 3 1 1"), "\"3\" is no side");
     assert_eq!(silent("outside 1 1\nmember 1"), "\"member 1\" is no line of a countermodel");
     assert_eq!(silent("outside 1 1\nmember 9 1"), "the text has no name for number 9");
     assert_eq!(
         document.aloud("refused 22\n").as_deref(),
-        Ok("Refused 22: a simple policy has over 65,536 combinations of pieces.\n")
+        Ok("Refused 22: a possible term has over 65,536 combinations of pieces.\n")
+    );
+}
+
+#[test]
+fn the_other_operations_answers() {
+    let document = desk("Policy(:Data) Policy()");
+    let said = |answer: &str| document.aloud(answer).expect("an answer");
+    assert_eq!(said("impossible\n"), "Impossible: no individual can be in the first policy.\n");
+    assert_eq!(
+        said("possible 3\n"),
+        "Possible: some individual can be in term 3 of the first policy.\n"
+    );
+    assert_eq!(said("equal\n"), "Equal: the two policies mean the same.\n");
+    assert_eq!(
+        said("differs 2 1 4\nmember 1 1\n"),
+        "Different: term 1 of the second policy, combination 4, is not in the first.\n\
+         In this case, of 1 individual, x1 is in the second policy and outside the first:\n  \
+         x1 is in :Data\n"
     );
 }
 
@@ -60,7 +79,7 @@ fn the_papers_words() {
     assert_eq!(program(&document.encode()), b"outside 1 1\nedge 1 1 2\nmember 1 2\n");
     assert_eq!(
         explained(&document),
-        "Outside: simple policy 1 of the first policy, combination 1, is not in the second.\n\
+        "Outside: term 1 of the first policy, combination 1, is not in the second.\n\
          In this case, of 2 individuals, x1 is in the first policy and outside the second:\n  \
          x1 has :has x2\n  x2 is in :Data\n"
     );
@@ -82,7 +101,7 @@ fn spans_and_special_classes() {
     ];
     assert_eq!(document.first.terms, terms);
     assert_eq!(document.second.terms, Vec::<reasoner::policy::Term>::new());
-    assert!(explained(&document).starts_with("Outside: simple policy 1"));
+    assert!(explained(&document).starts_with("Outside: term 1"));
     let same = explained(&desk("Policy(:Both) Policy()"));
     assert_eq!(same, "Compliant: whatever is in the first policy is in the second.\n");
     let nothing_known = explained(&desk("Policy(owl:Thing) Policy()"));
@@ -121,7 +140,7 @@ fn mistakes_have_a_place() {
         ("Declaration(Class(:A)) Policy(:A))", "line 1, column 34: expected Declaration, an axiom or Policy, found \")\""),
         ("Declaration Class", "line 1, column 13: expected \"(\" after Declaration, found \"Class\""),
         ("Policy() Policy() Policy()", "line 1, column 19: a text has two policies, and this is the third"),
-        ("Policy(ObjectIntersectionOf(ObjectUnionOf()))", "line 1, column 29: a union can stand only outside the simple policies"),
+        ("Policy(ObjectIntersectionOf(ObjectUnionOf()))", "line 1, column 29: a union can stand only outside the terms"),
         ("Declaration(DataProperty(:d)) Policy(DataSomeValuesFrom(:d DatatypeRestriction(xsd:integer xsd:minInclusive -1", "line 1, column 109: expected a whole number from 0 to 4294967295, found \"-1\""),
         ("Declaration(DataProperty(:d)) Policy(DataSomeValuesFrom(:d xsd:integer))", "line 1, column 60: expected \"DatatypeRestriction\", found \"xsd:integer\""),
         ("Policy(Annotation(:recordOrder \"1\"))", "line 1, column 8: :recordOrder must have each number from 1 to 0 once"),

@@ -260,7 +260,7 @@ fn shrinking_keeps_what_differs() {
         if later(&case) {
             let small = shrink(&case, &mut later);
             assert!(later(&small));
-            // Two simple policies on the left, a span, and something on the right to split it.
+            // Two terms on the left, a span, and something on the right to split it.
             assert!(small.p.len() + small.q.len() <= 78 && small.v.len() <= 8, "{small}");
             shrunk += 1;
         }

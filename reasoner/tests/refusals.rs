@@ -120,7 +120,7 @@ fn the_walk_finds_7_then_6_then_8_at_one_record() {
     let mut p = deep(3);
     p[6 + 5] = 2;
     assert_eq!(read(&p), Reading::Refused(7));
-    // Reached before wins over depth: record 20 is reached from the first simple policy, and then
+    // Reached before wins over depth: record 20 is reached from the first term, and then
     // again at depth 17 from the second.
     let shared = [
         vec![1, 0, 0, 0, 0, 0],
@@ -229,7 +229,7 @@ fn limits_answer_as_the_paper_says() {
         ("65 features", 2),
         ("1,025 vocabulary records", 1),
         ("513 policy records in one term", 4),
-        ("513 simple policies", 4),
+        ("513 terms", 4),
         ("depth 17", 8),
         ("depth 17 in the second", 18),
         ("131,072 combinations", 22),
@@ -259,7 +259,7 @@ fn limits_answer_as_the_paper_says() {
     }
     assert_eq!(verdict("65,536 combinations, all covered"), Verdict::Compliant);
     assert_eq!(comparison("131,072 combinations in the second only"), Comparison::Refused(22));
-    assert_eq!(comparison("512 simple policies"), Comparison::Equal);
+    assert_eq!(comparison("512 terms"), Comparison::Equal);
     assert_eq!(checked("model of 700,005 words"), Checked::Yes);
     assert_eq!(checked("model of 700,010 words"), Checked::Refused(31));
     assert_eq!(checked("dense model of one role"), Checked::Yes);

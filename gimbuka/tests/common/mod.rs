@@ -21,10 +21,10 @@ pub const NARROW: [u32; 24] =
 /// Individual 1 reaches individual 2 by role 1, and 2 is in class 1: the countermodel to "WIDE lies inside NARROW".
 pub const MODEL: [u32; 15] = [1, 2, 0, 0, 0, 2, 1, 1, 2, 2, 1, 1, 2, 0, 0];
 
-/// No simple policy.
+/// No term.
 pub const NONE: [u32; 6] = [0; 6];
 
-/// One simple policy for each list of conjuncts. A conjunct is its kind, a, lo and hi; each list has at least one.
+/// One term for each list of conjuncts. A conjunct is its kind, a, lo and hi; each list has at least one.
 pub fn policy(terms: &[&[[u32; 4]]]) -> Vec<u32> {
     let mut words = NONE.to_vec();
     words[0] = u32::from(!terms.is_empty());

@@ -68,7 +68,7 @@ fn judge(tally: &mut Tally, case: &Case) -> Result<(), Box<Case>> {
     Ok(())
 }
 
-/// The answers that document 01 has.
+/// The answers that there are (SPECIFICATION 9.1).
 fn answers() -> impl Iterator<Item = String> {
     const READ: [u32; 3] = [1, 2, 3];
     const FIRST: [u32; 5] = [4, 5, 6, 7, 8];

@@ -119,7 +119,7 @@ fn kind(answer: &[u8]) -> String {
     if line.starts_with("outside") { "outside" } else { line }.to_owned()
 }
 
-/// The answers that document 01 gives the program.
+/// The answers that the program gives (SPECIFICATION 10.3).
 fn answers() -> impl Iterator<Item = String> {
     let refusals = (1..=8).chain(14..=18).chain([22, 23, 40]);
     let words = ["compliant", "outside"].map(str::to_owned);

@@ -68,7 +68,7 @@ fn divide(rng: &mut Rng, whole: &[Side], cuts: u32, parts: &mut Vec<Vec<Side>>) 
     divide(rng, &high, cuts - 1, parts);
 }
 
-/// The simple policy of a box. In a consent, a side as long as the whole box's is often left out,
+/// The term of a box. In a consent, a side as long as the whole box's is often left out,
 /// so that the term says nothing of its feature.
 fn term(rng: &mut Rng, sides: &[Side], whole: &[Side], consent: bool) -> Term {
     let mut conjuncts = Term::new();

@@ -163,7 +163,7 @@ fn wide() -> Vec<u32> {
     policy_words(&[(1..=17).map(|feature| Conjunct::Within(FeatureNo(feature), 0, 1)).collect()])
 }
 
-/// At least one fault for every refusal, and every way that the paper names to come to it.
+/// At least one fault for every refusal, and every way that SPECIFICATION names to come to it.
 #[must_use]
 pub fn faults() -> Vec<Fault> {
     let fault = |number, name, apply| Fault { number, name, apply };
@@ -194,9 +194,9 @@ pub fn faults() -> Vec<Fault> {
         fault(4, "policy over 3,078 words", |case| case.p.resize(3_084, 0)),
         fault(5, "policy header link", |case| case.p[0] = (case.p.len() / 6) as u32),
         fault(5, "policy header word", |case| case.p[5] = 1),
-        fault(6, "simple policy of kind 1", |case| case.p[6] = 1),
-        fault(6, "simple policy with a", |case| case.p[7] = 1),
-        fault(6, "simple policy links to itself", |case| case.p[11] = 1),
+        fault(6, "term of kind 1", |case| case.p[6] = 1),
+        fault(6, "term with a", |case| case.p[7] = 1),
+        fault(6, "term links to itself", |case| case.p[11] = 1),
         fault(6, "conjunct of kind 5", |case| case.p[12] = 5),
         fault(6, "conjunct of kind 0", |case| case.p[12] = 0),
         fault(6, "conjunct of kind 6", |case| case.p[12] = 6),
@@ -209,7 +209,7 @@ pub fn faults() -> Vec<Fault> {
         fault(14, "second over 3,078 words", |case| case.q.resize(3_084, 0)),
         fault(15, "second header link", |case| case.q[0] = (case.q.len() / 6) as u32),
         fault(15, "second header word", |case| case.q[1] = 1),
-        fault(16, "second simple policy of kind 1", |case| case.q[6] = 1),
+        fault(16, "second term of kind 1", |case| case.q[6] = 1),
         fault(16, "second conjunct of kind 5", |case| case.q[12] = 5),
         fault(16, "second conjunct links too far", |case| case.q[17] = u32::MAX),
         fault(17, "second child is next", |case| case.q[11] = case.q[10]),

@@ -21,13 +21,13 @@ pub enum Answer {
     Outside,
 }
 
-/// A pair of everyday size: 256 classes, ten simple policies and about 70 records each side.
+/// A pair of everyday size: 256 classes, ten terms and about 70 records each side.
 #[must_use]
 pub fn case(seed: u64, answer: Answer) -> Case {
     sized(seed, answer, 256, 10)
 }
 
-/// A pair over so many classes, 16 or more, and of so many simple policies each side; with five or more of them the consent has one
+/// A pair over so many classes, 16 or more, and of so many terms each side; with five or more of them the consent has one
 /// more, since one of the company's is inside two together.
 #[must_use]
 pub fn sized(seed: u64, answer: Answer, classes: u32, terms: usize) -> Case {

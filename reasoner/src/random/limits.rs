@@ -1,4 +1,4 @@
-//! Cases at every limit of the paper and one past it.
+//! Cases at every limit (SPECIFICATION 12) and one past it.
 
 use super::{models, Case, Rng};
 use crate::classes::{ClassNo, FeatureNo, RoleNo};
@@ -40,8 +40,8 @@ fn makers() -> Vec<Maker> {
         ("256 classes in one cycle", || class_chain(false, true)),
         ("512 policy records in one term", || wide_policy(511)),
         ("513 policy records in one term", || wide_policy(512)),
-        ("512 simple policies", || many_terms(512)),
-        ("513 simple policies", || many_terms(513)),
+        ("512 terms", || many_terms(512)),
+        ("513 terms", || many_terms(513)),
         ("depth 16", || deep_policy(16, false)),
         ("depth 17", || deep_policy(17, false)),
         ("depth 17 in the second", || deep_policy(17, true)),

@@ -13,7 +13,7 @@ pub fn aloud(names: &Names, answer: &str) -> Result<String, String> {
         }
         ["possible", term] => {
             let term = number(term)?;
-            Ok(format!("Possible: some individual can be in simple policy {term} of the first policy.\n"))
+            Ok(format!("Possible: some individual can be in term {term} of the first policy.\n"))
         }
         ["impossible"] => Ok("Impossible: no individual can be in the first policy.\n".to_owned()),
         ["equal"] => Ok("Equal: the two policies mean the same.\n".to_owned()),
@@ -25,7 +25,7 @@ pub fn aloud(names: &Names, answer: &str) -> Result<String, String> {
             let (term, combination) = (number(term)?, number(combination)?);
             let told = countermodel(names, lines, ["first", "second"])?;
             Ok(format!(
-                "Outside: simple policy {term} of the first policy, combination {combination}, is not in the second.\n{told}"
+                "Outside: term {term} of the first policy, combination {combination}, is not in the second.\n{told}"
             ))
         }
         ["differs", side, term, combination] => {
@@ -38,7 +38,7 @@ pub fn aloud(names: &Names, answer: &str) -> Result<String, String> {
             let told = countermodel(names, lines, sides)?;
             let [one, other] = sides;
             Ok(format!(
-                "Different: simple policy {term} of the {one} policy, combination {combination}, is not in the {other}.\n{told}"
+                "Different: term {term} of the {one} policy, combination {combination}, is not in the {other}.\n{told}"
             ))
         }
         _ => Err("this is no answer".to_owned()),

@@ -78,7 +78,7 @@ impl Names {
 /// A policy as a text has it.
 #[derive(Clone, Debug, Default, PartialEq, Eq)]
 pub struct PolicyText {
-    /// Its simple policies.
+    /// Its terms.
     pub terms: Vec<Term>,
     /// The number of each record, in the order of the walk; none when they are 1, 2, 3 and so on.
     pub order: Option<Vec<u32>>,
@@ -184,26 +184,26 @@ impl fmt::Display for Document {
 #[must_use]
 pub fn refusal(number: u32) -> &'static str {
     match number {
-        1 => "the vocabulary's length is no multiple of 4, or too short or too long",
-        2 => "a count or the link in the vocabulary's header is out of range",
-        3 => "a vocabulary record has a bad kind, name, zero or link",
-        4 => "the first policy's length is no multiple of 6, or too short or too long",
-        5 => "the first policy's header is at fault",
-        6 => "a record of the first policy has a bad kind, name, zero or link",
+        1 => "the vocabulary's length is no multiple of 4, under 4 words or over 4,100",
+        2 => "in the vocabulary's header a count is out of range or the link is past the last record",
+        3 => "a record of the vocabulary's chain has an unknown kind, a name outside its series, a b that should be 0, or a link that does not rise",
+        4 => "the first policy's length is no multiple of 6, under 6 words or over 3,078",
+        5 => "the first policy's header links past the last record, or another of its words is not 0",
+        6 => "a record of the first policy has a wrong kind, name, zero or link, or stands where its kind may not",
         7 => "a record of the first policy is reached twice",
-        8 => "the first policy is deeper than 16",
-        14 => "the second policy's length is no multiple of 6, or too short or too long",
-        15 => "the second policy's header is at fault",
-        16 => "a record of the second policy has a bad kind, name, zero or link",
+        8 => "a conjunct of the first policy is at depth 17",
+        14 => "the second policy's length is no multiple of 6, under 6 words or over 3,078",
+        15 => "the second policy's header links past the last record, or another of its words is not 0",
+        16 => "a record of the second policy has a wrong kind, name, zero or link, or stands where its kind may not",
         17 => "a record of the second policy is reached twice",
-        18 => "the second policy is deeper than 16",
-        21 => "the work slice is too short",
-        22 => "a simple policy has over 65,536 combinations of pieces",
-        23 => "the output is too short for the countermodel",
-        31 => "the model's length is no multiple of 5, or too short or too long",
-        32 => "the model's header is at fault",
-        33 => "a model record is at fault",
-        40 => "the input is over 65,536 bytes, cut short or followed by more",
-        _ => "no refusal of the paper",
+        18 => "a conjunct of the second policy is at depth 17",
+        21 => "the work slice has under 16,384 words",
+        22 => "a possible term has over 65,536 combinations of pieces",
+        23 => "the answer is no, and its countermodel takes more words than the output has",
+        31 => "the model's length is no multiple of 5, under 5 words or over 700,005",
+        32 => "the model's header links past the last record, counts individuals outside 1 to 512, or has a word that should be 0",
+        33 => "a record of the model's chain has an unknown kind, a name outside its series, an individual outside the header's count, a word that should be 0, or a link that does not rise",
+        40 => "the input is over 65,536 bytes, cut short, or followed by more",
+        _ => "no refusal",
     }
 }

@@ -221,7 +221,7 @@ impl Parser {
         self.features.number(&name, at).map(FeatureNo)
     }
 
-    /// `[Annotation(:recordOrder "..")]` and simple policies, or a union of them.
+    /// `[Annotation(:recordOrder "..")]` and terms, or a union of them.
     fn policy(&mut self) -> Parsed<PolicyText> {
         self.records = 0;
         let annotation = self.order()?;
@@ -272,7 +272,7 @@ impl Parser {
         self.records += 1;
         if self.records > MOST_RECORDS {
             return Err(at.mistake(format!(
-                "a policy has at most {MOST_RECORDS} records, one for each simple policy and conjunct"
+                "a policy has at most {MOST_RECORDS} records, one for each term and conjunct"
             )));
         }
         Ok(())
@@ -292,7 +292,7 @@ impl Parser {
                 });
             }
             "ObjectUnionOf" => {
-                return Err(at.mistake("a union can stand only outside the simple policies"));
+                return Err(at.mistake("a union can stand only outside the terms"));
             }
             _ => {}
         }

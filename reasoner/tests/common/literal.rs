@@ -1,4 +1,4 @@
-//! The paper once more, as literally and as slowly as it can be said: Table 1 by rewriting one
+//! The specification once more, as literally and as slowly as it can be said: Table 1 by rewriting one
 //! rule at a time, every combination listed, Algorithm 1 on each. It shares no code with the
 //! library.
 #![allow(clippy::manual_is_multiple_of, clippy::manual_range_contains, clippy::needless_range_loop)]

@@ -147,7 +147,7 @@ impl Interpretation {
         }
     }
 
-    /// A random interpretation that tends to have individual 1 in the simple policy.
+    /// A random interpretation that tends to have individual 1 in the term.
     pub fn random_around(rng: &mut Rng, kb: &Kb, simple: &Simple) -> Self {
         let mut one = Self { n: 1, ..Self::default() };
         one.make_true(rng, kb, 1, simple);

@@ -25,7 +25,7 @@ pub fn f(a: u32, lo: u32, hi: u32) -> Conjunct {
     Conjunct::Within(FeatureNo(a), lo, hi)
 }
 
-/// The words of a policy of these simple policies.
+/// The words of a policy of these terms.
 pub fn words(terms: &[Term]) -> Vec<u32> {
     policy_words(terms)
 }
