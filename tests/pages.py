@@ -1,11 +1,11 @@
 #!/usr/bin/env python3
-"""pages.py: what docs/ARCHITECTURE.md says of the repository is so.
+"""pages.py: what docs/ARCHITECTURE.md and CONTRIBUTING.md say of the repository is so.
 
 A fenced block whose first line names a file, as in ```rust crates/keys/src/lib.rt, quotes it: its lines stand there one after another.
 A line of two dots alone stands for lines that are left out; in a block of `text` the marks of comments are left out too.
-The table of crates has every crate once, in the order of crates.txt. A name in that table is declared in the row's crate, and a name in
-the table of words is declared, where a module or a crate stands behind it in brackets, there. No line has over 120 characters.
-And in every page a link leads to a file that is there, and to a heading of it.
+The tables of crates have every crate once, in the order of crates.txt. A name in ARCHITECTURE's is declared in the row's crate, and a name
+in the tables of PLACING is declared, where a module or a crate stands behind it in brackets, there. No line of ARCHITECTURE has over
+120 characters. And in every page a link leads to a file that is there, and to a heading of it.
 """
 import os
 import re
@@ -16,10 +16,11 @@ sys.dont_write_bytecode = True
 from names import PLACED, QUOTED, declarations, words  # noqa: E402
 from picture import listed  # noqa: E402
 
-HOUSE = 'docs/ARCHITECTURE.md'
-CRATES, WORDS = '## The crates in order', '## Words'
-QUOTING = [HOUSE]
-TABLES = [(HOUSE, CRATES)]
+HOUSE, GUIDE = 'docs/ARCHITECTURE.md', 'CONTRIBUTING.md'
+CRATES = '## The crates in order'
+QUOTING = [HOUSE, GUIDE]
+TABLES = [(HOUSE, CRATES), (GUIDE, '## How long each crate takes')]
+PLACING = [(HOUSE, '## Words'), (GUIDE, '## To add a kind of record')]
 WIDEST = 120
 
 
@@ -93,14 +94,14 @@ def wrong_names():
         for name in named_in(change):
             if not os.path.exists(name) and not placed[name] and not stands(name, ['crates/' + crate.strip('`')]):
                 yield '%s: %s is not declared in crate %s' % (HOUSE, name, crate)
-    for _, _, where in rows(HOUSE, WORDS):
+    for page, where in ((page, row[-1]) for page, heading in PLACING for row in rows(page, heading)):
         for name in named_in(where):
             if not named[name] | placed[name]:
-                yield '%s: %s is declared nowhere' % (HOUSE, name)
+                yield '%s: %s is declared nowhere' % (page, name)
         for names, place in PLACED.findall(where):
             for name in named_in(names):
                 if not stands(name, placed[place]):
-                    yield '%s: %s is not declared in %s' % (HOUSE, name, place)
+                    yield '%s: %s is not declared in %s' % (page, name, place)
 
 
 def anchors(page):
