@@ -5,7 +5,8 @@ A fenced block whose first line names a file, as in ```rust crates/keys/src/lib.
 A line of two dots alone stands for lines that are left out; in a block of `text` the marks of comments are left out too.
 The tables of crates have every crate once, in the order of crates.txt. A name in ARCHITECTURE's is declared in the row's crate, and a name
 in the tables of PLACING is declared, where a module or a crate stands behind it in brackets, there. No line of ARCHITECTURE has over
-120 characters. And in every page a link leads to a file that is there, and to a heading of it.
+120 characters. In every page a link leads to a file that is there, and to a heading of it. The version at the head of docs/CHANGES.md
+is every package's.
 """
 import os
 import re
@@ -16,7 +17,7 @@ sys.dont_write_bytecode = True
 from names import PLACED, QUOTED, declarations, words  # noqa: E402
 from picture import listed  # noqa: E402
 
-HOUSE, GUIDE = 'docs/ARCHITECTURE.md', 'CONTRIBUTING.md'
+HOUSE, GUIDE, CHANGES = 'docs/ARCHITECTURE.md', 'CONTRIBUTING.md', 'docs/CHANGES.md'
 CRATES = '## The crates in order'
 QUOTING = [HOUSE, GUIDE]
 TABLES = [(HOUSE, CRATES), (GUIDE, '## How long each crate takes')]
@@ -129,7 +130,17 @@ def wrong_lines():
             yield '%s:%d: %d characters' % (HOUSE, number, len(line))
 
 
-CHECKS = [wrong_quotes, wrong_tables, wrong_names, wrong_links, wrong_lines]
+def wrong_versions():
+    said = re.findall(r'\bversion (\d+\.\d+\.\d+)', section(CHANGES, '# Changes'))
+    if len(said) != 1:
+        yield '%s: its head does not say one version' % CHANGES
+    for package in glob('Cargo.toml') + glob('*/Cargo.toml'):
+        for version in re.findall(r'(?m)^version = "(.*)"', read(package)):
+            if said != [version]:
+                yield '%s: version %s, where %s says %s' % (package, version, CHANGES, ', '.join(said))
+
+
+CHECKS = [wrong_quotes, wrong_tables, wrong_names, wrong_links, wrong_lines, wrong_versions]
 
 
 def main():
