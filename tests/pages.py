@@ -4,7 +4,7 @@
 A fenced block whose first line names a file, as in ```rust crates/keys/src/lib.rt, quotes it: its lines stand there one after another.
 A line of two dots alone stands for lines that are left out; in a block of `text` the marks of comments are left out too.
 The tables of crates have every crate once, in the order of crates.txt. A name in ARCHITECTURE's is declared in the row's crate, and a name
-in the tables of PLACING is declared, where a module or a crate stands behind it in brackets, there. No line of ARCHITECTURE has over
+in the tables of PLACING is declared, where a module or a crate stands behind it in brackets, there. No line of NARROW has over
 120 characters. In every page a link leads to a file that is there, and to a heading of it. The version at the head of docs/CHANGES.md
 is every package's.
 """
@@ -22,6 +22,7 @@ CRATES = '## The crates in order'
 QUOTING = [HOUSE, GUIDE]
 TABLES = [(HOUSE, CRATES), (GUIDE, '## How long each crate takes')]
 PLACING = [(HOUSE, '## Words'), (GUIDE, '## To add a kind of record')]
+NARROW = ['README.md', 'docs/SPECIFICATION.md', HOUSE]
 WIDEST = 120
 
 
@@ -113,7 +114,9 @@ def anchors(page):
 
 def wrong_links():
     for page in glob('*.md') + glob('docs/*.md'):
-        for target in re.findall(r'\]\(([^)\s]+)\)', read(page)):
+        text = re.sub(r'`[^`\n]*`', '', read(page))
+        for target in re.findall(r'\]\(([^)\s]+)\)|(?m:^\[[^\]]+\]: (\S+)$)', text):
+            target = target[0] or target[1]
             path, _, anchor = target.partition('#')
             path = os.path.normpath(os.path.join(os.path.dirname(page), path)) if path else page
             if '://' in target:
@@ -125,9 +128,10 @@ def wrong_links():
 
 
 def wrong_lines():
-    for number, line in enumerate(read(HOUSE).split('\n'), 1):
-        if len(line) > WIDEST:
-            yield '%s:%d: %d characters' % (HOUSE, number, len(line))
+    for page in NARROW:
+        for number, line in enumerate(read(page).split('\n'), 1):
+            if len(line) > WIDEST:
+                yield '%s:%d: %d characters' % (page, number, len(line))
 
 
 def wrong_versions():

@@ -17,7 +17,7 @@ PLACES, CALLERS = 'layout', 'exports'
 # Each stage has a title, a colour, and its crates: the column and the row that each stands in, and what it is for.
 STAGES = [
     ('The shelf, used in many places: no arrows are drawn from these', '#f1f1ee', {
-        'meaning': (3, 0, 'the definitions of the papers and the theorems about them; the names, the answers, the limits'),
+        'meaning': (3, 0, 'every definition and the theorems about them; the names, the answers, the limits'),
         'intervals': (0.5, 1, 'lo..hi: inside, empty, touching'),
         'frames': (1.5, 1, 'what a call may change; 21; clearing'),
         'words': (2.5, 1, 'sets of numbers in words'),

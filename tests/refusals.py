@@ -9,6 +9,9 @@ The numbers are read from the definitions' text. A number is given by `refused`,
 behind it, and in a definition whose name ends in Refusal by an arm of `cond` that is a numeral. An operation gives what its definition
 names and what is given by those that it names. An arm that is written out is looked for before one that is a name of `let`, since
 the definitions bind by `let` what comes later.
+
+The library for Rust and the reasoner say of each number what the table says is wrong. And where a file refers to SPECIFICATION by
+section, as in SPECIFICATION 9.4, there is such a section.
 """
 import os
 import re
@@ -27,6 +30,13 @@ OPERATIONS = {
     'model_check': ('Model check', 'modelCheck'),
 }
 PROGRAM = ('program', 'program')
+# where a number has its sentence once more: the form of a row, and numbers that it does not have
+SAID = {
+    'gimbuka/src/refusal.rs': (r'\((\d+), "([^"]*)"\)', {40}),
+    'reasoner/src/text/mod.rs': (r'(\d+) => "([^"]*)"', set()),
+}
+REFERRING = ['README.md', 'CONTRIBUTING.md', 'docs/*.md', 'tests/*', 'crates/*/src/*.rt', 'crates/*/specs/*.antt', 'crates/*/proofs/*.antt',
+             'crates/*/proofs/*/*.antt', 'crates/exports/gimbuka.h', 'gimbuka/**/*.rs', 'reasoner/**/*.rs', 'judges/**/*.rs']
 GIVES = ('refused', 'refuses', 'fault', 'refusalAlong')
 SIGNATURE = re.compile(r'(?:abbrev |unfoldable )?(?:pub )?([^\s(]+) : ')
 
@@ -130,8 +140,8 @@ def orders(numbers, wrong):
 
 
 def rows(text, found, wrong):
-    """The table's numbers, each with its operations."""
-    table = {}
+    """The table's numbers, each with its operations and what is wrong."""
+    table, sentences = {}, {}
     for line in text.split('\n'):
         cells = [cell.strip() for cell in line.split('|')[1:-1]]
         if cells and cells[0].isdigit():
@@ -141,7 +151,30 @@ def rows(text, found, wrong):
             if table and number <= max(table):
                 wrong.append('%s: row %d is not in number order' % (TABLE, number))
             table[number] = list(found) if cells[1] == 'all' else re.findall(r'\[([^\]]+)\]', cells[1])
-    return table
+            sentences[number] = cells[2][0].lower() + cells[2][1:].rstrip('.')
+    return table, sentences
+
+
+def said(sentences, wrong):
+    """What is wrong is told in one sentence everywhere."""
+    for path, (form, without) in SAID.items():
+        told = {int(number): sentence for number, sentence in re.findall(form, open(path, encoding='utf-8').read())}
+        for number in sorted(set(sentences) - without | set(told)):
+            if told.get(number) != sentences.get(number):
+                wrong.append('%s: of %d it says "%s"; %s has "%s"' % (path, number, told.get(number), TABLE, sentences.get(number)))
+
+
+def references(page, wrong):
+    """How many references to a section there are, each of which has to lead to one."""
+    sections = set(re.findall(r'\n##+ ([\d.]+) ', page))
+    count = 0
+    for path in sorted(path for form in REFERRING for path in glob(form, recursive=True) if os.path.isfile(path)):
+        for several in re.findall(r'SPECIFICATION (\d+(?:\.\d+)?(?:(?:, | and | to )\d+\.\d+)*)', open(path, encoding='utf-8').read()):
+            for number in re.findall(r'\d+(?:\.\d+)?', several):
+                count += 1
+                if number not in sections:
+                    wrong.append('%s: there is no section %s' % (path, number))
+    return count
 
 
 def stated(page, link):
@@ -159,7 +192,9 @@ def main():
     wrong = []
     found = orders(Numbers(), wrong)
     text, page = (open(path, encoding='utf-8').read() for path in (TABLE, PAGE))
-    table = rows(text, found, wrong)
+    table, sentences = rows(text, found, wrong)
+    said(sentences, wrong)
+    count = references(page, wrong)
     for number in sorted(set(table) | set(sum(found.values(), []))):
         wanted = [title for title in found if number in found[title]]
         if not wanted:
@@ -175,8 +210,8 @@ def main():
             wrong.append('%s: the order of %s is %s; the definitions have %s' % (PAGE, title, told, order))
     for line in wrong:
         print(line)
-    print('%d refusals of %d operations, %d wrong' % (len(table), len(found), len(wrong)))
-    sys.exit(1 if wrong else 0)
+    print('%d refusals of %d operations, %d references to sections, %d wrong' % (len(table), len(found), count, len(wrong)))
+    sys.exit(1 if wrong or not count else 0)
 
 
 if __name__ == '__main__':
