@@ -168,5 +168,5 @@ fn every_sentence_has_its_number() {
 #[test]
 fn a_refusal_is_an_error() {
     let refusal: Box<dyn std::error::Error> = Box::new(read_vocabulary(&[]).unwrap_err());
-    assert!(refusal.to_string().starts_with("the vocabulary's length is not a multiple of 4"));
+    assert!(refusal.to_string().starts_with("the vocabulary's length is no multiple of 4"));
 }
