@@ -1,0 +1,159 @@
+//! Words to text.
+
+use crate::names::Names;
+use crate::vocabulary::Vocabulary;
+use std::fmt::Write as _;
+
+/// The declarations and axioms of a vocabulary, a line each. They read back as the same words where
+/// its records are chained 1, 2, 3 and so on.
+#[must_use]
+pub fn print_vocabulary(vocabulary: &Vocabulary) -> String {
+    let Names { classes, roles, features } = vocabulary.names();
+    let series = [("Class", classes), ("ObjectProperty", roles), ("DataProperty", features)];
+    let mut text = String::new();
+    for (keyword, names) in series {
+        for name in names {
+            let _ = writeln!(text, "Declaration({keyword}({name}))");
+        }
+    }
+    let words = vocabulary.words();
+    let (mut own, mut link) = (0, words.get(3).copied().unwrap_or(0));
+    while link > own {
+        let start = 4 * link as usize;
+        let Some(&[kind, a, b, next]) = words.get(start..start + 4) else { break };
+        let Some(axiom) = axiom(vocabulary.names(), kind, a, b) else { break };
+        let _ = writeln!(text, "{axiom}");
+        (own, link) = (link, next);
+    }
+    text
+}
+
+fn name(names: &[String], number: u32) -> Option<&str> {
+    names.get((number as usize).checked_sub(1)?).map(String::as_str)
+}
+
+fn axiom(names: &Names, kind: u32, a: u32, b: u32) -> Option<String> {
+    let Names { classes, roles, features } = names;
+    Some(match kind {
+        1 => format!("SubClassOf({} {})", name(classes, a)?, name(classes, b)?),
+        2 => format!("DisjointClasses({} {})", name(classes, a)?, name(classes, b)?),
+        3 => format!("FunctionalObjectProperty({})", name(roles, a)?),
+        4 => format!("FunctionalDataProperty({})", name(features, a)?),
+        5 => format!("ObjectPropertyRange({} {})", name(roles, a)?, name(classes, b)?),
+        _ => return None,
+    })
+}
+
+/// The text of a policy, which reads back as the same words; records that no link reaches are left
+/// out. None where the words are no policy over these names: let the proved library accept them first.
+#[must_use]
+pub fn print_policy(names: &Names, words: &[u32]) -> Option<String> {
+    let mut printer =
+        Printer { names, words, order: Vec::new(), seen: vec![false; words.len() / 6] };
+    let mut terms = String::new();
+    printer.terms(&mut terms)?;
+    let mut sorted = printer.order.clone();
+    sorted.sort_unstable();
+    let mut text = "Policy(\n".to_owned();
+    if sorted != printer.order {
+        let place = |number: &u32| sorted.partition_point(|other| other < number) + 1;
+        let numbers: Vec<String> = printer.order.iter().map(|n| place(n).to_string()).collect();
+        let _ = writeln!(text, "  Annotation(:recordOrder \"{}\")", numbers.join(" "));
+    }
+    let _ = write!(text, "  ObjectUnionOf(\n{terms}  )\n)\n");
+    Some(text)
+}
+
+struct Printer<'a> {
+    names: &'a Names,
+    words: &'a [u32],
+    /// The records, in the order of the walk.
+    order: Vec<u32>,
+    /// Which of them were there before.
+    seen: Vec<bool>,
+}
+
+impl Printer<'_> {
+    fn terms(&mut self, text: &mut String) -> Option<()> {
+        let mut link = match self.words.get(..6)? {
+            &[link, 0, 0, 0, 0, 0] => link,
+            _ => return None,
+        };
+        while link != 0 {
+            let [kind, a, lo, hi, child, next] = self.record(link)?;
+            if [kind, a, lo, hi] != [5, 0, 0, 0] {
+                return None;
+            }
+            text.push_str("    ObjectIntersectionOf(\n");
+            for one in self.chain(child, 1)? {
+                let _ = writeln!(text, "      {one}");
+            }
+            text.push_str("    )\n");
+            link = next;
+        }
+        Some(())
+    }
+
+    /// The words of a record, whose links must rise.
+    fn record(&mut self, own: u32) -> Option<[u32; 6]> {
+        let seen = self.seen.get_mut(own as usize)?;
+        if std::mem::replace(seen, true) {
+            return None;
+        }
+        self.order.push(own);
+        let start = 6 * own as usize;
+        let record: [u32; 6] = self.words.get(start..start + 6)?.try_into().ok()?;
+        let rise = record[4..].iter().all(|&link| link == 0 || link > own);
+        rise.then_some(record)
+    }
+
+    /// The conjuncts of a chain at this depth.
+    fn chain(&mut self, mut link: u32, depth: u32) -> Option<Vec<String>> {
+        let mut all = Vec::new();
+        while link != 0 {
+            if depth > 16 {
+                return None;
+            }
+            let [kind, a, lo, hi, child, next] = self.record(link)?;
+            all.push(match [kind, lo, hi, child] {
+                [1, 0, 0, 0] => class(self.names, a)?.to_owned(),
+                [2, 0, 0, 0] if a == 0 => "owl:Nothing".to_owned(),
+                [3, 0, 0, _] => {
+                    let role = name(&self.names.roles, a)?;
+                    let inner = self.chain(child, depth + 1)?;
+                    format!("ObjectSomeValuesFrom({role} {})", concept(&inner))
+                }
+                [4, _, _, 0] => format!(
+                    "DataSomeValuesFrom({} DatatypeRestriction(xsd:integer \
+                     xsd:minInclusive \"{lo}\"^^xsd:integer xsd:maxInclusive \"{hi}\"^^xsd:integer))",
+                    name(&self.names.features, a)?
+                ),
+                _ => return None,
+            });
+            link = next;
+        }
+        Some(all)
+    }
+}
+
+/// A class may be declared with the name of a keyword, but then no policy can use it.
+fn class(names: &Names, number: u32) -> Option<&str> {
+    const KEYWORDS: [&str; 6] = [
+        "owl:Thing",
+        "owl:Nothing",
+        "ObjectIntersectionOf",
+        "ObjectUnionOf",
+        "ObjectSomeValuesFrom",
+        "DataSomeValuesFrom",
+    ];
+    name(&names.classes, number).filter(|name| !KEYWORDS.contains(name))
+}
+
+/// OWL has no intersection of fewer than two: one stands for itself, and none is everything.
+fn concept(inner: &[String]) -> String {
+    match inner {
+        [] => "owl:Thing".to_owned(),
+        [one] => one.clone(),
+        _ => format!("ObjectIntersectionOf({})", inner.join(" ")),
+    }
+}

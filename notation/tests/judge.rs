@@ -1,0 +1,354 @@
+//! The judge of this package: the reasoner's parser and printer, written apart from it. On random
+//! texts and on damaged ones both give the same words, or a mistake at the same line and column.
+
+use notation::{
+    document, facts, model, policy, print_policy, print_vocabulary, Document, Vocabulary,
+};
+use reasoner::random::{Case, Family, Rng};
+use reasoner::text::{Document as Judge, Names};
+use reasoner::{read_policy, Reading};
+
+/// Texts of one test, most of them damaged.
+const TEXTS: usize = 100_000;
+/// Damaged texts for each whole one.
+const DAMAGED: usize = 24;
+
+/// A document of the reasoner's random cases, with other names.
+fn random(rng: &mut Rng, seed: u64) -> Option<Judge> {
+    const FAMILIES: [Family; 6] = [
+        Family::Tiny,
+        Family::Small,
+        Family::Small,
+        Family::Merges,
+        Family::Coverage,
+        Family::Damaged,
+    ];
+    let case = Case::generate(*rng.pick(&FAMILIES), seed);
+    let mut document = Judge::decode(&case.bytes()).ok()?;
+    let Names { classes, roles, features } = &mut document.names;
+    match rng.below(4) {
+        0 => {}
+        1 => [classes, roles, features]
+            .into_iter()
+            .for_each(|names| rename(names, "<http://x.y/#", ">")),
+        2 => [classes, roles, features].into_iter().for_each(|names| rename(names, "", "")),
+        _ => {
+            // One name may stand in all three series, and a keyword may be a name.
+            const ODD: [&str; 10] = [
+                "Annotation",
+                "Policy",
+                "Class",
+                "ObjectUnionOf",
+                "^^xsd:integer",
+                ":recordOrder",
+                "xsd:integer",
+                "a<b>",
+                "<>",
+                "-",
+            ];
+            for names in [classes, roles, features] {
+                let first = rng.place(ODD.len());
+                for (name, odd) in names.iter_mut().zip(&ODD[first..]) {
+                    *name = (*odd).to_owned();
+                }
+            }
+        }
+    }
+    Some(document)
+}
+
+fn rename(names: &mut [String], front: &str, back: &str) {
+    for (name, number) in names.iter_mut().zip(1..) {
+        *name = format!("{front}{number}{back}");
+    }
+}
+
+/// The same text with other blanks, comments, and numbers without quotes.
+fn restyled(rng: &mut Rng, text: &str) -> String {
+    const BLANKS: [&str; 8] =
+        [" ", "\n", "\r\n", "\t", "\x0b \x0c", " # ( \"<\n", "\n\n# Policy(:A)\n", "#\n"];
+    let text = match rng.below(3) {
+        0 => text.replace("\"^^xsd:integer", "").replace("clusive \"", "clusive "),
+        1 => text.replace('(', " ( ").replace(')', " )"),
+        _ => text.to_owned(),
+    };
+    let often = 1 + rng.below(12);
+    let mut styled = String::new();
+    for letter in text.chars() {
+        match letter {
+            '\n' | ' ' if rng.once_in(often) && !styled.ends_with('"') => {
+                styled.push_str(BLANKS[rng.place(BLANKS.len())]);
+            }
+            _ => styled.push(letter),
+        }
+    }
+    styled
+}
+
+/// One change, which leaves ASCII as ASCII.
+fn damage(rng: &mut Rng, text: &mut Vec<u8>) {
+    if text.is_empty() {
+        return;
+    }
+    let at = rng.place(text.len());
+    // Mostly a short part, so that what comes behind is still read.
+    let longest = if rng.once_in(4) { text.len() - at } else { 12.min(text.len() - at) };
+    let part = at..at + rng.place(longest + 1);
+    match rng.below(9) {
+        6.. => {
+            // A word in the place of another.
+            let from = rng.place(text.len());
+            let word = text[word(text, from)].to_vec();
+            text.splice(self::word(text, at), word);
+        }
+        0 => text[at] = byte(rng),
+        1 => text.insert(at, byte(rng)),
+        2 => drop(text.drain(part)),
+        3 => text.truncate(at),
+        4 => {
+            let doubled = text[part.clone()].to_vec();
+            text.splice(part.end..part.end, doubled);
+        }
+        5 => {
+            let moved = text[part].to_vec();
+            let to = rng.place(text.len());
+            text.splice(to..to, moved);
+        }
+    }
+}
+
+/// The letters around a place between which there is no blank, quote or parenthesis; at least one.
+fn word(text: &[u8], at: usize) -> std::ops::Range<usize> {
+    let is_end = |byte: &u8| byte.is_ascii_whitespace() || b"()\"#".contains(byte);
+    let front = text[..at].iter().rposition(is_end).map_or(0, |end| end + 1);
+    let back = text[at..].iter().position(is_end).unwrap_or(text.len() - at);
+    front..(at + back).max(at + 1)
+}
+
+fn byte(rng: &mut Rng) -> u8 {
+    match rng.below(3) {
+        0 => *rng.pick(b"()()()\"\"<>#:^ \n\r\t"),
+        1 => *rng.pick(b"0123456789PACo:"),
+        _ => rng.below(128) as u8,
+    }
+}
+
+/// Where a mistake is.
+type At = (usize, usize);
+
+/// Holds one text to the judge; gives whether both read it.
+fn hold(text: &str) -> bool {
+    let found = document(text.as_bytes());
+    let judged = Judge::parse(text);
+    let fits = match (&found, &judged) {
+        (Ok(found), Ok(judged)) => agrees(found, judged),
+        // The judge takes two policies, no fewer and no more.
+        (Ok(found), Err(judged)) => match found.policies.len() {
+            2 => false,
+            0 | 1 => judged.message.contains("a text has two policies"),
+            _ => judged.message.contains("this is the third"),
+        },
+        (Err(found), Err(judged)) => {
+            let [found, place]: [At; 2] = [found, &to_ours(judged)].map(|m| (m.line, m.column));
+            found == place || judged.message.contains("this is the third") && found > place
+        }
+        (Err(_), Ok(_)) => false,
+    };
+    assert!(fits, "found {found:?}\njudge {judged:?}\n{text}");
+    judged.is_ok()
+}
+
+fn to_ours(mistake: &reasoner::text::Mistake) -> notation::Mistake {
+    let reasoner::text::Mistake { line, column, message } = mistake.clone();
+    notation::Mistake { line, column, message }
+}
+
+fn agrees(found: &Document, judged: &Judge) -> bool {
+    let [v, p, q] = judged.words();
+    let names = found.vocabulary.names();
+    let Names { classes, roles, features } = &judged.names;
+    found.vocabulary.words() == v
+        && found.policies.iter().map(|policy| &policy.words).eq([&p, &q])
+        && found.policies.iter().all(|policy| policy.name.is_none())
+        && (&names.classes, &names.roles, &names.features) == (classes, roles, features)
+}
+
+#[test]
+fn whole_and_damaged_texts() {
+    let mut rng = Rng::new(17);
+    let (mut texts, mut read) = (0, 0);
+    for seed in 0.. {
+        let Some(whole) = random(&mut rng, seed) else { continue };
+        let whole = restyled(&mut rng, &whole.to_string());
+        read += usize::from(hold(&whole));
+        for _ in 0..DAMAGED {
+            let mut text = whole.clone().into_bytes();
+            for _ in 0..=rng.below(3) {
+                damage(&mut rng, &mut text);
+            }
+            read += usize::from(hold(&String::from_utf8(text).expect("ASCII")));
+        }
+        texts += 1 + DAMAGED;
+        if texts >= TEXTS {
+            break;
+        }
+    }
+    assert!(read > texts / 25, "{read} of {texts} texts are without a mistake");
+}
+
+/// Where the bytes themselves are wrong first, by the rule: a character over 127 that stands in no
+/// comment and no string, or a string or IRI without its end.
+fn wrong_bytes(text: &str) -> Option<At> {
+    let (mut line, mut column) = (1, 0);
+    let mut inside: Option<(char, At)> = None;
+    let mut is_word = false;
+    for letter in text.chars() {
+        column += 1;
+        match inside {
+            Some((end, _)) if letter == end => {
+                inside = None;
+                is_word = false;
+            }
+            Some((_, start)) if letter == '\n' => return Some(start),
+            Some(('>', _)) | None if !letter.is_ascii() => return Some((line, column)),
+            Some(_) => {}
+            None => match letter {
+                '"' => inside = Some(('"', (line, column))),
+                '<' if !is_word => inside = Some(('>', (line, column))),
+                '#' => inside = Some(('\n', (line, column))),
+                _ => is_word = !(letter.is_whitespace() || letter == '(' || letter == ')'),
+            },
+        }
+        if letter == '\n' {
+            (line, column) = (line + 1, 0);
+        }
+    }
+    inside.filter(|&(end, _)| end != '\n').map(|(_, start)| start)
+}
+
+#[test]
+fn characters_over_127() {
+    const FOREIGN: [&str; 5] = ["ü", "\u{a0}", "\u{85}", "…", "\u{1f600}"];
+    let mut rng = Rng::new(18);
+    let (mut inside, mut outside) = (0, 0);
+    for seed in 0..4_000 {
+        let Some(whole) = random(&mut rng, seed) else { continue };
+        let whole = restyled(&mut rng, &whole.to_string()).replace("# ( ", "# a comment ( ");
+        for _ in 0..4 {
+            let mut text = whole.clone();
+            text.insert_str(rng.place(text.len()), FOREIGN[rng.place(FOREIGN.len())]);
+            match wrong_bytes(&text) {
+                None => {
+                    hold(&text);
+                    inside += 1;
+                }
+                Some(place) => {
+                    let found = document(text.as_bytes()).expect_err("a mistake");
+                    assert_eq!((found.line, found.column), place, "{found}\n{text}");
+                    outside += 1;
+                }
+            }
+        }
+    }
+    assert!(inside > 1_000 && outside > 5_000, "{inside} {outside}");
+}
+
+#[test]
+fn a_name_changes_no_word() {
+    let mut rng = Rng::new(19);
+    for seed in 0..2_000 {
+        let Some(judge) = random(&mut rng, seed) else { continue };
+        let text = judge.to_string();
+        let Ok(unnamed) = document(text.as_bytes()) else { continue };
+        let label = "Annotation(rdfs:label \"a (b) #c <ü\")";
+        let before = text.replace("\nPolicy(\n", &format!("\nPolicy(\n {label}\n"));
+        let behind = text.replace("  ObjectUnionOf(\n", &format!("{label} ObjectUnionOf(\n"));
+        for text in [before, behind] {
+            let named = document(text.as_bytes()).unwrap_or_else(|m| panic!("{m}\n{text}"));
+            for (named, unnamed) in named.policies.iter().zip(&unnamed.policies) {
+                assert_eq!(named.name.as_deref(), Some("a (b) #c <ü"), "{text}");
+                assert_eq!(named.words, unnamed.words);
+            }
+        }
+    }
+}
+
+#[test]
+fn words_are_printed_as_the_judge_prints_them() {
+    let mut rng = Rng::new(20);
+    let (mut printed, mut keywords) = (0, 0);
+    for seed in 0..6_000 {
+        let Some(judge) = random(&mut rng, seed) else { continue };
+        let text = judge.to_string();
+        let vocabulary = Vocabulary::parse(judge.axioms().as_bytes()).expect("a vocabulary");
+        let names = vocabulary.names();
+        let [v, p, q] = judge.words();
+        assert_eq!(vocabulary.words(), v);
+        let policies = [print_policy(names, &p), print_policy(names, &q)];
+        let [Some(first), Some(second)] = policies else {
+            assert!(names.classes.iter().any(|name| name == "ObjectUnionOf"), "{text}");
+            keywords += 1;
+            continue;
+        };
+        assert_eq!(format!("{}{first}{second}", print_vocabulary(&vocabulary)), text);
+        for (text, words) in [(first, p), (second, q)] {
+            assert_eq!(policy(&vocabulary, text.as_bytes()).expect("a policy").words, words);
+        }
+        printed += 1;
+    }
+    assert!(printed > 3_000 && keywords > 10, "{printed} {keywords}");
+}
+
+#[test]
+fn any_words_are_printed_or_not() {
+    let (mut accepted, mut refused) = (0, 0);
+    for seed in 0..20_000 {
+        let case = Case::any(seed);
+        let vocabulary = Vocabulary::of_words(case.v.clone());
+        let text = print_policy(vocabulary.names(), &case.p);
+        let axioms = print_vocabulary(&vocabulary);
+        if read_policy(&case.v, &case.p) != Reading::Accepted {
+            refused += 1;
+            continue;
+        }
+        let text = text.unwrap_or_else(|| panic!("no text\n{case}"));
+        let again = policy(&vocabulary, text.as_bytes()).expect("a policy").words;
+        assert_eq!(print_policy(vocabulary.names(), &again), Some(text));
+        let again = Vocabulary::parse(axioms.as_bytes()).expect("a vocabulary");
+        assert_eq!(print_vocabulary(&again), axioms);
+        accepted += 1;
+    }
+    assert!(accepted > 10_000 && refused > 1_000, "{accepted} {refused}");
+}
+
+#[test]
+fn countermodels_are_told_as_the_judge_tells_them() {
+    let mut told = 0;
+    for seed in 0..4_000 {
+        let case = Case::any(seed);
+        let Ok(judge) = Judge::decode(&case.bytes()) else { continue };
+        let answer = reasoner::program(&case.bytes());
+        let answer = String::from_utf8(answer).expect("text");
+        if !answer.starts_with("outside") {
+            continue;
+        }
+        let mut work = case.work();
+        work.resize(reasoner::FULL_WORK, 0);
+        let mut out = vec![0; 700_005];
+        let verdict = reasoner::compliance(&case.v, &case.p, &case.q, &mut work, &mut out);
+        let reasoner::Verdict::Outside(_, _, length) = verdict else { panic!("{verdict:?}") };
+        let words = &out[..length as usize];
+        let vocabulary = Vocabulary::of_words(case.v.clone());
+        assert_eq!(model(&vocabulary, answer.as_bytes()).as_deref(), Ok(words));
+        let bytes: Vec<u8> = words.iter().flat_map(|word| word.to_le_bytes()).collect();
+        assert_eq!(model(&vocabulary, &bytes).as_deref(), Ok(words));
+        let aloud = judge.aloud(&answer).expect("an answer");
+        let lines: Vec<&str> = aloud.lines().skip(2).map(str::trim_start).collect();
+        match facts(vocabulary.names(), words) {
+            none if none.is_empty() => assert_eq!(lines, ["nothing is known of x1"]),
+            facts => assert_eq!(facts, lines),
+        }
+        told += 1;
+    }
+    assert!(told > 500, "{told}");
+}
