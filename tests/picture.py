@@ -69,6 +69,7 @@ STAGES = [
         'text': (0.5, 9, 'answers to lines'),
         'desk': (2.5, 9, 'the program as a function'),
         'comply': (4, 9, 'the program'),
+        'streams': (5.5, 9, 'standard input and output'),
     }),
 ]
 PLACE = {name: place for _, _, crates in STAGES for name, place in crates.items()}

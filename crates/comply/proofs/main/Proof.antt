@@ -1,6 +1,7 @@
 use mathlib.Core.Path.{sym}
 use lib.Seq.{length-take-le}
 use borrow.Author.Needs.{needs}
+use Rattle.streams.proofs.Reading.{held}
 use Rattle.comply.proofs.main.Statement.{statement}
 use Rattle.comply.proofs.main.Tie as tie
 
@@ -12,6 +13,9 @@ main-spec =
     (λ c κs. search needs)
     (λ c. search needs)
     (λ c. search needs)
+    (λ c. search needs)
+    (λ c. held (c .before .before .before .before .read-input .last .0) (c .before .n .given .1) (c .before .before .before .before .read-input .ensures))
+    (λ c. sym (length-take-le _ _ (held (c .before .before .before .before .before .read-input .last .0) (c .before .before .n .given .1) (c .before .before .before .before .before .read-input .ensures))))
     (λ c. search needs)
     (λ c. search needs)
     (λ c. search needs)

@@ -1,0 +1,2 @@
+-- Laws that the functions' proofs cite; comply cites one, too.
+pub mod Reading
