@@ -1,8 +1,8 @@
 #!/usr/bin/env python3
-"""comply.py PROGRAM: what the program tells where its input cannot be read or its answer cannot be written (SPECIFICATION 10.3).
+"""comply.py PROGRAM WRAPPER: what the program tells where its input cannot be read or its answer cannot be written (SPECIFICATION 10.3).
 
 Each case has the status, standard output and standard error that it must have. The program cannot set its exit status: it is 0 unless a
-signal ends the program. One example comes in pieces: no contract says that the bytes of several reads are put one behind another.
+signal ends the program. The wrapper, scripts/comply, runs the program and ends with 2 where there was trouble. One example comes in pieces: no contract says that the bytes of several reads are put one behind another.
 """
 import os
 import signal
@@ -22,7 +22,7 @@ UNWRITTEN = b'comply: the answer cannot be written\n'
 # An empty input is refused.
 ANSWER = b'refused 40\n'
 
-# The redirections, as a shell has them, and what standard output and standard error then get.
+# The redirections, as a shell has them, and what standard output and standard error then get. All but the first are trouble.
 REDIRECTED = {
     'an empty input': ('</dev/null', ANSWER, b''),
     'standard output closed': ('</dev/null >&-', b'', UNWRITTEN),
@@ -74,26 +74,29 @@ def waiting(program):
     return run.returncode, run.stdout, run.stderr
 
 
-def cases(program):
-    """The name of each case, what the program did, and what it must do."""
+def cases(program, trouble, killed):
+    """The name of each case, what the program did, and what it must do: with this status in trouble, and this where a signal ends it."""
     for name, (redirections, output, error) in REDIRECTED.items():
-        yield name, redirected(program, redirections), (0, output, error)
-    yield 'a pipe that nobody reads, the signal ignored', unread_pipe(program, True), (0, b'', UNWRITTEN)
-    yield 'a pipe that nobody reads', unread_pipe(program, False), (-signal.SIGPIPE, b'', b'')
-    yield 'an input that has nothing yet', waiting(program), (0, b'', UNREAD)
+        yield name, redirected(program, redirections), (0 if output else trouble, output, error)
+    yield 'a pipe that nobody reads, the signal ignored', unread_pipe(program, True), (trouble, b'', UNWRITTEN)
+    yield 'a pipe that nobody reads', unread_pipe(program, False), (killed, b'', b'')
+    yield 'an input that has nothing yet', waiting(program), (trouble, b'', UNREAD)
     with open(os.path.join(HERE, PIECES + '.txt'), 'rb') as stored:
         yield 'an input in pieces', in_pieces(program), (0, stored.read(), b'')
 
 
 def main():
-    program = os.path.abspath(sys.argv[1])
+    program, wrapper = (os.path.abspath(path) for path in sys.argv[1:])
+    # a shell tells of a signal by 128 and its number
+    ways = [(program, 0, -signal.SIGPIPE), (wrapper, 2, 128 + signal.SIGPIPE)]
     tried, failed = 0, 0
-    for name, did, wanted in cases(program):
-        tried += 1
-        if did != wanted:
-            failed += 1
-            print('%s: status, output and error are %r, wanted %r' % (name, did, wanted))
-    print('%d cases of input and output through %s, %d failed' % (tried, os.path.basename(program), failed))
+    for way in ways:
+        for name, did, wanted in cases(*way):
+            tried += 1
+            if did != wanted:
+                failed += 1
+                print('%s, %s: status, output and error are %r, wanted %r' % (way[0], name, did, wanted))
+    print('%d cases of input and output, %d failed' % (tried, failed))
     sys.exit(1 if failed else 0)
 
 

@@ -1,51 +1,79 @@
 #!/usr/bin/env python3
-"""texts.py PROGRAM DESK ASK: the texts in examples/ through the proved program and the proved library, against the answers stored.
+"""texts.py PROGRAM COMMAND: the texts in examples/ through the proved program and the command, against the answers stored.
 
-examples/answers/NAME.OPERATION.txt is what is printed for examples/NAME.txt: the answer, an empty line, and the answer read aloud.
-Compliance is asked of the program and of the library, Possible and Equality of the library (gimbuka/examples/ask.rs). A text with no
-answer, or an answer with no text, is a failure.
+examples/answers/NAME.VERB.txt is what `COMMAND VERB --why examples/NAME.txt` prints, and in a last line its status. `comply` stands for the
+proved program: what it prints for the text's bytes, an empty line, and that read aloud by the command. A text with no answer, or an
+answer with no text, is a failure.
+
+README shows the answer to examples/heart_rate.txt, and in "A day with a collection" commands with what they print, which are run in
+examples/collection. The picture that one of them draws is docs/bob.svg.
 """
 import os
+import re
 import subprocess
 import sys
 from glob import glob
 
-TEXTS = os.path.join(os.path.dirname(os.path.abspath(__file__)), '..', 'examples')
+TOP = os.path.join(os.path.dirname(os.path.abspath(__file__)), '..')
 
 
-def run(command, given):
-    return subprocess.run(command, input=given, stdout=subprocess.PIPE, check=True).stdout
+def run(command, given=b''):
+    ran = subprocess.run(command, input=given, stdout=subprocess.PIPE, cwd=TOP)
+    return ran.stdout, ran.returncode
 
 
-def stem(path):
-    return os.path.basename(path).split('.')[0]
+def printed(program, command, verb, text):
+    if verb == 'comply':
+        answer, _ = run([program], run([command, 'encode', text])[0])
+        return answer + b'\n' + run([command, 'aloud', text], answer)[0]
+    output, status = run([command, verb, '--why', text])
+    return output + b'status %d\n' % status
 
 
-def main(program, desk, ask):
-    texts = {stem(path) for path in glob(os.path.join(TEXTS, '*.txt'))}
-    stored = sorted(glob(os.path.join(TEXTS, 'answers', '*.txt')))
+def shown(command):
+    """What README shows that is not so, and how many commands it has."""
+    with open(os.path.join(TOP, 'README.md'), encoding='utf-8') as file:
+        readme = file.read()
+    with open(os.path.join(TOP, 'examples', 'answers', 'heart_rate.check.txt'), encoding='utf-8') as file:
+        answer = file.read().rsplit('status', 1)[0]
+    wrong = [] if re.sub('(?m)^', '    ', answer.rstrip()) in readme else ['README: not the answer to examples/heart_rate.txt']
+    day = readme.split('\n## A day with a collection\n')[1].split('\n## ')[0]
+    commands = re.findall(r'(?m)^    \$ gimbuka (.*)\n((?:    .*\n)*)', day)
+    for words, output in commands:
+        words, _, picture = words.partition(' > ')
+        did = subprocess.run([command] + words.split(), stdout=subprocess.PIPE, cwd=os.path.join(TOP, 'examples', 'collection')).stdout.decode()
+        if picture:
+            with open(os.path.join(TOP, 'docs', picture), encoding='utf-8') as file:
+                output = file.read()
+        else:
+            output = re.sub('(?m)^    ', '', output)
+        if did != output:
+            wrong.append('README: gimbuka %s prints\n%s' % (words, did))
+    return wrong, len(commands)
+
+
+def main(program, command):
+    program, command = os.path.abspath(program), os.path.abspath(command)
+    stem = lambda path: os.path.basename(path).split('.')[0]
+    texts = {stem(path) for path in glob(os.path.join(TOP, 'examples', '*.txt'))}
+    stored = sorted(glob(os.path.join(TOP, 'examples', 'answers', '*.txt')))
     wrong = ['%s: no answer is stored' % name for name in sorted(texts - {stem(path) for path in stored})]
-    asked = 0
     for path in stored:
-        name, operation = os.path.basename(path).split('.')[:2]
+        name, verb = os.path.basename(path).split('.')[:2]
         if name not in texts:
             wrong.append('%s: there is no such text' % os.path.basename(path))
             continue
-        text = os.path.join(TEXTS, name + '.txt')
-        with open(text, 'rb') as file:
-            question = run([desk, 'encode'], file.read())
         with open(path, 'rb') as file:
             expected = file.read()
-        for command in [[ask, operation]] + ([[program]] if operation == 'compliance' else []):
-            answer = run(command, question)
-            printed = answer + b'\n' + run([desk, 'aloud', text], answer)
-            asked += 1
-            if printed != expected:
-                wrong.append('%s: %s prints\n%s' % (os.path.basename(path), ' '.join(command), printed.decode()))
+        did = printed(program, command, verb, 'examples/%s.txt' % name)
+        if did != expected:
+            wrong.append('%s: what is printed is\n%s' % (os.path.basename(path), did.decode()))
+    unlike, commands = shown(command)
+    wrong += unlike
     for line in wrong:
         print(line)
-    print('%d texts, %d questions, %d failed' % (len(texts), asked, len(wrong)))
-    sys.exit(1 if wrong or not asked else 0)
+    print('%d texts, %d answers, %d commands of README, %d failed' % (len(texts), len(stored), commands, len(wrong)))
+    sys.exit(1 if wrong or not stored or commands != 4 else 0)
 
 
 if __name__ == '__main__':

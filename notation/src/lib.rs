@@ -20,6 +20,34 @@
 //! laid out in the order of the walk, unless `Annotation(:recordOrder "1 3 2")` there gives each
 //! record of the walk another number. Words are ASCII; comments and strings may hold other bytes.
 //!
+//! ```
+//! use notation::{policy, policy_at, print_policy, Mistake, Policies, Vocabulary};
+//!
+//! # fn main() -> Result<(), Mistake> {
+//! let vocabulary = Vocabulary::parse(b"Declaration(Class(:Data)) Declaration(Class(:Secret))")?;
+//! assert_eq!(vocabulary.words(), [2, 0, 0, 0]);
+//! let buyer = policy(&vocabulary, b"Policy(:Secret)")?;
+//! assert_eq!(buyer.words, [1, 0, 0, 0, 0, 0, 5, 0, 0, 0, 2, 0, 1, 2, 0, 0, 0, 0]);
+//!
+//! // A file of consents: the second has a mistake, and the third is read all the same.
+//! let file = &b"Policy(Annotation(rdfs:label \"alice\") :Data)\nPolicy(:Date)\nPolicy(:Data)"[..];
+//! let mut read = Vec::new();
+//! for piece in Policies::new(file) {
+//!     let piece = piece.expect("each is a Policy(..)");
+//!     read.push(policy_at(&vocabulary, &piece.bytes, piece.line, piece.column));
+//! }
+//! assert_eq!(read[0].as_ref().unwrap().name.as_deref(), Some("alice"));
+//! let mistake = read[1].as_ref().unwrap_err();
+//! assert_eq!((mistake.line, mistake.column), (2, 8));
+//! assert_eq!(read[2].as_ref().unwrap().words, read[0].as_ref().unwrap().words);
+//!
+//! // Words are printed as a text that reads back.
+//! let text = print_policy(vocabulary.names(), &buyer.words).expect("an accepted policy");
+//! assert_eq!(policy(&vocabulary, text.as_bytes())?, buyer);
+//! # Ok(())
+//! # }
+//! ```
+//!
 //! Nothing here is proved. What is read is handed to the proved library, which accepts or refuses it.
 
 #![forbid(unsafe_code)]

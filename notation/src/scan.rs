@@ -25,22 +25,20 @@ enum Byte {
 
 const BYTES: [Byte; 256] = {
     let mut bytes = [Byte::Inside; 256];
-    let mut byte = 128;
+    let mut byte = 0;
     while byte < 256 {
-        bytes[byte] = Byte::Foreign;
+        if byte > 127 {
+            bytes[byte] = Byte::Foreign;
+        } else if is_blank(byte as u8) || matches!(byte as u8, b'(' | b')' | b'"' | b'#') {
+            bytes[byte] = Byte::Ends;
+        }
         byte += 1;
-    }
-    let ends = b"\t\n\x0b\x0c\r ()\"#";
-    let mut place = 0;
-    while place < ends.len() {
-        bytes[ends[place] as usize] = Byte::Ends;
-        place += 1;
     }
     bytes
 };
 
 /// The ASCII characters that `char::is_whitespace` has.
-pub(crate) fn is_blank(byte: u8) -> bool {
+pub(crate) const fn is_blank(byte: u8) -> bool {
     matches!(byte, b'\t'..=b'\r' | b' ')
 }
 
@@ -60,7 +58,7 @@ impl<'a> Scanner<'a> {
         Self { text, at: 0 }
     }
 
-    /// Skips blanks and comments; gives the byte behind them, or none at the end.
+    /// Passes blanks and comments; gives the byte behind them, or none at the end.
     pub fn peek(&mut self) -> Option<u8> {
         loop {
             let byte = *self.text.get(self.at)?;

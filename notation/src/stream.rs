@@ -7,7 +7,7 @@ use std::io::{self, BufRead};
 /// The text of one policy.
 #[derive(Clone, Debug, PartialEq, Eq)]
 pub struct Piece {
-    /// `Policy(..)`, to its last parenthesis.
+    /// `Policy(..)`, to its last parenthesis; or what there is of it, where that is missing.
     pub bytes: Vec<u8>,
     /// The line at which it begins, from 1.
     pub line: usize,
@@ -31,6 +31,8 @@ pub struct Policies<R> {
     place: Place,
     /// The input has ended, or cannot be read.
     ended: bool,
+    /// What comes before the next policy is told already.
+    is_told: bool,
 }
 
 /// The most bytes of a policy's text in a stream. It bounds the memory, whatever the input is.
@@ -44,7 +46,14 @@ const POLICY: &[u8] = b"Policy";
 impl<R: BufRead> Policies<R> {
     /// The policies of what a reader gives.
     pub fn new(reader: R) -> Self {
-        Self { reader, buffer: Vec::new(), start: 0, place: Place::START, ended: false }
+        Self {
+            reader,
+            buffer: Vec::new(),
+            start: 0,
+            place: Place::START,
+            ended: false,
+            is_told: false,
+        }
     }
 
     /// The next policy's text, or why it cannot be had; none at the end.
@@ -62,14 +71,17 @@ impl<R: BufRead> Policies<R> {
     }
 
     fn piece(&mut self) -> io::Result<Option<Result<Piece, Mistake>>> {
+        if self.is_told {
+            self.skip()?;
+            self.is_told = false;
+        }
         if self.peek()?.is_none() {
             return Ok(None);
         }
         if !self.is_at_policy()? {
-            self.fill_line()?;
-            let mistake = self.mistake("Policy");
-            self.skip()?;
-            return Ok(Some(Err(mistake)));
+            self.fill_line(0)?;
+            self.is_told = true;
+            return Ok(Some(Err(self.mistake(0, "Policy"))));
         }
         Ok(Some(match self.end()? {
             Ok(End { piece, next }) => {
@@ -80,7 +92,7 @@ impl<R: BufRead> Policies<R> {
             }
             Err(mistake) => {
                 self.pass(POLICY.len());
-                self.skip()?;
+                self.is_told = true;
                 Err(mistake)
             }
         }))
@@ -119,15 +131,18 @@ impl<R: BufRead> Policies<R> {
         Ok(read > 0)
     }
 
-    /// Reads on to the end of the line, so that a mistake can be told.
-    fn fill_line(&mut self) -> io::Result<()> {
-        while !self.rest().contains(&b'\n') && self.rest().len() < LONGEST && self.more()? {}
+    /// Reads on to the end of the line that goes on behind so many bytes of the rest.
+    fn fill_line(&mut self, bytes: usize) -> io::Result<()> {
+        let is_whole = |rest: &[u8]| rest[bytes..].contains(&b'\n') || rest.len() >= LONGEST;
+        while !is_whole(self.rest()) && self.more()? {}
         Ok(())
     }
 
-    /// The mistake that what is next is not what should be.
-    fn mistake(&self, what: &str) -> Mistake {
-        let fault = Scanner::new(self.rest()).unexpected(what);
+    /// The mistake that another thing stands behind so many bytes of the rest.
+    fn mistake(&self, bytes: usize, what: &str) -> Mistake {
+        let mut scanner = Scanner::new(self.rest());
+        scanner.go_to(bytes);
+        let fault = scanner.unexpected(what);
         self.place.behind(&self.rest()[..fault.at]).mistake(fault.message)
     }
 
@@ -191,12 +206,8 @@ impl<R: BufRead> Policies<R> {
             match cut.go_on(self.rest(), self.ended) {
                 Step::End(end) => return Ok(Ok(end)),
                 Step::NoOpen => {
-                    self.fill_line()?;
-                    let mut scanner = Scanner::new(self.rest());
-                    scanner.go_to(POLICY.len());
-                    let fault = scanner.unexpected("\"(\" after Policy");
-                    let place = self.place.behind(&self.rest()[..fault.at]);
-                    return Ok(Err(place.mistake(fault.message)));
+                    self.fill_line(cut.at)?;
+                    return Ok(Err(self.mistake(POLICY.len(), "\"(\" after Policy")));
                 }
                 Step::More if self.rest().len() > LONGEST => {
                     let message = format!("a policy's text has at most {LONGEST} bytes");

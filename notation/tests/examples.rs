@@ -1,6 +1,6 @@
 //! The examples, read as the reasoner reads them.
 
-use notation::{document, policy_at, Policies};
+use notation::{document, facts, model, policy_at, Policies};
 use reasoner::text::Document;
 use std::fs;
 
@@ -29,4 +29,26 @@ fn the_examples_have_the_reasoners_words() {
         read += 1;
     }
     assert!(read >= 7);
+}
+
+#[test]
+fn the_stored_answers_are_told_as_they_are_stored() {
+    let mut told = 0;
+    for entry in fs::read_dir("../examples/answers").expect("the answers") {
+        let path = entry.expect("an entry").path();
+        let answer = fs::read_to_string(&path).expect("an answer");
+        let (printed, said) = answer.split_once("\n\n").expect("what is printed and what is said");
+        if !(printed.starts_with("outside") || printed.starts_with("differs")) {
+            continue;
+        }
+        let name = path.file_name().and_then(|name| name.to_str()).expect("a name");
+        let example = name.split_once('.').expect("an operation").0;
+        let text = fs::read(format!("../examples/{example}.txt")).expect("the example");
+        let vocabulary = document(&text).expect("a document").vocabulary;
+        let words = model(&vocabulary, printed.as_bytes()).expect("a model");
+        let lines: Vec<&str> = said.lines().skip(2).map(str::trim_start).collect();
+        assert_eq!(facts(vocabulary.names(), &words), lines, "{name}");
+        told += 1;
+    }
+    assert!(told >= 2);
 }

@@ -4,6 +4,7 @@
 use notation::{
     document, facts, model, policy, print_policy, print_vocabulary, Document, Vocabulary,
 };
+use reasoner::encode::policy_words;
 use reasoner::random::{Case, Family, Rng};
 use reasoner::text::{Document as Judge, Names};
 use reasoner::{read_policy, Reading};
@@ -178,7 +179,14 @@ fn whole_and_damaged_texts() {
     let mut rng = Rng::new(17);
     let (mut texts, mut read) = (0, 0);
     for seed in 0.. {
-        let Some(whole) = random(&mut rng, seed) else { continue };
+        let Some(mut whole) = random(&mut rng, seed) else { continue };
+        if rng.once_in(4) {
+            // Any order of the records, though most make a link fall.
+            let records = policy_words(&whole.first.terms).len() as u32 / 6 - 1;
+            let mut order: Vec<u32> = (1..=records).collect();
+            rng.shuffle(&mut order);
+            whole.first.order = Some(order);
+        }
         let whole = restyled(&mut rng, &whole.to_string());
         read += usize::from(hold(&whole));
         for _ in 0..DAMAGED {

@@ -67,8 +67,8 @@ fn what_is_no_policy_is_told_once_and_the_rest_goes_on() {
         ["line 1, column 1: expected Policy, found \"SubClassOf\"", "3:2 Policy(:B)"]
     );
     assert_eq!(
-        told("Policy\n # ü\n  x Policy(:B)"),
-        ["line 3, column 3: expected \"(\" after Policy, found \"x\"", "3:5 Policy(:B)"]
+        told("Policy\n # ü\n  <x y> Policy(:B)"),
+        ["line 3, column 3: expected \"(\" after Policy, found \"<x y>\"", "3:9 Policy(:B)"]
     );
     assert_eq!(
         told("Policy"),
@@ -208,4 +208,10 @@ fn an_input_that_cannot_be_read() {
     assert!(matches!(trouble, Trouble::Input(_)));
     assert_eq!(trouble.to_string(), "the disk is gone");
     assert!(policies.next_text().is_none());
+    // A mistake before that is told too.
+    let mut policies = Policies::new(BufReader::new(Broken(b"Polcy(:A)\n ")));
+    let mut next = || policies.next_text().map(|one| one.expect_err("trouble").to_string());
+    assert_eq!(next().as_deref(), Some("line 1, column 1: expected Policy, found \"Polcy\""));
+    assert_eq!(next().as_deref(), Some("the disk is gone"));
+    assert_eq!(next(), None);
 }
