@@ -4,6 +4,13 @@ use notation::{document, facts, model, policy_at, Policies};
 use reasoner::text::Document;
 use std::fs;
 
+/// The text without the policies' names, which the reasoner does not read.
+fn without_names(text: &str) -> String {
+    let mut parts = text.split("Annotation(rdfs:label \"");
+    let first = parts.next().expect("a part").to_owned();
+    parts.fold(first, |text, part| text + part.split_once("\") ").expect("the name's end").1)
+}
+
 #[test]
 fn the_examples_have_the_reasoners_words() {
     let mut read = 0;
@@ -13,7 +20,8 @@ fn the_examples_have_the_reasoners_words() {
             continue;
         }
         let text = fs::read_to_string(&path).expect("a text");
-        let [v, p, q] = Document::parse(&text).expect("the reasoner reads it").words();
+        let [v, p, q] =
+            Document::parse(&without_names(&text)).expect("the reasoner reads it").words();
         let found = document(text.as_bytes()).unwrap_or_else(|mistake| panic!("{mistake}"));
         assert_eq!(found.vocabulary.words(), v);
         let words: Vec<_> = found.policies.iter().map(|policy| policy.words.clone()).collect();
@@ -36,12 +44,13 @@ fn the_stored_answers_are_told_as_they_are_stored() {
     let mut told = 0;
     for entry in fs::read_dir("../examples/answers").expect("the answers") {
         let path = entry.expect("an entry").path();
+        let name = path.file_name().and_then(|name| name.to_str()).expect("a name");
         let answer = fs::read_to_string(&path).expect("an answer");
-        let (printed, said) = answer.split_once("\n\n").expect("what is printed and what is said");
-        if !(printed.starts_with("outside") || printed.starts_with("differs")) {
+        // The others are the command's, which tells no lines of the program.
+        if !name.ends_with(".comply.txt") || !answer.starts_with("outside") {
             continue;
         }
-        let name = path.file_name().and_then(|name| name.to_str()).expect("a name");
+        let (printed, said) = answer.split_once("\n\n").expect("what is printed and what is said");
         let example = name.split_once('.').expect("an operation").0;
         let text = fs::read(format!("../examples/{example}.txt")).expect("the example");
         let vocabulary = document(&text).expect("a document").vocabulary;
@@ -50,5 +59,5 @@ fn the_stored_answers_are_told_as_they_are_stored() {
         assert_eq!(facts(vocabulary.names(), &words), lines, "{name}");
         told += 1;
     }
-    assert!(told >= 2);
+    assert!(told >= 1);
 }
