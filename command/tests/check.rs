@@ -250,12 +250,12 @@ fn a_text_with_all() {
     check("class_above.txt").is(0, "class_above.txt: compliant\n1 consent: 1 compliant\n", "");
     check("heart_rate.txt").is(1, "heart_rate.txt: outside\n1 consent: 1 outside\n", "");
     let equal = |text: &str| run_in(EXAMPLES, &["equal", text]);
-    equal("same.txt").is(0, "same.txt: equal\n1 policy: 1 equal\n", "");
+    equal("same.txt").is(0, "bob: equal\n1 policy: 1 equal\n", "");
     run_in(EXAMPLES, &["equal", "--why", "not_same.txt"]).is(
         1,
-        "not_same.txt: different\n  \
-         Term 1 of the first policy, combination 4, is not in not_same.txt.\n  \
-         In this case, of 3 individuals, x1 is in the first policy and outside not_same.txt:\n    \
+        "bob: different\n  \
+         Term 1 of alice, combination 4, is not in bob.\n  \
+         In this case, of 3 individuals, x1 is in alice and outside bob:\n    \
          x1 has :uses x2\n    x1 has :storage x3\n    x2 is in :Data\n    x2 is in :Location\n    x3 has :days 31\n\
          1 policy: 1 different\n",
         "",

@@ -39,7 +39,7 @@ fn one_set_is_status_0() {
 #[test]
 fn a_text_with_all() {
     let ran = run_in(EXAMPLES, &["group", "same.txt"]);
-    ran.is(0, "set 1: 2 consents\n  same.txt#1\n  same.txt#2\n2 consents in 1 set\n", "");
+    ran.is(0, "set 1: 2 consents\n  alice\n  bob\n2 consents in 1 set\n", "");
 }
 
 #[test]
