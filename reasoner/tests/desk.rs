@@ -35,30 +35,12 @@ fn what_is_no_answer_is_not_read() {
     assert_eq!(silent(""), "this is no answer");
     assert_eq!(silent("outside 1"), "this is no answer");
     assert_eq!(silent("outside 1 x"), "\"x\" is no number");
-    assert_eq!(silent("differs 3 1 1"), "\"3\" is no side");
+    assert_eq!(silent("equal"), "this is no answer");
     assert_eq!(silent("outside 1 1\nmember 1"), "\"member 1\" is no line of a countermodel");
     assert_eq!(silent("outside 1 1\nmember 9 1"), "the text has no name for number 9");
     assert_eq!(
         document.aloud("refused 22\n").as_deref(),
         Ok("Refused 22: a possible term has over 65,536 combinations of pieces.\n")
-    );
-}
-
-#[test]
-fn the_other_operations_answers() {
-    let document = desk("Policy(:Data) Policy()");
-    let said = |answer: &str| document.aloud(answer).expect("an answer");
-    assert_eq!(said("impossible\n"), "Impossible: no individual can be in the first policy.\n");
-    assert_eq!(
-        said("possible 3\n"),
-        "Possible: some individual can be in term 3 of the first policy.\n"
-    );
-    assert_eq!(said("equal\n"), "Equal: the two policies mean the same.\n");
-    assert_eq!(
-        said("differs 2 1 4\nmember 1 1\n"),
-        "Different: term 1 of the second policy, combination 4, is not in the first.\n\
-         In this case, of 1 individual, x1 is in the second policy and outside the first:\n  \
-         x1 is in :Data\n"
     );
 }
 

@@ -4,7 +4,8 @@ use mathlib.Core.List.{List}
 use mathlib.Core.Path.{_≡_}
 use lib.ListN.{length}
 use Rattle.meaning.specs.Limits.{mostClasses, mostIndividuals}
-use Rattle.meaning.specs.Model.{Fact, factAt, factKind, factName, factNext, factOther, factOwner, factsOf, factsRefusal, firstFact, individualCount}
+use Rattle.meaning.specs.Model.{Fact, factAt, factKind, factName, factNext, factOther, factOwner}
+use Rattle.meaning.specs.Model.{factsOf, factsRefusal, firstFact, individualCount}
 use Rattle.meaning.specs.Records.{Name, lastOf}
 use Rattle.records.specs.Chains.{Along, Links, listed}
 

@@ -16,7 +16,8 @@ pub record Links (S : Type 0) : Type 1 where
 -- from record k on this stands along the chain, and each record on it is sound
 pub data Along {S : Type 0} (c : Links S) : ℕ → S → Type 0 where
   along-end : {k : ℕ} → k ≡ 0 → Along c k (c .none)
-  along-more : {k : ℕ} {l : S} → Name (c .last) k → Onward (c .last) k (c .next k) → c .Sound k → Along c (c .next k) l → Along c k (c .put k l)
+  along-more : {k : ℕ} {l : S} → Name (c .last) k → Onward (c .last) k (c .next k) → c .Sound k → Along c (c .next k) l →
+      Along c k (c .put k l)
 
 -- a list, an item of it for each record
 abbrev pub listed : {A : Type 0} → ℕ → (ℕ → ℕ) → (ℕ → A) → (ℕ → Type 0) → Links (List A)

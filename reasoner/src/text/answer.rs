@@ -1,4 +1,4 @@
-//! An answer read aloud: the program's, or one of Possible and Equality in the same form.
+//! The program's answer read aloud: the judge of what `notation` tells.
 
 use super::{refusal, Names};
 use std::fmt::Write as _;
@@ -11,34 +11,15 @@ pub fn aloud(names: &Names, answer: &str) -> Result<String, String> {
         ["compliant"] => {
             Ok("Compliant: whatever is in the first policy is in the second.\n".to_owned())
         }
-        ["possible", term] => {
-            let term = number(term)?;
-            Ok(format!("Possible: some individual can be in term {term} of the first policy.\n"))
-        }
-        ["impossible"] => Ok("Impossible: no individual can be in the first policy.\n".to_owned()),
-        ["equal"] => Ok("Equal: the two policies mean the same.\n".to_owned()),
         ["refused", number] => {
             let number = self::number(number)?;
             Ok(format!("Refused {number}: {}.\n", refusal(number)))
         }
         ["outside", term, combination] => {
             let (term, combination) = (number(term)?, number(combination)?);
-            let told = countermodel(names, lines, ["first", "second"])?;
+            let told = countermodel(names, lines)?;
             Ok(format!(
                 "Outside: term {term} of the first policy, combination {combination}, is not in the second.\n{told}"
-            ))
-        }
-        ["differs", side, term, combination] => {
-            let (term, combination) = (number(term)?, number(combination)?);
-            let sides = match side {
-                "1" => ["first", "second"],
-                "2" => ["second", "first"],
-                _ => return Err(format!("\"{side}\" is no side")),
-            };
-            let told = countermodel(names, lines, sides)?;
-            let [one, other] = sides;
-            Ok(format!(
-                "Different: term {term} of the {one} policy, combination {combination}, is not in the {other}.\n{told}"
             ))
         }
         _ => Err("this is no answer".to_owned()),
@@ -99,17 +80,13 @@ fn name(list: &[String], number: u32) -> Result<&str, String> {
     name.map(String::as_str).ok_or_else(|| format!("the text has no name for number {number}"))
 }
 
-/// The lines of a countermodel, in words: its first individual is in one policy and outside the other.
-fn countermodel<'a>(
-    names: &Names,
-    lines: impl Iterator<Item = &'a str>,
-    [one, other]: [&str; 2],
-) -> Result<String, String> {
+/// The lines of a countermodel, in words.
+fn countermodel<'a>(names: &Names, lines: impl Iterator<Item = &'a str>) -> Result<String, String> {
     let facts = lines.map(Fact::read).collect::<Result<Vec<_>, _>>()?;
     let individuals = facts.iter().map(Fact::last).max().unwrap_or(1);
     let many = if individuals == 1 { "individual" } else { "individuals" };
     let mut text = format!(
-        "In this case, of {individuals} {many}, x1 is in the {one} policy and outside the {other}:\n"
+        "In this case, of {individuals} {many}, x1 is in the first policy and outside the second:\n"
     );
     for fact in &facts {
         let _ = writeln!(text, "  {}", fact.say(names)?);
