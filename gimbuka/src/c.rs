@@ -1,6 +1,14 @@
 //! The functions of the static library. `crates/exports/gimbuka.h` says how each is called.
 
 unsafe extern "C" {
+    pub fn gimbuka_read_owl(
+        text: *const u8,
+        text_len: usize,
+        out: *mut u32,
+        out_len: usize,
+        number: *mut u32,
+        words: *mut usize,
+    ) -> u32;
     pub fn gimbuka_read_vocabulary(v: *const u32, v_len: usize, number: *mut u32) -> u32;
     pub fn gimbuka_read_policy(
         v: *const u32,

@@ -57,6 +57,12 @@ pub use refusal::Refusal;
 /// The least words of a work slice.
 pub const WORK_SIZE: usize = 16_384;
 
+/// The most bytes of an OWL text that is read.
+pub const MOST_OWL_BYTES: usize = 65_536;
+
+/// The most words of a vocabulary. None that [`read_owl`] writes has more.
+pub const MOST_VOCABULARY_WORDS: usize = 4_100;
+
 /// The most words of a model. No countermodel has more.
 pub const MOST_MODEL_WORDS: usize = 700_005;
 
@@ -130,6 +136,38 @@ fn read(call: impl FnOnce(&mut u32) -> u32) -> Result<(), Refusal> {
     match call(&mut number) {
         0 => Err(Refusal::of(number)),
         _ => Ok(()),
+    }
+}
+
+/// Reads a vocabulary from OWL 2 functional-style text, and writes its words to the output: `Ok` with how many.
+///
+/// ```
+/// let text = b"Ontology( SubClassOf(:HeartRate :Data) Declaration(Class(:Data)) Declaration(Class(:HeartRate)) )";
+/// let mut out = [0; 8];
+/// assert_eq!(gimbuka::read_owl(text, &mut out), Ok(8));
+/// // Two classes, and one record: class 2 is below class 1.
+/// assert_eq!(out, [2, 0, 0, 1, 1, 2, 1, 0]);
+/// ```
+///
+/// # Errors
+///
+/// 41 of the text, 42 of its names, 1 where it has over 1,024 axioms, then 23. Nothing is written then.
+pub fn read_owl(text: &[u8], out: &mut [u32]) -> Result<usize, Refusal> {
+    let (mut number, mut words) = (0, 0);
+    // SAFETY: the exclusive slice and the numbers overlap nothing.
+    let kind = unsafe {
+        c::gimbuka_read_owl(
+            text.as_ptr(),
+            text.len(),
+            out.as_mut_ptr(),
+            out.len(),
+            &mut number,
+            &mut words,
+        )
+    };
+    match kind {
+        0 => Err(Refusal::of(number)),
+        _ => Ok(words),
     }
 }
 

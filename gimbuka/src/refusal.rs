@@ -17,7 +17,7 @@ pub struct Refusal {
 }
 
 /// A row for each number that an operation can refuse with, in rising order.
-const TABLE: [(u32, &str); 19] = [
+const TABLE: [(u32, &str); 21] = [
     (1, "the vocabulary's length is no multiple of 4, under 4 words or over 4,100"),
     (2, "in the vocabulary's header a count is out of range or the link is past the last record"),
     (3, "a record of the vocabulary's chain has an unknown kind, a name outside its series, a b that should be 0, or a link that does not rise"),
@@ -33,10 +33,12 @@ const TABLE: [(u32, &str); 19] = [
     (18, "a conjunct of the second policy is at depth 17"),
     (21, "the work slice has under 16,384 words"),
     (22, "a possible term has over 65,536 combinations of pieces"),
-    (23, "the answer is no, and its countermodel takes more words than the output has"),
+    (23, "what is to be written takes more words than the output has"),
     (31, "the model's length is no multiple of 5, under 5 words or over 700,005"),
     (32, "the model's header links past the last record, counts individuals outside 1 to 512, or has a word that should be 0"),
     (33, "a record of the model's chain has an unknown kind, a name outside its series, an individual outside the header's count, a word that should be 0, or a link that does not rise"),
+    (41, "the text is over 65,536 bytes, or is not one Ontology( ) of the eight forms"),
+    (42, "a name is declared twice in one sort or not in the sort that its place needs, or the names of a sort are too few or too many"),
 ];
 
 impl Refusal {

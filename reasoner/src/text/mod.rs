@@ -199,11 +199,13 @@ pub fn refusal(number: u32) -> &'static str {
         18 => "a conjunct of the second policy is at depth 17",
         21 => "the work slice has under 16,384 words",
         22 => "a possible term has over 65,536 combinations of pieces",
-        23 => "the answer is no, and its countermodel takes more words than the output has",
+        23 => "what is to be written takes more words than the output has",
         31 => "the model's length is no multiple of 5, under 5 words or over 700,005",
         32 => "the model's header links past the last record, counts individuals outside 1 to 512, or has a word that should be 0",
         33 => "a record of the model's chain has an unknown kind, a name outside its series, an individual outside the header's count, a word that should be 0, or a link that does not rise",
         40 => "the input is over 65,536 bytes, cut short, or followed by more",
+        41 => "the text is over 65,536 bytes, or is not one Ontology( ) of the eight forms",
+        42 => "a name is declared twice in one sort or not in the sort that its place needs, or the names of a sort are too few or too many",
         _ => "no refusal",
     }
 }
