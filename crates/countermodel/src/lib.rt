@@ -7,15 +7,17 @@ use layout::next_successor;
 use layout::piece_hi;
 use layout::role_of;
 use meaning::ClassNo;
+use records::link;
 use words::place;
 ghost use mathlib.Core.Path.{_≡_};
-ghost use Prim.Native.Nat.{_<_, _^_, _≤_};
+ghost use Prim.Native.Nat.{_<_, _≤_};
 ghost use lib.ListN.{length};
 ghost use Rattle.countermodel.specs.Facts.{CountsModel, ModelWritten, NextPair, Writable, edgeFacts, factsAt, isAbove, isBetter, memberFacts};
 ghost use Rattle.countermodel.specs.Facts.{recordCount, tableFacts, valueFacts};
-ghost use Rattle.countermodel.specs.Written.{RecordPut, Room, RoomFor, Written, linkAt, recorded};
+ghost use Rattle.countermodel.specs.Written.{RecordPut, facts};
 ghost use Rattle.layout.specs.Tables.{HasEntries, HasEntry, Standing, pieceAt};
 ghost use Rattle.meaning.specs.Countermodel.{pairBefore};
+ghost use Rattle.records.specs.Written.{Room, RoomFor, Written, recorded};
 
 // ---- the pairs of an individual, rising
 
@@ -129,17 +131,9 @@ pub fn size(work: &[u32], t: Tables) -> usize
 
 // ---- their words
 
-// Record k links to the one after it; the last record, and the header of no record, to none.
-fn link(k: usize, last: usize) -> u32
-    requires { ⌜ (k ≤ last) × (last < 2 ^ 32) ⌝ }
-    ensures { λ r. ⌜ r ≡ linkAt last k ⌝ }
-{
-    if k == last { 0 } else { k as u32 + 1 }
-}
-
 // Record k: kind, name, individual, other, next.
 fn put(out: &mut [u32], k: usize, last: usize, kind: u32, name: u32, x: u32, other: u32)
-    requires { ⌜ (k ≤ last) × Room last (now out) ⌝ }
+    requires { ⌜ (k ≤ last) × Room 5 last (now out) ⌝ }
     ensures { λ _. ⌜ RecordPut last k kind name x other (now (out .entry)) (now (out .exit)) ⌝ }
 {
     let at = 5 * k;
@@ -152,8 +146,8 @@ fn put(out: &mut [u32], k: usize, last: usize, kind: u32, name: u32, x: u32, oth
 
 // The classes of row i, individual i + 1, rising.
 fn write_classes(work: &[u32], i: u32, out: &mut [u32], k: usize, last: usize) -> usize
-    requires { ⌜ HasEntry i (now work) × RoomFor last k (memberFacts (now work) i) (now out) ⌝ }
-    ensures { λ r. ⌜ Written last k (memberFacts (now (work .entry)) i) (now (out .entry)) (now (out .exit)) r ⌝ }
+    requires { ⌜ HasEntry i (now work) × RoomFor 5 last k (memberFacts (now work) i) (now out) ⌝ }
+    ensures { λ r. ⌜ Written facts last k (memberFacts (now (work .entry)) i) (now (out .entry)) (now (out .exit)) r ⌝ }
 {
     let classes = classes_of(work, place(i));
     let mut at = k;
@@ -168,8 +162,8 @@ fn write_classes(work: &[u32], i: u32, out: &mut [u32], k: usize, last: usize) -
 
 // The pairs of individual x, rising.
 fn write_values(work: &[u32], n: usize, x: u32, out: &mut [u32], k: usize, last: usize) -> usize
-    requires { ⌜ HasEntries n (now work) × RoomFor last k (valueFacts (now work) n x) (now out) ⌝ }
-    ensures { λ r. ⌜ Written last k (valueFacts (now (work .entry)) n x) (now (out .entry)) (now (out .exit)) r ⌝ }
+    requires { ⌜ HasEntries n (now work) × RoomFor 5 last k (valueFacts (now work) n x) (now out) ⌝ }
+    ensures { λ r. ⌜ Written facts last k (valueFacts (now (work .entry)) n x) (now (out .entry)) (now (out .exit)) r ⌝ }
 {
     let mut at = k;
     let mut m = next_pair(work, n, x, n);
@@ -185,8 +179,8 @@ fn write_values(work: &[u32], n: usize, x: u32, out: &mut [u32], k: usize, last:
 
 // The edges of individual x, by target.
 fn write_edges(work: &[u32], n: usize, x: u32, out: &mut [u32], k: usize, last: usize) -> usize
-    requires { ⌜ (x ≤ n) × HasEntries n (now work) × RoomFor last k (edgeFacts (now work) n x) (now out) ⌝ }
-    ensures { λ r. ⌜ Written last k (edgeFacts (now (work .entry)) n x) (now (out .entry)) (now (out .exit)) r ⌝ }
+    requires { ⌜ (x ≤ n) × HasEntries n (now work) × RoomFor 5 last k (edgeFacts (now work) n x) (now out) ⌝ }
+    ensures { λ r. ⌜ Written facts last k (edgeFacts (now (work .entry)) n x) (now (out .entry)) (now (out .exit)) r ⌝ }
 {
     let mut at = k;
     let mut j = next_successor(work, n, x, place(x));
@@ -201,8 +195,8 @@ fn write_edges(work: &[u32], n: usize, x: u32, out: &mut [u32], k: usize, last: 
 
 // The records of row i, individual i + 1, from record k on.
 fn write_row(work: &[u32], t: Tables, i: u32, out: &mut [u32], k: usize, last: usize) -> usize
-    requires { ⌜ Standing (now work) t × (i < t .individuals) × RoomFor last k (factsAt (now work) t i) (now out) ⌝ }
-    ensures { λ r. ⌜ Written last k (factsAt (now (work .entry)) t i) (now (out .entry)) (now (out .exit)) r ⌝ }
+    requires { ⌜ Standing (now work) t × (i < t .individuals) × RoomFor 5 last k (factsAt (now work) t i) (now out) ⌝ }
+    ensures { λ r. ⌜ Written facts last k (factsAt (now (work .entry)) t i) (now (out .entry)) (now (out .exit)) r ⌝ }
 {
     let a = write_classes(work, i, out, k, last);
     let b = write_values(work, t.constraints, i + 1, out, a, last);
@@ -211,8 +205,8 @@ fn write_row(work: &[u32], t: Tables, i: u32, out: &mut [u32], k: usize, last: u
 
 // All records, in the order of SPECIFICATION 8.4: for each individual in turn its classes, its pairs, its edges.
 fn write_rows(work: &[u32], t: Tables, last: usize, out: &mut [u32])
-    requires { ⌜ Standing (now work) t × RoomFor last 1 (tableFacts (now work) t) (now out) ⌝ }
-    ensures { λ _. ⌜ now (out .exit) ≡ recorded last 1 (tableFacts (now (work .entry)) t) (now (out .entry)) ⌝ }
+    requires { ⌜ Standing (now work) t × RoomFor 5 last 1 (tableFacts (now work) t) (now out) ⌝ }
+    ensures { λ _. ⌜ now (out .exit) ≡ recorded facts last 1 (tableFacts (now (work .entry)) t) (now (out .entry)) ⌝ }
 {
     let n = t.individuals;
     let mut k = 1;

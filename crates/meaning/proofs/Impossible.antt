@@ -9,7 +9,7 @@ use lib.ListN.{length}
 use native.Mathlib.Omega.{arith}
 use Rattle.meaning.proofs.Containment.{witness}
 use Rattle.meaning.proofs.Count.{combinations-some}
-use Rattle.meaning.proofs.Filling.{number}
+use Rattle.meaning.proofs.Digits.{number}
 use Rattle.meaning.proofs.Normal.{BoundedChain}
 use Rattle.meaning.proofs.Rewriting.{holds-possible}
 use Rattle.meaning.proofs.Rules.{isFalse, notTrue}

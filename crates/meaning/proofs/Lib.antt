@@ -16,7 +16,7 @@ pub mod Pieces
 pub mod Picks
 pub mod Count
 pub mod Counting
-pub mod Filling
+pub mod Digits
 pub mod Odometer
 pub mod Pairs
 pub mod Places
@@ -28,7 +28,9 @@ pub mod Containment
 pub mod Impossible
 pub mod Interpretations
 pub mod ModelCheck
+pub mod Chained
 pub mod ModelWords
+pub mod VocabularyWords
 pub mod Terms
 pub mod Wellformed
 pub mod Bounds

@@ -6,7 +6,7 @@ use lib.ListN.{getD, length, length-map}
 use native.Mathlib.Nat.{add-mul, mul-assoc, suc-mul, zero-add, zero-mul}
 use native.Mathlib.Omega.{arith}
 use Rattle.meaning.proofs.Count.{count-choices, count-successors, length-each, product-append}
-use Rattle.meaning.proofs.Filling.{Takes, fill, fillConstraints, fillNode, fillSuccessors, number}
+use Rattle.meaning.proofs.Digits.{Takes, fill, fillConstraints, fillNode, fillSuccessors, number}
 use Rattle.meaning.specs.Intervals.{Constraint}
 use Rattle.meaning.specs.Lists.{At, atHere, atThere, flatMap}
 use Rattle.meaning.specs.NormalForm.{Form, Node, Successors, none, successor}

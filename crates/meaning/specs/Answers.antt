@@ -5,11 +5,13 @@ use Rattle.meaning.specs.declared.Possibility.{Possibility}
 use Rattle.meaning.specs.declared.Verdict.{Verdict}
 use Rattle.meaning.specs.declared.Comparison.{Comparison}
 use Rattle.meaning.specs.declared.Checked.{Checked}
+use Rattle.meaning.specs.declared.Filling.{Filling}
 use Rattle.meaning.specs.declared.Reading.the-variants as reading
 use Rattle.meaning.specs.declared.Possibility.the-variants as possibility
 use Rattle.meaning.specs.declared.Verdict.the-variants as verdict
 use Rattle.meaning.specs.declared.Comparison.the-variants as comparison
 use Rattle.meaning.specs.declared.Checked.the-variants as checked
+use Rattle.meaning.specs.declared.Filling.the-variants as filling
 
 -- a refusal is a number
 pub data Answer (A : Type 0) : Type 0 where
@@ -63,3 +65,11 @@ abbrev pub checkedAnswer : Checked → Answer CheckResult
 checkedAnswer checked.Yes = result yes
 checkedAnswer checked.No = result no
 checkedAnswer (checked.Refused n) = refused n
+
+-- an operation that fills an output: how many words it wrote
+pub data FillingResult : Type 0 where
+  wrote : ℕ → FillingResult
+
+abbrev pub fillingAnswer : Filling → Answer FillingResult
+fillingAnswer (filling.Written n) = result (wrote n)
+fillingAnswer (filling.Refused n) = refused n

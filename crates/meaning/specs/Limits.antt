@@ -53,3 +53,10 @@ outputSize = 16384
 
 abbrev pub mostBytes : ℕ
 mostBytes = 65536
+
+-- an OWL text: its bytes, and the letters and digits of a name
+abbrev pub mostText : ℕ
+mostText = 65536
+
+abbrev pub mostNameBytes : ℕ
+mostNameBytes = 32

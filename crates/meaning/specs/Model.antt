@@ -1,13 +1,13 @@
 -- SPECIFICATION 8.1 to 8.4: a model's facts, the interpretation that they stand for, and its words, read and written.
-use Prim.Native.Nat.{_*_, _+_, _≤_, suc, ℕ}
+use Prim.Native.Nat.{_*_, _+_, _≤_, ℕ}
 use mathlib.Core.Bool.{Bool, _&&_, cond}
-use mathlib.Core.List.{List, [], _++_, _∷_}
+use mathlib.Core.List.{List, [], _∷_}
 use lib.Dec.{eqb, leb}
 use lib.ListN.{getD, length}
 use Rattle.meaning.specs.Interpretation.{Interpretation}
 use Rattle.meaning.specs.Limits.{mostIndividuals, mostModelWords}
 use Rattle.meaning.specs.Lists.{_∈_}
-use Rattle.meaning.specs.Records.{isName, isOnward, isSized, lastOf, listAlong, refusalAlong}
+use Rattle.meaning.specs.Records.{chainedWords, isName, isOnward, isSized, lastOf, linkTo, listAlong, refusalAlong}
 use Rattle.meaning.specs.Vocabulary.{classCount, featureCount, roleCount}
 
 -- SPECIFICATION 8.2: what a record says, kinds 1 to 3
@@ -100,18 +100,9 @@ factWords (member a i) next = 1 ∷ (a ∷ (i ∷ (0 ∷ (next ∷ []))))
 factWords (edge r i j) next = 2 ∷ (r ∷ (i ∷ (j ∷ (next ∷ []))))
 factWords (value f i v) next = 3 ∷ (f ∷ (i ∷ (v ∷ (next ∷ []))))
 
--- the records that are written follow each other: the link to record k, where there is one
-abbrev pub linkTo : ℕ → List Fact → ℕ
-linkTo k [] = 0
-linkTo k (x ∷ F) = k
-
-abbrev pub chainedWords : ℕ → List Fact → List ℕ
-chainedWords k [] = []
-chainedWords k (x ∷ F) = factWords x (linkTo (suc k) F) ++ chainedWords (suc k) F
-
 -- the words for a number of individuals and facts
 unfoldable pub modelWords : ℕ → List Fact → List ℕ
-modelWords n F = linkTo 1 F ∷ (n ∷ (0 ∷ (0 ∷ (0 ∷ chainedWords 1 F))))
+modelWords n F = linkTo 1 F ∷ (n ∷ (0 ∷ (0 ∷ (0 ∷ chainedWords factWords 1 F))))
 
 -- how many words they are
 abbrev pub modelSize : List Fact → ℕ

@@ -70,7 +70,7 @@ says a = record { answer = result a; words = [] }
 abbrev pub refuses : {A : Type 0} → ℕ → Outcome A
 refuses n = record { answer = refused n; words = [] }
 
--- a countermodel's words are written where an output of o words is long enough for them, SPECIFICATION 9.9; else 23
+-- words are written where an output of o words is long enough for them, SPECIFICATION 9.9; else 23
 abbrev pub written : {A : Type 0} → ℕ → (ℕ → A) → List ℕ → Outcome A
 written o tell words = cond (leb (length words) o) (record { answer = result (tell (length words)); words = words }) (refuses 23)
 

@@ -1,7 +1,7 @@
 -- SPECIFICATION 2, what the tables share: names, links, lengths, and refusals in order.
 use Prim.Native.Nat.{_%_, _-_, _/_, _<_, _≤_, suc, zero, ℕ}
 use mathlib.Core.Bool.{Bool, _&&_, _||_, cond}
-use mathlib.Core.List.{List, [], _∷_}
+use mathlib.Core.List.{List, [], _++_, _∷_}
 use mathlib.Core.Logic.{_⊎_}
 use mathlib.Core.Path.{_≡_}
 use lib.Dec.{eqb, leb, ltb}
@@ -52,6 +52,16 @@ refusalAlong r next sound (suc f) k =
     let rest = refusalAlong r next sound f (next k) in
     let this = cond (sound k) rest r in
     cond (eqb k 0) 0 this
+
+-- records that are written follow each other: the link to record k, where there is one
+abbrev pub linkTo : {A : Type 0} → ℕ → List A → ℕ
+linkTo k [] = 0
+linkTo k (x ∷ l) = k
+
+-- their words from record k on, by what stands in a record and its link
+abbrev pub chainedWords : {A : Type 0} → (A → ℕ → List ℕ) → ℕ → List A → List ℕ
+chainedWords words k [] = []
+chainedWords words k (x ∷ l) = words x (linkTo (suc k) l) ++ chainedWords words (suc k) l
 
 -- the first refusal in an operation's order (SPECIFICATION 9.1); 0 is none
 abbrev pub orElse : ℕ → ℕ → ℕ

@@ -1,11 +1,12 @@
--- SPECIFICATION 3 and 9.2: a vocabulary's records, what Read vocabulary refuses, and the axioms that an accepted table states.
+-- SPECIFICATION 3 and 9.2: a vocabulary's records, what Read vocabulary refuses, the axioms that an accepted table states, and the words
+-- that are written for axioms.
 use Prim.Native.Nat.{_*_, _+_, ℕ}
 use mathlib.Core.Bool.{Bool, _&&_, cond}
-use mathlib.Core.List.{List}
+use mathlib.Core.List.{List, [], _∷_}
 use lib.Dec.{eqb, leb}
 use lib.ListN.{getD, length}
 use Rattle.meaning.specs.Limits.{mostClasses, mostFeatures, mostRoles, mostVocabularyWords}
-use Rattle.meaning.specs.Records.{isName, isOnward, isSized, lastOf, listAlong, refusalAlong}
+use Rattle.meaning.specs.Records.{chainedWords, isName, isOnward, isSized, lastOf, linkTo, listAlong, refusalAlong}
 
 -- SPECIFICATION 3.2: what a record states, kinds 1 to 5
 pub data Axiom : Type 0 where
@@ -95,3 +96,21 @@ axiomsOf v = axiomsFrom (length v) v (firstAxiom v)
 
 unfoldable pub vocabularyOf : List ℕ → Vocabulary
 vocabularyOf v = record { classes = classCount v; roles = roleCount v; features = featureCount v; axioms = axiomsOf v }
+
+-- ---- writing
+
+-- a record's words, with its link
+abbrev pub axiomWords : Axiom → ℕ → List ℕ
+axiomWords (below a b) next = 1 ∷ (a ∷ (b ∷ (next ∷ [])))
+axiomWords (disjoint a b) next = 2 ∷ (a ∷ (b ∷ (next ∷ [])))
+axiomWords (functionalRole r) next = 3 ∷ (r ∷ (0 ∷ (next ∷ [])))
+axiomWords (functionalFeature f) next = 4 ∷ (f ∷ (0 ∷ (next ∷ [])))
+axiomWords (range r c) next = 5 ∷ (r ∷ (c ∷ (next ∷ [])))
+
+-- the words for what a vocabulary says
+unfoldable pub vocabularyWords : Vocabulary → List ℕ
+vocabularyWords K = K .classes ∷ (K .roles ∷ (K .features ∷ (linkTo 1 (K .axioms) ∷ chainedWords axiomWords 1 (K .axioms))))
+
+-- how many words they are
+abbrev pub vocabularySize : Vocabulary → ℕ
+vocabularySize K = 4 * (length (K .axioms) + 1)

@@ -44,3 +44,9 @@ pub enum Checked {
     No,
     Refused(u32),
 }
+
+// An operation that fills an output: the words written.
+pub enum Filling {
+    Written(usize),
+    Refused(u32),
+}

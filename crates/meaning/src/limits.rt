@@ -36,3 +36,8 @@ pub const WORK_SIZE: usize = 16384;
 pub const OUTPUT_SIZE: usize = 16384;
 
 pub const MOST_BYTES: usize = 65536;
+
+// An OWL text, in bytes, and the letters and digits of a name.
+pub const MOST_TEXT: usize = 65536;
+
+pub const MOST_NAME_BYTES: usize = 32;

@@ -1,2 +1,3 @@
--- The way along a chain; other crates cite it.
+-- The way along a chain, and records written one after another; other crates cite it.
 pub mod Chains
+pub mod Writing

@@ -1,2 +1,3 @@
--- Chains of records.
+-- Chains of records, and records written.
 pub mod Chains
+pub mod Written

@@ -1,11 +1,12 @@
-// What the tables of records share: a word, a name, a link, a length, an answer.
+// What the tables of records share: a word, a name, a link read and written, a length, an answer.
 use meaning::Reading;
 ghost use mathlib.Core.Path.{_≡_};
-ghost use Prim.Native.Nat.{_<_};
+ghost use Prim.Native.Nat.{_<_, _^_, _≤_};
 ghost use lib.ListN.{getD, set};
 ghost use Rattle.meaning.specs.Answers.{accepted, readingAnswer, refused, result};
 ghost use Rattle.meaning.specs.Operations.{unless};
 ghost use Rattle.meaning.specs.Records.{isName, isOnward, isSized};
+ghost use Rattle.records.specs.Written.{linkAt};
 
 // A word of a table. Past the end stands 0, so that reading asks nothing of the caller.
 pub fn word(l: &[u32], i: usize) -> u32
@@ -35,6 +36,14 @@ pub fn is_onward(last: usize, k: u32, next: u32) -> bool
     ensures { λ r. ⌜ r ≡ isOnward last k next ⌝ }
 {
     next == 0 || k < next && next as usize <= last
+}
+
+// Record k links to the one after it; the last record, and the header of no record, to none.
+pub fn link(k: usize, last: usize) -> u32
+    requires { ⌜ (k ≤ last) × (last < 2 ^ 32) ⌝ }
+    ensures { λ r. ⌜ r ≡ linkAt last k ⌝ }
+{
+    if k == last { 0 } else { k as u32 + 1 }
 }
 
 // A header and records, of one width, and not too many.

@@ -14,7 +14,7 @@ use Rattle.layout.specs.Nesting.{Nested}
 use Rattle.layout.specs.Tables.{Tabled, holderAt, parentAt, roleAt}
 use Rattle.layout.specs.declared.Tables.{Tables}
 use Rattle.meaning.proofs.Counting.{below-some, some-below}
-use Rattle.meaning.proofs.Filling.{fill}
+use Rattle.meaning.proofs.Digits.{fill}
 use Rattle.meaning.proofs.Rules.{T-and, T-or, and-T, eqb-of, isTrue, or-left, or-right, order, same-test}
 use Rattle.meaning.specs.Countermodel.{size}
 use Rattle.meaning.specs.Intervals.{Constraint}

@@ -11,7 +11,8 @@ use Rattle.input.proofs.Words.{counted}
 use Rattle.meaning.proofs.ModelWords.{model-facts, model-length, stated}
 use Rattle.meaning.specs.Answers.{Answer, VerdictResult}
 use Rattle.meaning.specs.Lists.{counting, flatMap}
-use Rattle.meaning.specs.Model.{Fact, chainedWords, factAt, factKind, factName, factOther, factOwner, factWords, factsOf, linkTo}
+use Rattle.meaning.specs.Model.{Fact, factAt, factKind, factName, factOther, factOwner, factWords, factsOf}
+use Rattle.meaning.specs.Records.{chainedWords, linkTo}
 use Rattle.meaning.specs.Model.{modelWords}
 use Rattle.meaning.specs.Program.{answerLine, bytes, factLine, line, printed}
 use Rattle.meaning.specs.declared.Verdict.the-variants.{Outside}
@@ -47,14 +48,14 @@ pub facts-all : {t u : List ℕ} {at r : ℕ} (m : List ℕ) (k n : ℕ) → Put
 facts-all m k n p e = put-as (ap (λ (i : ℕ). flatMap factLine (recordsTo m i)) e) p
 
 -- records in a row state the facts they were written for
-records-read : (m rest : List ℕ) (k : ℕ) (F : List Fact) → drop (5 * suc k) m ≡ chainedWords (suc k) F ++ rest →
+records-read : (m rest : List ℕ) (k : ℕ) (F : List Fact) → drop (5 * suc k) m ≡ chainedWords factWords (suc k) F ++ rest →
     map (factAt m) (counting (suc k) (length F)) ≡ F
 records-read m rest k [] e = refl
 records-read m rest k (x ∷ F) e =
     let link = linkTo (suc (suc k)) F in
-    let later = chainedWords (suc (suc k)) F in
+    let later = chainedWords factWords (suc (suc k)) F in
     let s = stated m (suc k) x link (later ++ rest) (e ∙ append-assoc (factWords x link) later rest) in
-    rw (s .fact, records-read m rest (suc k) F (s .rest))
+    rw (s .is, records-read m rest (suc k) F (s .rest))
 
 module _ (out : List ℕ) (n : ℕ) (m : Model out n) where
   pub model-count : n ≡ 5 * (length (m .facts) + 1)

@@ -9,7 +9,7 @@ use native.Mathlib.Omega.{arith}
 use lib.ListN.{getD, length}
 use Rattle.layout.specs.Tables.{constraintAt}
 use Rattle.meaning.proofs.Count.{count-combinations}
-use Rattle.meaning.proofs.Filling.{Takes, fill, number}
+use Rattle.meaning.proofs.Digits.{Takes, fill, number}
 use Rattle.meaning.proofs.Odometer.{at-getD, at-lt, combination-at, getD-at}
 use Rattle.meaning.proofs.Rules.{order}
 use Rattle.meaning.specs.Containment.{passes}

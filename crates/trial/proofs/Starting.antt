@@ -12,7 +12,7 @@ use Rattle.frames.specs.Frames.{Only}
 use Rattle.layout.proofs.Nesting.{nested-kept}
 use Rattle.layout.specs.Tables.{Pieces, constraintAt}
 use Rattle.layout.specs.declared.Tables.{Tables}
-use Rattle.meaning.proofs.Filling.{fill}
+use Rattle.meaning.proofs.Digits.{fill}
 use Rattle.meaning.proofs.Picks.{AllNonEmpty}
 use Rattle.meaning.proofs.Whole.{whole-passes}
 use Rattle.meaning.specs.Intervals.{NonEmpty}

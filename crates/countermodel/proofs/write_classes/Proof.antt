@@ -4,13 +4,15 @@ use mathlib.Core.Path.{refl}
 use native.Mathlib.Omega.{arith}
 use lib.ListN.{length}
 use Rattle.countermodel.proofs.Members.{members-end, members-more, members-start, membersLeft}
-use Rattle.countermodel.proofs.Output.{Left, left-end, left-start, turn-less, turn-more, turn-room}
+use Rattle.countermodel.specs.Written.{facts}
+use Rattle.records.proofs.Writing.{Left, left-end, left-start, turn-less, turn-more, turn-room}
+use Rattle.meaning.proofs.ModelWords.{fact-length}
 use Rattle.countermodel.proofs.write_classes.Statement.{statement}
 use Rattle.countermodel.specs.Facts.{memberFacts}
 use Rattle.countermodel.proofs.write_classes.Tie as tie
 
 abbrev Inv-loop : tie.InvT-loop
-Inv-loop work i out₀ k last classes at₀ c₀ out at c = Left last k (memberFacts work i) out₀ at (membersLeft work i (c .0)) out
+Inv-loop work i out₀ k last classes at₀ c₀ out at c = Left facts last k (memberFacts work i) out₀ at (membersLeft work i (c .0)) out
 
 abbrev μ-loop : tie.MeasureT-loop
 μ-loop work i out₀ k last classes at₀ c₀ out at c = length (membersLeft work i (c .0))
@@ -45,7 +47,7 @@ loop-again c =
     let l = test .before .before .loop in
     turn-more (l .inv) (s .pre .1) _ _
     (members-more (s .args .work .now) (s .args .i) (set .before .place .ensures) (set .classes-of .ensures) (l .c .0) _ (test .if1 .taken) (c .next2 .ensures))
-    _ (c .before .before .before .put .ensures)
+    fact-length _ (c .before .before .before .put .ensures)
 
 returns : tie.Need-returns Inv-loop μ-loop
 returns c =

@@ -4,13 +4,15 @@ use mathlib.Core.Path.{refl}
 use native.Mathlib.Omega.{arith}
 use lib.ListN.{length}
 use Rattle.countermodel.proofs.Edges.{edges-end, edges-more, edges-start, edgesLeft}
-use Rattle.countermodel.proofs.Output.{Left, left-end, left-start, turn-less, turn-more, turn-room}
+use Rattle.countermodel.specs.Written.{facts}
+use Rattle.records.proofs.Writing.{Left, left-end, left-start, turn-less, turn-more, turn-room}
+use Rattle.meaning.proofs.ModelWords.{fact-length}
 use Rattle.countermodel.proofs.write_edges.Statement.{statement}
 use Rattle.countermodel.specs.Facts.{edgeFacts}
 use Rattle.countermodel.proofs.write_edges.Tie as tie
 
 abbrev Inv-loop : tie.InvT-loop
-Inv-loop work n x out₀ k last at₀ j₀ out at j = Left last k (edgeFacts work n x) out₀ at (edgesLeft work x n j) out
+Inv-loop work n x out₀ k last at₀ j₀ out at j = Left facts last k (edgeFacts work n x) out₀ at (edgesLeft work x n j) out
 
 abbrev μ-loop : tie.MeasureT-loop
 μ-loop work n x out₀ k last at₀ j₀ out at j = length (edgesLeft work x n j)
@@ -39,7 +41,7 @@ loop-again c =
     let l = c .before .before .before .before .before .before .before .loop in
     turn-more (l .inv) (s .pre .2) _ _
     (edges-more (s .args .work .now) (s .args .x) (s .args .n) (l .j) _ (c .before .before .before .before .before .before .loop-test .taken) (c .next-successor2 .ensures))
-    _ (rw (c .before .before .before .before .before .role-of .ensures) at (c .before .before .before .put .ensures))
+    fact-length _ (rw (c .before .before .before .before .before .role-of .ensures) at (c .before .before .before .put .ensures))
 
 returns : tie.Need-returns Inv-loop μ-loop
 returns c =

@@ -1,7 +1,8 @@
 use borrow.Author.Needs.{needs}
 use mathlib.Core.Path.{_∙_, refl}
 use native.Mathlib.Omega.{arith}
-use Rattle.countermodel.proofs.Output.{room-same, three-written}
+use Rattle.countermodel.proofs.Output.{three-written}
+use Rattle.records.proofs.Writing.{room-same}
 use Rattle.countermodel.proofs.Sizes.{row-length}
 use Rattle.countermodel.proofs.write_row.Statement.{statement}
 use Rattle.countermodel.specs.Facts.{factsAt}

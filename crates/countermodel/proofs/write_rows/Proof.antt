@@ -3,14 +3,16 @@ use borrow.Author.Needs.{needs}
 use Prim.Native.Nat.{_-_, _≤_, ℕ}
 use mathlib.Core.Path.{_≡_, ap}
 use native.Mathlib.Omega.{arith}
-use Rattle.countermodel.proofs.Output.{Left, left-end, left-more, left-start, room-same}
+use Rattle.countermodel.specs.Written.{facts}
+use Rattle.records.proofs.Writing.{Left, left-end, left-more, left-start, room-same}
+use Rattle.meaning.proofs.ModelWords.{fact-length}
 use Rattle.countermodel.proofs.Sizes.{rows-end, rows-length, rows-more}
 use Rattle.countermodel.proofs.write_rows.Statement.{statement}
 use Rattle.countermodel.specs.Facts.{factsFrom, tableFacts}
 use Rattle.countermodel.proofs.write_rows.Tie as tie
 
 abbrev Inv-loop : tie.InvT-loop
-Inv-loop work t last out₀ n k₀ i₀ out k i = (i ≤ n) × Left last 1 (tableFacts work t) out₀ k (factsFrom work t (n - i) i) out
+Inv-loop work t last out₀ n k₀ i₀ out k i = (i ≤ n) × Left facts last 1 (tableFacts work t) out₀ k (factsFrom work t (n - i) i) out
 
 abbrev μ-loop : tie.MeasureT-loop
 μ-loop work t last out₀ n k₀ i₀ out k i = n - i
@@ -40,7 +42,7 @@ loop-again c =
     let s = c .before .before .before .before .before .before .before .before in
     let l = c .before .before .before .before .before .loop in (
       search needs,
-      left-more _ _ _ _ _ (l .inv .1) (rows-more (s .args .work .now) (s .args .t) (s .args .t .individuals) (l .i) (c .before .before .before .before .loop-test .taken))
+      left-more fact-length _ _ _ _ _ (l .inv .1) (rows-more (s .args .work .now) (s .args .t) (s .args .t .individuals) (l .i) (c .before .before .before .before .loop-test .taken))
           (s .pre .1) (c .before .before .write-row .ensures),
     )
 

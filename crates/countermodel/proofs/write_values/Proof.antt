@@ -2,7 +2,9 @@
 use borrow.Author.Needs.{needs}
 use native.Mathlib.Omega.{arith}
 use lib.ListN.{length}
-use Rattle.countermodel.proofs.Output.{Left, left-end, left-start, turn-less, turn-more, turn-room}
+use Rattle.countermodel.specs.Written.{facts}
+use Rattle.records.proofs.Writing.{Left, left-end, left-start, turn-less, turn-more, turn-room}
+use Rattle.meaning.proofs.ModelWords.{fact-length}
 use Rattle.countermodel.proofs.Pairs.{values-end, values-here, values-more, values-start}
 use Rattle.countermodel.proofs.write_values.Statement.{statement}
 use Rattle.countermodel.specs.Facts.{valueFacts, valuesFrom}
@@ -11,7 +13,7 @@ use Rattle.meaning.specs.Intervals.{valueOf}
 use Rattle.countermodel.proofs.write_values.Tie as tie
 
 abbrev Inv-loop : tie.InvT-loop
-Inv-loop work n x out₀ k last at₀ m₀ out at m = Left last k (valueFacts work n x) out₀ at (valuesFrom work n x m) out
+Inv-loop work n x out₀ k last at₀ m₀ out at m = Left facts last k (valueFacts work n x) out₀ at (valuesFrom work n x m) out
 
 abbrev μ-loop : tie.MeasureT-loop
 μ-loop work n x out₀ k last at₀ m₀ out at m = length (valuesFrom work n x m)
@@ -41,7 +43,7 @@ loop-again c =
     let l = c .before .before .before .before .before .before .before .before .loop in
     turn-more (l .inv) (s .pre .1) _ _
     (values-more (s .args .work .now) (s .args .n) (s .args .x) (l .m) _ (c .before .before .before .before .before .before .before .loop-test .taken) (c .next-pair2 .ensures .1))
-    _ (let v = c .before .before .before .before .before in rw (v .before .feature-of .ensures, v .piece-hi .ensures) at (c .before .before .before .put .ensures))
+    fact-length _ (let v = c .before .before .before .before .before in rw (v .before .feature-of .ensures, v .piece-hi .ensures) at (c .before .before .before .put .ensures))
 
 returns : tie.Need-returns Inv-loop μ-loop
 returns c =

@@ -1,7 +1,7 @@
 use borrow.Author.Needs.{needs}
 use borrow.Author.Tests.{eq-eqb, ne-eqb}
-use Rattle.countermodel.proofs.link.Statement.{statement}
-use Rattle.countermodel.proofs.link.Tie as tie
+use Rattle.records.proofs.link.Statement.{statement}
+use Rattle.records.proofs.link.Tie as tie
 
 returns : tie.Need-returns
 returns c = rw (eq-eqb _ _ (c .if1 .taken))

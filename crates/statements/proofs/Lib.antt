@@ -1,0 +1,4 @@
+-- Laws of what the functions find.
+mod Laws
+mod Front
+mod Parsing

@@ -1,0 +1,3 @@
+-- The forms, and what the functions find.
+pub mod Forms
+pub mod Found

@@ -1,0 +1,3 @@
+-- The tokens of a text, and their places.
+pub mod Tokens
+pub mod Places
