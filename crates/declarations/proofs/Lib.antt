@@ -1,0 +1,4 @@
+-- The passes over a text.
+pub mod Passing
+mod Counting
+mod Listing

@@ -1,0 +1,3 @@
+-- The operation Read OWL, and what its functions know of a text.
+pub mod Owl
+pub mod Passes
