@@ -1,4 +1,4 @@
-/* Every operation called from C: the desk's example, whose answers SPECIFICATION 11.2 gives. Compile with crates/exports/gimbuka.h at
+/* Every operation called from C: the desk's example, whose answers SPECIFICATION 11.2 gives, and an OWL text. Compile with crates/exports/gimbuka.h at
  * hand and link target/staticlib/libexports.a; scripts/judge does so and runs it. */
 #include <stdio.h>
 #include <string.h>
@@ -77,6 +77,19 @@ int main(void) {
                                                                  &number) == 0 && number == 32);
     expect("model check, no work slice", gimbuka_model_check(v, LENGTH(v), p, LENGTH(p), q, LENGTH(q), model, LENGTH(model), work, 0,
                                                              &number) == 0 && number == 21);
+
+    /* class :B is below class :A, used before they are declared; the output is as it was behind the words written, and after a refusal */
+    static const char text[] = "Ontology(SubClassOf(:B :A) Declaration(Class(:A)) Declaration(Class(:B)))";
+    static const uint32_t read[] = {2, 0, 0, 1, 1, 2, 1, 0};
+    const uint8_t *owl = (const uint8_t *)text;
+    memset(out, 1, sizeof out);
+    expect("read OWL, output too short", gimbuka_read_owl(owl, sizeof text - 1, out, 7, &number, &words) == 0 && number == 23 && words == 0);
+    expect("read OWL, cut short", gimbuka_read_owl(owl, sizeof text - 2, out, LENGTH(out), &number, &words) == 0 && number == 41);
+    expect("read OWL, no class", gimbuka_read_owl((const uint8_t *)"Ontology()", 10, out, LENGTH(out), &number, &words) == 0 && number == 42);
+    expect("a refusal writes nothing", out[0] == 0x01010101);
+    expect("read OWL", gimbuka_read_owl(owl, sizeof text - 1, out, LENGTH(out), &number, &words) == 1 && number == 0);
+    expect("read OWL's words", words == LENGTH(read) && memcmp(out, read, sizeof read) == 0 && out[LENGTH(read)] == 0x01010101);
+    expect("what was written is a vocabulary", gimbuka_read_vocabulary(out, words, &number) == 1);
 
     if (!failed) puts("every operation called from C: as it must be");
     return failed;

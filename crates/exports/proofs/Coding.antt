@@ -2,8 +2,8 @@
 use Prim.Native.Nat.{ℕ}
 use mathlib.Core.List.{List}
 use mathlib.Core.Path.{_≡_, subst}
-use Rattle.exports.specs.Codes.{Code, Coded, CodedComparison, CodedVerdict}
-use Rattle.meaning.specs.Answers.{Answer, ComparisonResult, VerdictResult}
+use Rattle.exports.specs.Codes.{Code, Coded, CodedComparison, CodedFilling, CodedVerdict}
+use Rattle.meaning.specs.Answers.{Answer, ComparisonResult, FillingResult, VerdictResult}
 use Rattle.meaning.specs.Operations.{workAfter}
 
 module _ {A : Type 0} {a b : Answer A} (e : a ≡ b) where
@@ -18,3 +18,6 @@ coded-verdict e {k} {x} {y} {n} h = subst (λ (c : Answer VerdictResult). CodedV
 
 pub coded-comparison : {a b : Answer ComparisonResult} → a ≡ b → {k x y z n : ℕ} → CodedComparison a k x y z n → CodedComparison b k x y z n
 coded-comparison e {k} {x} {y} {z} {n} h = subst (λ (c : Answer ComparisonResult). CodedComparison c k x y z n) e h
+
+pub coded-filling : {a b : Answer FillingResult} → a ≡ b → {k x n : ℕ} → CodedFilling a k x n → CodedFilling b k x n
+coded-filling e {k} {x} {n} h = subst (λ (c : Answer FillingResult). CodedFilling c k x n) e h

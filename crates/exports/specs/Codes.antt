@@ -3,9 +3,10 @@ use Prim.Native.Nat.{ℕ}
 use mathlib.Core.Path.{_≡_}
 use mathlib.Core.List.{List}
 use lib.ListN.{length}
-use Rattle.meaning.specs.Answers.{Answer, CheckResult, ComparisonResult, PossibilityResult, ReadingResult, VerdictResult, accepted}
-use Rattle.meaning.specs.Answers.{compliant, differs, equal, firstPossible, no, nonePossible, outside, refused, result, yes}
+use Rattle.meaning.specs.Answers.{Answer, CheckResult, ComparisonResult, FillingResult, PossibilityResult, ReadingResult, VerdictResult, accepted}
+use Rattle.meaning.specs.Answers.{compliant, differs, equal, firstPossible, no, nonePossible, outside, refused, result, wrote, yes}
 use Rattle.meaning.specs.Operations.{compliance, equality, modelCheck, outputAfter, possibility, workAfter}
+use Rattle.owl.specs.Owl.{readOwl}
 
 pub record Code : Type 0 where
   pub kind : ℕ
@@ -42,9 +43,16 @@ checkCode (refused n) = code 0 n 0 0 0
 checkCode (result yes) = code 1 0 0 0 0
 checkCode (result no) = code 2 0 0 0 0
 
--- what a function returns and writes for an answer with one value, with two and a number of words, with three and a number of words
+abbrev pub fillingCode : Answer FillingResult → Code
+fillingCode (refused n) = code 0 n 0 0 0
+fillingCode (result (wrote n)) = code 1 0 0 0 n
+
+-- what a function returns and writes for an answer with one value, with one, two or three and a number of words
 abbrev pub Coded : Code → ℕ → ℕ → Type 0
 Coded c k x = (k ≡ c .kind) × (x ≡ c .first)
+
+abbrev pub CodedFilling : Answer FillingResult → ℕ → ℕ → ℕ → Type 0
+CodedFilling a k x n = (k ≡ fillingCode a .kind) × (x ≡ fillingCode a .first) × (n ≡ fillingCode a .words)
 
 abbrev pub CodedVerdict : Answer VerdictResult → ℕ → ℕ → ℕ → ℕ → Type 0
 CodedVerdict a k x y n = (k ≡ verdictCode a .kind) × (x ≡ verdictCode a .first) × (y ≡ verdictCode a .second) × (n ≡ verdictCode a .words)
@@ -72,3 +80,7 @@ pub record EqualityCoded (v p q w w′ o o′ : List ℕ) (k x y z n : ℕ) : Ty
 pub record ModelCheckCoded (v p q m w w′ : List ℕ) (k x : ℕ) : Type 0 where
   pub answer : Coded (checkCode (modelCheck v p q m (length w))) k x
   pub work : w′ ≡ workAfter (modelCheck v p q m (length w)) w
+
+pub record OwlCoded (text o o′ : List ℕ) (k x n : ℕ) : Type 0 where
+  pub answer : CodedFilling (readOwl text (length o) .answer) k x n
+  pub output : o′ ≡ outputAfter (readOwl text (length o) .words) o

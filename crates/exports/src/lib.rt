@@ -5,16 +5,18 @@ use containment::possible;
 use equality::equality;
 use meaning::Checked;
 use meaning::Comparison;
+use meaning::Filling;
 use meaning::Possibility;
 use meaning::Reading;
 use meaning::Verdict;
 use model_check::model_check;
+use owl::read_owl;
 use policy::read_policy;
 use policy::read_second_policy;
 use vocabulary::read_vocabulary;
-ghost use Rattle.exports.specs.Codes.{Coded, CodedComparison, CodedVerdict, ComplianceCoded, EqualityCoded, ModelCheckCoded};
-ghost use Rattle.exports.specs.Codes.{PossibleCoded, checkCode, possibilityCode, readingCode};
-ghost use Rattle.meaning.specs.Answers.{checkedAnswer, comparisonAnswer, possibilityAnswer, readingAnswer, verdictAnswer};
+ghost use Rattle.exports.specs.Codes.{Coded, CodedComparison, CodedFilling, CodedVerdict, ComplianceCoded, EqualityCoded};
+ghost use Rattle.exports.specs.Codes.{ModelCheckCoded, OwlCoded, PossibleCoded, checkCode, possibilityCode, readingCode};
+ghost use Rattle.meaning.specs.Answers.{checkedAnswer, comparisonAnswer, fillingAnswer, possibilityAnswer, readingAnswer, verdictAnswer};
 ghost use Rattle.meaning.specs.Operations.{readPolicy, readSecondPolicy, readVocabulary};
 
 fn reading(r: Reading, number: &mut u32) -> u32
@@ -130,6 +132,23 @@ fn checked(r: Checked, number: &mut u32) -> u32
     }
 }
 
+fn filling(r: Filling, number: &mut u32, words: &mut usize) -> u32
+    ensures { λ k. ⌜ CodedFilling (fillingAnswer r) k (now (number .exit)) (now (words .exit)) ⌝ }
+{
+    match r {
+        Filling::Written(n) => {
+            *number = 0;
+            *words = n;
+            1
+        }
+        Filling::Refused(n) => {
+            *number = n;
+            *words = 0;
+            0
+        }
+    }
+}
+
 // Read vocabulary: 1 accepted.
 #[no_mangle]
 pub extern "C" fn gimbuka_read_vocabulary(v: &[u32], number: &mut u32) -> u32
@@ -219,4 +238,17 @@ pub extern "C" fn gimbuka_model_check(
         (now (work .entry)) (now (work .exit)) k (now (number .exit)) ⌝ }
 {
     checked(model_check(v, p, q, m, work), number)
+}
+
+// Read OWL: 1 with the words written.
+#[no_mangle]
+pub extern "C" fn gimbuka_read_owl(
+    text: &[u8],
+    out: &mut [u32],
+    number: &mut u32,
+    words: &mut usize,
+) -> u32
+    ensures { λ k. ⌜ OwlCoded (now (text .entry)) (now (out .entry)) (now (out .exit)) k (now (number .exit)) (now (words .exit)) ⌝ }
+{
+    filling(read_owl(text, out), number, words)
 }
