@@ -1,6 +1,6 @@
 //! An independent reasoner for policy containment over a consent vocabulary (`docs/SPECIFICATION.md`).
 //!
-//! The six operations read slices of 32-bit words and answer exactly as it says, for every
+//! The operations read slices of 32-bit words, or a text, and answer exactly as it says, for every
 //! input. The work slice is only ever zeroed; the reasoning uses trees on the heap.
 
 #![forbid(unsafe_code)]
@@ -11,6 +11,7 @@ pub mod cover;
 pub mod encode;
 pub mod model;
 pub mod normal;
+pub mod owl;
 pub mod policy;
 pub mod program;
 pub mod random;
@@ -18,6 +19,7 @@ pub mod split;
 pub mod text;
 pub mod vocabulary;
 
+pub use owl::read_owl;
 pub use program::{bytes_of_parts, program};
 
 use countermodel::Countermodel;
@@ -34,6 +36,15 @@ pub const FULL_WORK: usize = 16_384;
 pub enum Reading {
     /// The words are a legal table.
     Accepted,
+    /// The number of the refusal.
+    Refused(u32),
+}
+
+/// The answer of an operation that fills an output.
+#[derive(Clone, Copy, Debug, PartialEq, Eq, Hash)]
+pub enum Filling {
+    /// The number of words written.
+    Written(u32),
     /// The number of the refusal.
     Refused(u32),
 }

@@ -2,9 +2,17 @@
 
 use crate::classes::{ClassNo, ClassSet, FeatureNo, RoleNo};
 use std::cell::OnceCell;
+use std::ops::RangeInclusive;
 
 const RECORD: usize = 4;
 const LONGEST: usize = 4_100;
+
+/// How many classes a vocabulary may have.
+pub(crate) const CLASSES: RangeInclusive<u32> = 1..=256;
+/// How many roles.
+pub(crate) const ROLES: RangeInclusive<u32> = 0..=64;
+/// How many features.
+pub(crate) const FEATURES: RangeInclusive<u32> = 0..=64;
 
 /// One statement of a vocabulary, as its record gives it.
 #[derive(Clone, Copy, Debug, PartialEq, Eq)]
@@ -42,7 +50,8 @@ impl Vocabulary {
         }
         let last = (v.len() / RECORD - 1) as u32;
         let (classes, roles, features, first) = (v[0], v[1], v[2], v[3]);
-        let counts_fit = (1..=256).contains(&classes) && roles <= 64 && features <= 64;
+        let counts_fit =
+            CLASSES.contains(&classes) && ROLES.contains(&roles) && FEATURES.contains(&features);
         if !counts_fit || first > last {
             return Err(2);
         }
