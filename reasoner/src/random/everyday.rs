@@ -58,7 +58,7 @@ pub fn sized(seed: u64, answer: Answer, classes: u32, terms: usize) -> Case {
 }
 
 /// A tree of classes, some disjoint pairs, functional roles and features, ranges.
-fn vocabulary(rng: &mut Rng, classes: u32) -> Vocabulary {
+pub(super) fn vocabulary(rng: &mut Rng, classes: u32) -> Vocabulary {
     let mut axioms = Vec::new();
     for number in 2..=classes {
         let parent =

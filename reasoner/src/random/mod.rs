@@ -4,13 +4,15 @@
 //! [`everyday::case`] makes the pairs of the benchmarks; [`limits::cases`] lists the cases at every
 //! limit; [`slow::compliance`], [`slow::uncovered`] and [`slow::model_check`] list those that are
 //! made to be slow; [`damage::faults`] lists one fault for every refusal; [`shrink::shrink`] makes
-//! a case smaller while it still differs. A case prints itself as words.
+//! a case smaller while it still differs. A case prints itself as words. [`owl`] has the same for
+//! texts that a vocabulary is read from.
 
 pub mod boxes;
 pub mod damage;
 pub mod everyday;
 pub mod limits;
 pub mod models;
+pub mod owl;
 pub mod rng;
 pub mod shrink;
 pub mod slow;

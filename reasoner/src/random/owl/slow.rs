@@ -1,0 +1,52 @@
+//! OWL texts that are made to be slow, and an everyday one.
+
+use super::directed::padded;
+use super::source::{around, lay_out, Layout, Source};
+use super::{Text, MOST_BYTES};
+use crate::random::{everyday, Rng};
+use crate::text::Names;
+use crate::vocabulary::Vocabulary;
+
+/// Every text with its name, the everyday one first.
+#[must_use]
+pub fn texts() -> Vec<(&'static str, Text)> {
+    const FILL: usize = MOST_BYTES;
+    vec![
+        ("everyday: 256 classes, 20 roles, 5 features, 300 axioms", everyday_text()),
+        ("256 classes alike in 30 of 32, axioms of the last", text(30, 256, 256, FILL)),
+        ("256 classes alike in 30 of 32, axioms of the first", text(30, 256, 1, FILL)),
+        ("256 classes of 2, 1,024 axioms of the last", text(0, 256, 256, 1_024)),
+        ("256 classes of 2, axioms of the last: 1", text(0, 256, 256, FILL)),
+        ("1 class of 2, axioms: 1", text(0, 1, 1, FILL)),
+        ("978 classes alike in 30 of 32, axioms of the last: 42", text(30, 978, 978, FILL)),
+        ("1,236 classes alike in 30 of 32: 42", text(30, 1_236, 1, 0)),
+        ("2,848 classes of 2: 42", text(0, 2_848, 1, 0)),
+        ("1 class and blanks", Text::of(padded(MOST_BYTES, 0))),
+    ]
+}
+
+fn everyday_text() -> Text {
+    let vocabulary =
+        Vocabulary { roles: 20, features: 5, ..everyday::vocabulary(&mut Rng::new(1), 256) };
+    let names = Names::numbered(":", &vocabulary);
+    let tokens = around(Source { vocabulary, names }.forms().concat());
+    Text::of(lay_out(&mut Rng::new(1), Layout::Lines, &tokens))
+}
+
+/// The name of a class, which has two characters of its own.
+fn name(alike: usize, number: usize) -> String {
+    const DIGITS: &[u8; 62] = b"0123456789ABCDEFGHIJKLMNOPQRSTUVWXYZabcdefghijklmnopqrstuvwxyz";
+    let own = [number / 62, number % 62].map(|digit| char::from(DIGITS[digit]));
+    format!(":{}{}{}", "a".repeat(alike), own[0], own[1])
+}
+
+/// A text of so many classes whose names begin alike, and so many axioms of one of them, or as many as fit.
+fn text(alike: usize, classes: usize, used: usize, axioms: usize) -> Text {
+    let declaration = |number| format!("Declaration(Class({}))", name(alike, number));
+    let declarations: String = (1..=classes).map(declaration).collect();
+    let used = name(alike, used);
+    let axiom = format!("SubClassOf({used}{used})");
+    let room = MOST_BYTES - "Ontology()".len() - declarations.len();
+    let axioms = axiom.repeat(axioms.min(room / axiom.len()));
+    Text::of(format!("Ontology({declarations}{axioms})"))
+}
