@@ -1,9 +1,10 @@
-//! What the judges share: the library's answers as the reasoner has them, the cases that no seed makes, a run over numbers on every
-//! core, a count of the answers, Konclude.
+//! What the judges share: the library's answers as the reasoner has them, the cases and texts that no seed makes, a run over numbers on
+//! every core, a count of the answers, Konclude.
 
 pub mod konclude;
 pub mod library;
 
+use reasoner::random::owl::{self, Text};
 use reasoner::random::{damage, limits, slow, Case};
 use std::collections::BTreeMap;
 use std::num::NonZero;
@@ -17,7 +18,7 @@ pub fn cores() -> usize {
     thread::available_parallelism().map_or(1, NonZero::get)
 }
 
-/// The operations, in SPECIFICATION's order.
+/// The operations on tables, in SPECIFICATION's order.
 pub const OPERATIONS: [&str; 7] = [
     "read_vocabulary",
     "read_policy",
@@ -35,11 +36,11 @@ pub fn seeds(words: impl Iterator<Item = String>, usual: u64) -> Range<u64> {
     first..first + count
 }
 
-/// What a judge is given: a case that no seed makes, or a seed.
-pub enum Given<'a> {
-    /// A case at a limit, one made to be slow, or one with a directed fault.
-    Directed(&'a Case),
-    /// A seed, to make a case of.
+/// What a judge is given: a case or a text that no seed makes, or a seed.
+pub enum Given<'a, T> {
+    /// One at a limit, one made to be slow, or one with a directed fault.
+    Directed(&'a T),
+    /// A seed, to make one of.
     Seed(u64),
 }
 
@@ -47,7 +48,8 @@ pub enum Given<'a> {
 const EQUAL: usize = 3;
 
 /// The cases at every limit, the slow pairs and models, and one for every directed fault, with their names.
-fn directed() -> Vec<(String, Case)> {
+#[must_use]
+pub fn directed_cases() -> Vec<(String, Case)> {
     let limits =
         limits::cases().into_iter().map(|(name, case)| (format!("limit \"{name}\""), case));
     let faults = damage::faults().into_iter().map(|fault| {
@@ -59,6 +61,14 @@ fn directed() -> Vec<(String, Case)> {
     let models = slow::model_check().into_iter().map(|(name, case)| (name.to_owned(), case));
     let slow = pairs.chain(models).map(|(name, case)| (format!("slow \"{name}\""), case));
     limits.chain(slow).chain(faults).collect()
+}
+
+/// The OWL texts for every reading, at every limit and for every refusal, and the slow ones, with their names.
+#[must_use]
+pub fn directed_texts() -> Vec<(String, Text)> {
+    let directed = owl::directed::texts().into_iter().map(|one| (one.name, one.text));
+    let slow = owl::slow::texts().into_iter().map(|(name, text)| (name.to_owned(), text));
+    directed.chain(slow).collect()
 }
 
 /// The answers so far, with how many cases had each.
@@ -94,16 +104,16 @@ impl Tally {
     }
 }
 
-/// Judges the directed cases, then the seeds, on every core. What fails is told with its name, and of several the first, so that
+/// Judges what no seed makes, then the seeds, on every core. What fails is told with its name, and of several the first, so that
 /// a run tells the same every time.
-pub fn sweep<E: Send>(
+pub fn sweep<T: Sync, E: Send>(
+    directed: &[(String, T)],
     seeds: Range<u64>,
-    judge: impl Fn(&mut Tally, Given<'_>) -> Result<(), E> + Sync,
+    judge: impl Fn(&mut Tally, Given<'_, T>) -> Result<(), E> + Sync,
 ) -> Result<Tally, (String, E)> {
-    let directed = directed();
     let before = directed.len() as u64;
     let given = |number: u64| match directed.get(number as usize) {
-        Some((_, case)) => Given::Directed(case),
+        Some((_, one)) => Given::Directed(one),
         None => Given::Seed(seeds.start + number - before),
     };
     let told =

@@ -1,7 +1,7 @@
 //! The library's operations with the reasoner's answers, so that the two can be held to each other.
 
 use gimbuka::Refusal;
-use reasoner::{Checked, Comparison, Possibility, Reading, Verdict};
+use reasoner::{Checked, Comparison, Filling, Possibility, Reading, Verdict};
 
 fn reading(read: Result<(), Refusal>) -> Reading {
     match read {
@@ -12,13 +12,22 @@ fn reading(read: Result<(), Refusal>) -> Reading {
 
 /// The reasoner counts words by 32 bits.
 fn count(words: usize) -> u32 {
-    u32::try_from(words).expect("a countermodel that can be numbered")
+    u32::try_from(words).expect("words that can be numbered")
 }
 
 /// Read vocabulary.
 #[must_use]
 pub fn read_vocabulary(v: &[u32]) -> Reading {
     reading(gimbuka::read_vocabulary(v))
+}
+
+/// Read OWL.
+#[must_use]
+pub fn read_owl(text: &[u8], out: &mut [u32]) -> Filling {
+    match gimbuka::read_owl(text, out) {
+        Ok(words) => Filling::Written(count(words)),
+        Err(refusal) => Filling::Refused(refusal.number()),
+    }
 }
 
 /// Read policy.

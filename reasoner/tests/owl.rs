@@ -35,12 +35,13 @@ fn every_directed_text_has_its_answer() {
 }
 
 #[test]
-fn directed_texts_have_every_answer_and_names_of_their_own() {
+fn directed_texts_have_every_answer_and_none_is_there_twice() {
     let all = directed::texts();
     let numbers: BTreeSet<u32> = all.iter().filter_map(|one| one.answer.clone().err()).collect();
     assert_eq!(numbers, BTreeSet::from([1, 23, 41, 42]));
     let names: BTreeSet<&str> = all.iter().map(|one| one.name.as_str()).collect();
-    assert_eq!(names.len(), all.len());
+    let texts: BTreeSet<_> = all.iter().map(|one| (&one.text.bytes, one.text.out_len)).collect();
+    assert_eq!((names.len(), texts.len()), (all.len(), all.len()));
 }
 
 #[test]

@@ -11,7 +11,7 @@
 use judges::konclude::{empty_classes, Missing};
 use reasoner::random::everyday::{sized, Answer};
 use reasoner::random::slow::{self, Pair};
-use reasoner::random::{limits, Case, Rng};
+use reasoner::random::{limits, owl, Case, Rng};
 use reasoner::FULL_WORK;
 use std::hint::black_box;
 use std::process::{Command, Stdio};
@@ -31,8 +31,8 @@ struct Lent {
     out: Vec<u32>,
 }
 
-/// Microseconds a case.
-fn time(cases: &[Case], lent: &mut Lent, call: impl Fn(&Case, &mut Lent)) -> f64 {
+/// Microseconds a case, or a text.
+fn time<T>(cases: &[T], lent: &mut Lent, call: impl Fn(&T, &mut Lent)) -> f64 {
     let mut round = || {
         let start = Instant::now();
         cases.iter().for_each(|case| call(case, lent));
@@ -179,6 +179,15 @@ fn at_limits() {
     }
 }
 
+fn from_text() {
+    heading("vocabulary from OWL text");
+    for (name, text) in owl::slow::texts() {
+        let texts = [text];
+        let read = sides!(&texts, |side, text, lent| side::read_owl(&text.bytes, &mut lent.out));
+        row(name, read, None);
+    }
+}
+
 fn slowest() {
     heading("the slowest inputs known");
     for (name, case) in slow::compliance(slow::MOST_EQUAL) {
@@ -274,14 +283,16 @@ fn main() {
             everyday();
             growth();
             at_limits();
+            from_text();
             slowest();
             rate();
         }
         ["everyday"] => everyday(),
         ["limits"] => at_limits(),
+        ["owl"] => from_text(),
         ["slowest"] => slowest(),
         ["pairs", seconds] => println!("{}", decide(seconds.parse().expect("seconds"))),
         ["slow", seconds] => search(seconds.parse().expect("seconds")),
-        _ => eprintln!("usage: bench | bench everyday | bench limits | bench slowest | bench slow SECONDS | bench pairs SECONDS"),
+        _ => eprintln!("usage: bench | bench everyday | bench limits | bench owl | bench slowest | bench slow SECONDS | bench pairs SECONDS"),
     }
 }

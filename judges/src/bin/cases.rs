@@ -100,7 +100,7 @@ fn report(name: &str, small: &Case) {
 fn main() -> ExitCode {
     let seeds = judges::seeds(std::env::args().skip(1), 100_000);
     let count = seeds.end - seeds.start;
-    let told = judges::sweep(seeds, |tally, given| match given {
+    let told = judges::sweep(&judges::directed_cases(), seeds, |tally, given| match given {
         Given::Directed(case) => judge(tally, case),
         Given::Seed(seed) => judge(tally, &Case::any(seed)),
     });

@@ -134,7 +134,7 @@ fn main() -> ExitCode {
     };
     let seeds = judges::seeds(words, 5_000);
     let count = seeds.end - seeds.start;
-    let told = judges::sweep(seeds, |tally, given| {
+    let told = judges::sweep(&judges::directed_cases(), seeds, |tally, given| {
         let input = match given {
             Given::Directed(case) => Input::whole(case.bytes()),
             Given::Seed(seed) => Input::of(seed),

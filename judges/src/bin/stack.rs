@@ -1,11 +1,13 @@
 //! How much stack the operations take, measured on a painted one.
 //!
-//! `stack` calls every operation, for every case at a limit and every slow model, on a thread whose stack was painted, and prints the most
-//! bytes that each one touched, the thread's own among them. It fails where one touches more than a thread of 128 KB has.
+//! `stack` calls every operation, for every case at a limit, every slow model and every directed or slow text, on a thread whose stack was
+//! painted, and prints the most bytes that each one touched, the thread's own among them. It fails where one touches more than a
+//! thread of 128 KB has.
 
 #![expect(unsafe_code, reason = "a thread on a stack of our own is POSIX's to start")]
 
-use judges::OPERATIONS;
+use judges::{directed_texts, OPERATIONS};
+use reasoner::random::owl::Text;
 use reasoner::random::{limits, slow, Case};
 use reasoner::FULL_WORK;
 use std::alloc::{alloc, Layout};
@@ -107,6 +109,29 @@ fn measured(stack: &mut [u8], case: &Case) -> [usize; 7] {
     ]
 }
 
+/// The bytes for reading a text.
+fn measured_text(stack: &mut [u8], text: &Text) -> usize {
+    let mut out = text.out();
+    touched(stack, &mut || {
+        let _ = black_box(gimbuka::read_owl(&text.bytes, &mut out));
+    })
+}
+
+/// The most bytes that an operation touched, and where.
+#[derive(Default)]
+struct Most {
+    bytes: usize,
+    name: String,
+}
+
+impl Most {
+    fn take(&mut self, bytes: usize, name: &str) {
+        if bytes > self.bytes {
+            *self = Self { bytes, name: name.to_owned() };
+        }
+    }
+}
+
 fn main() -> ExitCode {
     let layout = Layout::from_size_align(PAINTED, PAGE).expect("a layout");
     // SAFETY: the layout is not empty; what is allocated is kept to the end, and `touched` fills it before it is read.
@@ -116,20 +141,22 @@ fn main() -> ExitCode {
         start.write_bytes(PAINT, PAINTED);
         slice::from_raw_parts_mut(start, PAINTED)
     };
-    let limits = limits::cases().into_iter().map(|(name, case)| (name.to_owned(), case));
-    let slow = slow::model_check().into_iter().map(|(name, case)| (name.to_owned(), case));
-    let mut most = [const { (0, String::new()) }; 7];
-    for (name, case) in limits.chain(slow) {
-        for (most, bytes) in most.iter_mut().zip(measured(stack, &case)) {
-            if bytes > most.0 {
-                *most = (bytes, name.clone());
-            }
+    let mut on_tables: [Most; 7] = Default::default();
+    for (name, case) in limits::cases().into_iter().chain(slow::model_check()) {
+        for (most, bytes) in on_tables.iter_mut().zip(measured(stack, &case)) {
+            most.take(bytes, name);
         }
     }
-    for (operation, (bytes, name)) in OPERATIONS.iter().zip(&most) {
+    let mut on_texts = Most::default();
+    for (name, text) in directed_texts() {
+        on_texts.take(measured_text(stack, &text), &name);
+    }
+    let operations = OPERATIONS.into_iter().chain(["read_owl"]);
+    let all: Vec<Most> = on_tables.into_iter().chain([on_texts]).collect();
+    for (operation, Most { bytes, name }) in operations.zip(&all) {
         println!("{operation:<20}{bytes:>8} bytes of stack: {name}");
     }
-    if most.iter().any(|(bytes, _)| *bytes > MOST) {
+    if all.iter().any(|most| most.bytes > MOST) {
         println!("more than {MOST}");
         return ExitCode::FAILURE;
     }

@@ -22,10 +22,8 @@ pub struct Directed {
 /// Every directed text.
 #[must_use]
 pub fn texts() -> Vec<Directed> {
-    let readings = READINGS.iter().map(|&(text, answer)| Directed {
-        name: format!("reading {:?}", String::from_utf8_lossy(text)),
-        text: Text::of(text),
-        answer: answer.map(<[u32]>::to_vec),
+    let readings = READINGS.iter().zip(1..).map(|(&(text, answer), number)| {
+        directed(&format!("reading {number}"), text, answer.map(<[u32]>::to_vec))
     });
     let limits = [lengths(), names(), counts(), outputs(), orders()];
     readings.chain(limits.into_iter().flatten()).collect()
@@ -356,7 +354,6 @@ fn counts() -> Vec<Directed> {
     };
     vec![
         case([1, 0, 0, 0], None),
-        case([0, 0, 0, 0], Some(42)),
         case([0, 64, 64, 0], Some(42)),
         case([256, 0, 0, 0], None),
         case([257, 0, 0, 0], Some(42)),
