@@ -2,10 +2,11 @@
 
 mod common;
 
-use common::{is_cleared, policy, work, MODEL, NARROW, NONE, V, WIDE};
+use common::{is_cleared, owl, policy, work, MODEL, NARROW, NONE, V, WIDE};
 use gimbuka::{
-    compliance, equality, model_check, possible, read_policy, read_second_policy, read_vocabulary,
-    Checked, Comparison, Possibility, Side, Verdict, MOST_MODEL_WORDS,
+    compliance, equality, model_check, possible, read_owl, read_policy, read_second_policy,
+    read_vocabulary, Checked, Comparison, Possibility, Side, Verdict, MOST_MODEL_WORDS,
+    MOST_OWL_BYTES, MOST_VOCABULARY_WORDS,
 };
 
 #[test]
@@ -13,6 +14,24 @@ fn tables_are_read() {
     assert_eq!(read_vocabulary(&V), Ok(()));
     assert_eq!(read_policy(&V, &WIDE), Ok(()));
     assert_eq!(read_second_policy(&V, &WIDE), Ok(()));
+}
+
+#[test]
+fn a_vocabulary_is_read_from_text() {
+    let mut out = [7; 10];
+    let text = b"Ontology(SubClassOf(:B :A) Declaration(Class(:A)) Declaration(Class(:B)))";
+    assert_eq!(read_owl(text, &mut out), Ok(8));
+    assert_eq!(out, [2, 0, 0, 1, 1, 2, 1, 0, 7, 7]);
+    assert_eq!(read_vocabulary(&out[..8]), Ok(()));
+}
+
+#[test]
+fn a_text_may_be_as_long_and_say_as_much_as_the_limits() {
+    let mut out = vec![7; MOST_VOCABULARY_WORDS];
+    let mut text = owl(1_024).into_bytes();
+    text.resize(MOST_OWL_BYTES, b'\n');
+    assert_eq!(read_owl(&text, &mut out), Ok(MOST_VOCABULARY_WORDS));
+    assert_eq!(read_vocabulary(&out), Ok(()));
 }
 
 #[test]

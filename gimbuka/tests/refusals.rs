@@ -2,10 +2,10 @@
 
 mod common;
 
-use common::{binary, deep, is_cleared, policy, work, MODEL, NARROW, NONE, V, WIDE};
+use common::{binary, deep, is_cleared, owl, policy, work, MODEL, NARROW, NONE, V, WIDE};
 use gimbuka::{
-    compliance, equality, model_check, possible, read_policy, read_second_policy, read_vocabulary,
-    Refusal, WORK_SIZE,
+    compliance, equality, model_check, possible, read_owl, read_policy, read_second_policy,
+    read_vocabulary, Refusal, MOST_OWL_BYTES, WORK_SIZE,
 };
 use std::collections::BTreeSet;
 use std::fmt::Debug;
@@ -20,6 +20,17 @@ fn with(words: &[u32], at: usize, word: u32) -> Vec<u32> {
     let mut words = words.to_vec();
     words[at] = word;
     words
+}
+
+/// Texts that are refused whatever the output.
+fn bad_texts() -> [(u32, String); 4] {
+    let long = format!("{}{}", owl(1), " ".repeat(MOST_OWL_BYTES));
+    [
+        (41, long),
+        (41, owl(1).replace(")", "")),
+        (42, owl(1).replace("Class(:A)", "Class(:B)")),
+        (1, owl(1_025)),
+    ]
 }
 
 /// Vocabularies that are refused.
@@ -76,6 +87,19 @@ fn four(v: &[u32], p: &[u32], q: &[u32], m: &[u32], work_words: usize) -> [u32; 
     ];
     assert!(lent.is_left());
     numbers
+}
+
+#[test]
+fn a_text() {
+    for (wanted, text) in bad_texts() {
+        assert_eq!(number(read_owl(text.as_bytes(), &mut [])), wanted);
+        let mut out = [7; 5_000];
+        assert_eq!(number(read_owl(text.as_bytes(), &mut out)), wanted);
+        assert_eq!(out, [7; 5_000]);
+    }
+    let mut out = [7; 7];
+    assert_eq!(number(read_owl(owl(1).as_bytes(), &mut out)), 23);
+    assert_eq!(out, [7; 7]);
 }
 
 #[test]
@@ -152,6 +176,7 @@ fn every_sentence_has_its_number() {
         compliance(&v, &p, &NONE, &mut work, &mut out).unwrap_err(),
         compliance(&V, &WIDE, &NARROW, &mut work, &mut []).unwrap_err(),
     ];
+    refusals.extend(bad_texts().map(|(_, text)| read_owl(text.as_bytes(), &mut out).unwrap_err()));
     refusals.extend(bad_vocabularies().map(|(_, v)| read_vocabulary(&v).unwrap_err()));
     for (_, p) in bad_policies() {
         refusals.push(read_policy(&V, &p).unwrap_err());

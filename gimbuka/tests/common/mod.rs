@@ -24,6 +24,11 @@ pub const MODEL: [u32; 15] = [1, 2, 0, 0, 0, 2, 1, 1, 2, 2, 1, 1, 2, 0, 0];
 /// No term.
 pub const NONE: [u32; 6] = [0; 6];
 
+/// A text of one class and so many axioms.
+pub fn owl(axioms: usize) -> String {
+    format!("Ontology(Declaration(Class(:A)) {})", "SubClassOf(:A :A) ".repeat(axioms))
+}
+
 /// One term for each list of conjuncts. A conjunct is its kind, a, lo and hi; each list has at least one.
 pub fn policy(terms: &[&[[u32; 4]]]) -> Vec<u32> {
     let mut words = NONE.to_vec();
