@@ -59,7 +59,9 @@ pub fn form(rng: &mut Rng, forms: &mut Vec<Form>) {
     }
     let (at, other) = (rng.place(forms.len()), rng.place(forms.len()));
     match rng.below(6) {
-        0 => drop(forms.remove(at)),
+        0 => {
+            forms.remove(at);
+        }
         1 => forms.insert(at, forms[other].clone()),
         2 => forms.swap(at, other),
         3 => {
@@ -97,7 +99,9 @@ pub fn token(rng: &mut Rng, tokens: &mut Vec<Token>) {
     }
     let (at, other) = (rng.place(tokens.len()), rng.place(tokens.len()));
     match rng.below(9) {
-        0 => drop(tokens.remove(at)),
+        0 => {
+            tokens.remove(at);
+        }
         1 => tokens.insert(at, tokens[at].clone()),
         2 => tokens.swap(at, other),
         3 => tokens[at] = tokens[other].clone(),
@@ -157,7 +161,9 @@ pub fn byte(rng: &mut Rng, bytes: &mut Vec<u8>) {
     }
     match rng.below(7) {
         0 => bytes[at] = any_byte(rng),
-        1 => drop(bytes.remove(at)),
+        1 => {
+            bytes.remove(at);
+        }
         2 => bytes.insert(at, bytes[at]),
         3 => bytes.insert(at, any_byte(rng)),
         4 => bytes.swap(at, at.saturating_sub(1)),

@@ -347,7 +347,7 @@ fn counts() -> Vec<Directed> {
     let case = |[classes, roles, features, axioms]: [u32; 4], refusal: Option<u32>| {
         let vocabulary = stating(classes, roles, features, axioms);
         Directed {
-            name: format!("{classes} classes, {roles} roles, {features} features, {axioms} axioms"),
+            name: format!("classes {classes}, roles {roles}, features {features}, axioms {axioms}"),
             text: Text::of(plain(&vocabulary, Layout::Lines)),
             answer: refusal.map_or_else(|| Ok(vocabulary_words(&vocabulary)), Err),
         }

@@ -2,6 +2,7 @@
 
 use super::Text;
 use std::collections::BTreeSet;
+use std::{iter, slice};
 
 /// Runs of up to so many pieces are dropped at every place: as many as a declaration has.
 const SHORT: usize = 10;
@@ -35,39 +36,46 @@ fn keep(best: &mut Text, candidate: Text, differs: &mut dyn FnMut(&Text) -> bool
     smaller
 }
 
-/// Each byte by itself.
-fn single(bytes: &[u8]) -> Vec<&[u8]> {
-    bytes.chunks(1).collect()
+/// Where pieces of one byte end, and 0.
+fn single(bytes: &[u8]) -> Vec<usize> {
+    (0..=bytes.len()).collect()
 }
 
 /// Runs of letters and digits, and the other bytes by themselves.
-fn tokens(bytes: &[u8]) -> Vec<&[u8]> {
-    bytes.chunk_by(|a, b| a.is_ascii_alphanumeric() && b.is_ascii_alphanumeric()).collect()
+fn pieces(bytes: &[u8]) -> impl Iterator<Item = &[u8]> {
+    bytes.chunk_by(|a, b| a.is_ascii_alphanumeric() && b.is_ascii_alphanumeric())
+}
+
+/// Where such pieces end, and 0.
+fn tokens(bytes: &[u8]) -> Vec<usize> {
+    let end = pieces(bytes).scan(0, |end, piece| {
+        *end += piece.len();
+        Some(*end)
+    });
+    iter::once(0).chain(end).collect()
 }
 
 /// Drops runs of pieces, long runs first; short runs at every place.
 fn drop_runs(
     best: &mut Text,
-    pieces: fn(&[u8]) -> Vec<&[u8]>,
+    ends_of: fn(&[u8]) -> Vec<usize>,
     differs: &mut dyn FnMut(&Text) -> bool,
 ) {
-    let mut run = pieces(&best.bytes).len();
-    while run > SHORT || (run > 0 && pieces(&best.bytes).len() <= FEW) {
+    let mut ends = ends_of(&best.bytes);
+    let mut run = ends.len() - 1;
+    while run > SHORT || (run > 0 && ends.len() <= FEW) {
         let mut at = 0;
-        while let Some(bytes) = without(&pieces(&best.bytes), at, run) {
-            let candidate = Text { bytes, ..best.clone() };
-            if !keep(best, candidate, differs) {
+        while at + run < ends.len() {
+            let mut candidate = best.clone();
+            candidate.bytes.drain(ends[at]..ends[at + run]);
+            if keep(best, candidate, differs) {
+                ends = ends_of(&best.bytes);
+            } else {
                 at += if run > SHORT { run } else { 1 };
             }
         }
         run = if run > SHORT { SHORT.max(run / 2) } else { run - 1 };
     }
-}
-
-/// The pieces together without `run` of them from `at` on, if there are so many.
-fn without(pieces: &[&[u8]], at: usize, run: usize) -> Option<Vec<u8>> {
-    let behind = pieces.get(at + run..)?;
-    Some([&pieces[..at], behind].concat().concat())
 }
 
 /// Gives each name one character, in all its places.
@@ -84,17 +92,17 @@ fn shorten_names(best: &mut Text, differs: &mut dyn FnMut(&Text) -> bool) {
 
 /// What stands behind a colon.
 fn names(bytes: &[u8]) -> BTreeSet<Vec<u8>> {
-    let pieces = tokens(bytes);
-    let behind = pieces.windows(2).filter(|pair| pair[0] == b":");
+    let all: Vec<&[u8]> = pieces(bytes).collect();
+    let behind = all.windows(2).filter(|pair| pair[0] == b":");
     behind.map(|pair| pair[1].to_vec()).collect()
 }
 
 fn renamed(bytes: &[u8], name: &[u8], short: u8) -> Vec<u8> {
     let mut behind_colon = false;
     let mut all = Vec::new();
-    for piece in tokens(bytes) {
+    for piece in pieces(bytes) {
         let own = behind_colon && piece == name;
-        all.extend_from_slice(if own { std::slice::from_ref(&short) } else { piece });
+        all.extend_from_slice(if own { slice::from_ref(&short) } else { piece });
         behind_colon = piece == b":";
     }
     all

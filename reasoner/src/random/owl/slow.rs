@@ -1,7 +1,7 @@
 //! OWL texts that are made to be slow, and an everyday one.
 
 use super::directed::padded;
-use super::source::{around, lay_out, Layout, Source};
+use super::source::{around, lay_out, Layout, Source, CHARACTERS};
 use super::{Text, MOST_BYTES};
 use crate::random::{everyday, Rng};
 use crate::text::Names;
@@ -35,8 +35,7 @@ fn everyday_text() -> Text {
 
 /// The name of a class, which has two characters of its own.
 fn name(alike: usize, number: usize) -> String {
-    const DIGITS: &[u8; 62] = b"0123456789ABCDEFGHIJKLMNOPQRSTUVWXYZabcdefghijklmnopqrstuvwxyz";
-    let own = [number / 62, number % 62].map(|digit| char::from(DIGITS[digit]));
+    let own = [number / 62, number % 62].map(|digit| char::from(CHARACTERS[digit]));
     format!(":{}{}{}", "a".repeat(alike), own[0], own[1])
 }
 

@@ -18,6 +18,9 @@ pub type Form = Vec<Token>;
 /// The keywords of the sorts: classes, roles and features.
 pub const SORTS: [&str; 3] = ["Class", "ObjectProperty", "DataProperty"];
 
+/// What a name is made of.
+pub const CHARACTERS: &[u8; 62] = b"0123456789ABCDEFGHIJKLMNOPQRSTUVWXYZabcdefghijklmnopqrstuvwxyz";
+
 /// What a text says.
 #[derive(Clone, Debug)]
 pub struct Source {
@@ -43,11 +46,12 @@ impl Source {
     #[must_use]
     pub fn forms(&self) -> [Vec<Form>; 4] {
         let Names { classes, roles, features } = &self.names;
-        let declared = |sort: usize, names: &[String]| -> Vec<Form> {
-            names.iter().map(|name| declaration(SORTS[sort], name)).collect()
+        let declared = |sort: &'static str, names: &[String]| -> Vec<Form> {
+            names.iter().map(|name| declaration(sort, name)).collect()
         };
+        let [class, role, feature] = SORTS;
         let axioms = self.vocabulary.axioms.iter().map(|&one| axiom(&self.names, one)).collect();
-        [declared(0, classes), declared(1, roles), declared(2, features), axioms]
+        [declared(class, classes), declared(role, roles), declared(feature, features), axioms]
     }
 
     /// The forms as an editor has them, the other way round, or mixed; those of a list keep their
@@ -111,11 +115,10 @@ fn names(rng: &mut Rng, vocabulary: &Vocabulary) -> Names {
 /// A name: of one character, of 32 that are like others but for the last two, a keyword, or a few
 /// characters, often like others but for the case.
 pub fn name(rng: &mut Rng) -> String {
-    const ANY: &[u8; 62] = b"0123456789ABCDEFGHIJKLMNOPQRSTUVWXYZabcdefghijklmnopqrstuvwxyz";
     let mut some = |from: &[u8], count: u32| -> String {
         (0..count).map(|_| char::from(*rng.pick(from))).collect()
     };
-    let one = some(ANY, 1);
+    let one = some(CHARACTERS, 1);
     let few = some(b"aAbB01", 4);
     match rng.below(8) {
         0 => format!(":{one}"),
@@ -172,7 +175,7 @@ impl Layout {
     /// Every layout.
     pub const ALL: [Layout; 4] = [Layout::Tight, Layout::Lines, Layout::Some, Layout::Everywhere];
 
-    /// What stands between two tokens; there is none before the first and none behind the last.
+    /// What stands between two tokens; before the first and behind the last one of them is empty.
     fn gap(self, rng: &mut Rng, left: &str, right: &str) -> String {
         let some = match self {
             Layout::Tight => false,
