@@ -123,20 +123,19 @@ fn any_token(rng: &mut Rng) -> Token {
 
 /// A token with a letter of the other case, cut in two, without its end, or too long for a name.
 fn respelled(rng: &mut Rng, token: &str) -> String {
-    let at = rng.place(token.len());
-    let (Some(front), Some(back)) = (token.get(..at), token.get(at..)) else {
-        return token.to_owned();
-    };
-    match rng.below(4) {
-        0 => {
-            let mut letters: Vec<char> = back.chars().collect();
-            letters[0] = flipped(letters[0]);
-            format!("{front}{}", letters.iter().collect::<String>())
-        }
-        1 => format!("{front} {back}"),
-        2 => front.to_owned(),
-        _ => format!("{token:0<34}"),
+    let mut letters: Vec<char> = token.chars().collect();
+    // A change before this one may have left none.
+    if letters.is_empty() {
+        return String::new();
     }
+    let at = rng.place(letters.len());
+    match rng.below(4) {
+        0 => letters[at] = flipped(letters[at]),
+        1 => letters.insert(at, ' '),
+        2 => letters.truncate(at),
+        _ => letters.resize(34, '0'),
+    }
+    letters.into_iter().collect()
 }
 
 fn flipped(letter: char) -> char {

@@ -2,20 +2,21 @@
 
 use super::Text;
 use std::collections::BTreeSet;
-use std::{iter, slice};
+use std::slice;
 
-/// Runs of up to so many pieces are dropped at every place: as many as a declaration has.
+/// Runs of up to so many pieces are dropped at every place: a declaration has as many tokens.
 const SHORT: usize = 10;
 /// A text of more pieces keeps its short runs.
 const FEW: usize = 3_000;
 
-/// Makes the text shorter as long as `differs` is true of it: drops runs of tokens, then bytes, and
-/// shortens names and the output. `differs` must be true of the text.
+/// Makes the text shorter as long as `differs` is true of it: drops runs of forms, tokens and bytes,
+/// and shortens names and the output. `differs` must be true of the text.
 pub fn shrink(text: &Text, differs: &mut dyn FnMut(&Text) -> bool) -> Text {
     const ROUNDS: usize = 20;
     let mut best = text.clone();
     for _ in 0..ROUNDS {
         let before = best.clone();
+        drop_runs(&mut best, forms, differs);
         drop_runs(&mut best, tokens, differs);
         shorten_names(&mut best, differs);
         drop_runs(&mut best, single, differs);
@@ -36,9 +37,17 @@ fn keep(best: &mut Text, candidate: Text, differs: &mut dyn FnMut(&Text) -> bool
     smaller
 }
 
-/// Where pieces of one byte end, and 0.
+/// What ends with a closing bracket: an axiom is one such piece, a declaration two.
+fn forms(bytes: &[u8]) -> Vec<usize> {
+    ends(bytes.split_inclusive(|&byte| byte == b')'))
+}
+
+fn tokens(bytes: &[u8]) -> Vec<usize> {
+    ends(pieces(bytes))
+}
+
 fn single(bytes: &[u8]) -> Vec<usize> {
-    (0..=bytes.len()).collect()
+    ends(bytes.chunks(1))
 }
 
 /// Runs of letters and digits, and the other bytes by themselves.
@@ -46,13 +55,15 @@ fn pieces(bytes: &[u8]) -> impl Iterator<Item = &[u8]> {
     bytes.chunk_by(|a, b| a.is_ascii_alphanumeric() && b.is_ascii_alphanumeric())
 }
 
-/// Where such pieces end, and 0.
-fn tokens(bytes: &[u8]) -> Vec<usize> {
-    let end = pieces(bytes).scan(0, |end, piece| {
-        *end += piece.len();
-        Some(*end)
-    });
-    iter::once(0).chain(end).collect()
+/// Where the pieces of a text end, and 0 in front.
+fn ends<'a>(pieces: impl Iterator<Item = &'a [u8]>) -> Vec<usize> {
+    let mut ends = vec![0];
+    let mut end = 0;
+    for piece in pieces {
+        end += piece.len();
+        ends.push(end);
+    }
+    ends
 }
 
 /// Drops runs of pieces, long runs first; short runs at every place.
