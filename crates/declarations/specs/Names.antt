@@ -1,7 +1,7 @@
 -- SPECIFICATION 3.4, the names: declarations, anywhere in the text, number the names of each sort in order.
 use Prim.Native.Nat.{ℕ}
 use mathlib.Core.Bool.{Bool, _&&_, cond, false, not, true}
-use mathlib.Core.List.{List, [], _∷_, map}
+use mathlib.Core.List.{List, [], map}
 use lib.Dec.{eqb, leb}
 use lib.ListN.{length}
 use Rattle.meaning.specs.Limits.{mostClasses, mostFeatures, mostRoles}

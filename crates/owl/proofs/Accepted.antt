@@ -1,5 +1,5 @@
 -- The names of an axiom that stands in a text, where they are declared, are names of a vocabulary.
-use Prim.Native.Nat.{_≤_, suc, zero, ℕ}
+use Prim.Native.Nat.{suc, zero, ℕ}
 use mathlib.Core.Bool.{Bool, and-eq-true-iff, cond, false, not, true}
 use mathlib.Core.List.{List, [], _++_, _∷_, map}
 use mathlib.Core.Path.{_∙_, _≡_, ap, refl, sym}
@@ -7,7 +7,7 @@ use lib.Dec.{eqb}
 use lib.ListN.{getD, length}
 use native.Mathlib.Omega.{arith}
 use borrow.Author.Tests.{eqb-false, not-true}
-use Rattle.declarations.specs.Names.{declared, isKnown, needed, numberIn}
+use Rattle.declarations.specs.Names.{declared, isKnown, numberIn}
 use Rattle.meaning.specs.Accepted.{NamedAxiom}
 use Rattle.meaning.specs.Lists.{All, all, cons, flatMap, nil}
 use Rattle.meaning.specs.Program.{bytes}

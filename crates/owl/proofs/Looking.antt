@@ -1,7 +1,7 @@
 -- A name looked up in the table is looked up among those that the text declares.
-use Prim.Native.Nat.{_+_, _<_, _≤_, ℕ}
-use mathlib.Core.Bool.{Bool, _&&_, and-true, false, not, true}
-use mathlib.Core.List.{List, [], _∷_, map}
+use Prim.Native.Nat.{_<_, _≤_, ℕ}
+use mathlib.Core.Bool.{Bool, and-true, false, not, true}
+use mathlib.Core.List.{List, map}
 use mathlib.Core.Path.{_∙_, _≡_, ap, refl, subst⁻¹, sym}
 use lib.Dec.{eqb}
 use lib.ListN.{getD, length}

@@ -8,7 +8,7 @@ use native.Mathlib.Omega.{arith}
 use borrow.Author.Tests.{not-false, not-true}
 use Rattle.declarations.proofs.Passing.{by-axiom, by-declaration, parses-end, parses-more, parses-on, parses-some}
 use Rattle.declarations.specs.Names.{isKnown}
-use Rattle.declarations.specs.Passes.{Parses, listOf, parsedAt, statementsAt}
+use Rattle.declarations.specs.Passes.{Parses, listOf, statementsAt}
 use Rattle.declarations.specs.declared.Counts.{Counts}
 use Rattle.frames.specs.Rows.{putAt}
 use Rattle.meaning.proofs.VocabularyWords.{axiom-length}

@@ -19,7 +19,7 @@ use Rattle.meaning.specs.Vocabulary.{vocabularyOf, vocabularyWords}
 use Rattle.name_table.proofs.Numbers.{number-at, number-injective}
 use Rattle.name_table.specs.Numbers.{repeats}
 use Rattle.owl.proofs.Accepted.{axioms-named}
-use Rattle.owl.specs.Owl.{owlRefusal, owlWords, parsedOf, parsedRefusal, parsedWords, readOwl, vocabularyIn}
+use Rattle.owl.specs.Owl.{owlRefusal, owlWords, parsedRefusal, parsedWords, readOwl, vocabularyIn}
 use Rattle.owl.specs.Passes.{statementsOf}
 use Rattle.statements.specs.Forms.{Parsed, Sort, Statement, class, feature, ontology, parsed, role, wrong}
 use Rattle.tokens.specs.Tokens.{Token, tokens}

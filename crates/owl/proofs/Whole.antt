@@ -21,7 +21,7 @@ use Rattle.meaning.specs.Vocabulary.{vocabularyWords}
 use Rattle.meaning.specs.declared.Filling.the-variants.{Refused, Written}
 use Rattle.name_table.specs.Numbers.{repeats}
 use Rattle.name_table.specs.Table.{namesFrom}
-use Rattle.owl.proofs.Looking.{class-size, feature-size, role-size, sizes-small, sorted-names}
+use Rattle.owl.proofs.Looking.{class-size, feature-size, role-size, sorted-names}
 use Rattle.owl.proofs.Passes.{all-begin, begins-parses}
 use Rattle.owl.specs.Owl.{OwlPost, axiomsBy, owlRefusal, owlWords, parsedOf, parsedRefusal, parsedWords, readOwl, vocabularyIn}
 use Rattle.owl.specs.Passes.{Begins, Ready, axioms, statementsOf}

@@ -28,7 +28,7 @@ ghost use lib.ListN.{length};
 ghost use Rattle.declarations.specs.Names.{counted, declared, isKnown, soundNames};
 ghost use Rattle.declarations.specs.Passes.{countsOf};
 ghost use Rattle.frames.specs.Rows.{putAt};
-ghost use Rattle.meaning.specs.Limits.{mostAxioms, mostText};
+ghost use Rattle.meaning.specs.Limits.{mostText};
 ghost use Rattle.meaning.specs.Lists.{all};
 ghost use Rattle.name_table.specs.Numbers.{numberOf};
 ghost use Rattle.owl.specs.Owl.{OwlPost, vocabularyIn};

@@ -1,17 +1,17 @@
 -- The statement in front: form after form is tried, and the first that stands there stays.
-use Prim.Native.Nat.{_<_, _≤_, ℕ}
-use mathlib.Core.Bool.{Bool, cond, false, not, true}
+use Prim.Native.Nat.{ℕ}
+use mathlib.Core.Bool.{cond, false, not, true}
 use mathlib.Core.List.{List, [], _++_, _∷_, append-nil}
-use mathlib.Core.Path.{_∙_, _≡_, ap, refl, sym}
+use mathlib.Core.Path.{_∙_, _≡_, ap, refl}
 use lib.ListN.{drop}
 use native.Mathlib.Omega.{arith}
-use borrow.Author.Tests.{eq-eqb, ne-eqb, not-false, not-true}
+use borrow.Author.Tests.{ne-eqb, not-false, not-true}
 use Rattle.meaning.specs.Program.{bytes}
 use Rattle.tokens.specs.Places.{headed, part}
 use Rattle.tokens.specs.Tokens.{tokens}
 use Rattle.statements.specs.declared.Form.{Form}
 use Rattle.statements.specs.declared.Item.{Item}
-use Rattle.statements.specs.Forms.{Piece, Sort, class, closing, declares, feature, firstForm, forms, frontOf, name, none, role, states}
+use Rattle.statements.specs.Forms.{Piece, Sort, class, closing, declares, feature, forms, frontOf, name, none, role, states}
 use Rattle.statements.specs.Forms.{taken, takePieces}
 use Rattle.statements.specs.Found.{IsStatement, One, Placed, Stated, TriedOne, TriedTwo, Two, Within, chosen, declaring, heading, itemOf}
 use Rattle.statements.specs.Found.{used}

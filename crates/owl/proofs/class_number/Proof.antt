@@ -1,4 +1,3 @@
-use borrow.Author.Needs.{needs}
 use native.Mathlib.Omega.{arith}
 use Rattle.owl.proofs.Looking.{class-size, sizes-small, sorted-listed, sorted-number, sorted-small}
 use Rattle.owl.proofs.class_number.Statement.{statement}

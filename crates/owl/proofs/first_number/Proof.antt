@@ -1,4 +1,3 @@
-use borrow.Author.Needs.{needs}
 use mathlib.Core.Path.{_∙_}
 use Rattle.owl.proofs.Looking.{first-class, first-feature, first-ranged, first-role}
 use Rattle.owl.proofs.first_number.Statement.{statement}

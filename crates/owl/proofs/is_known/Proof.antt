@@ -1,4 +1,3 @@
-use borrow.Author.Needs.{needs}
 use Rattle.owl.proofs.Looking.{known-both, known-declared, known-feature, known-missing, known-role}
 use Rattle.owl.proofs.is_known.Statement.{statement}
 use Rattle.owl.proofs.is_known.Tie as tie

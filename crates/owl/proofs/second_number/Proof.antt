@@ -1,4 +1,3 @@
-use borrow.Author.Needs.{needs}
 use mathlib.Core.Path.{_∙_}
 use Rattle.owl.proofs.Looking.{second-class, second-missing, second-none}
 use Rattle.owl.proofs.second_number.Statement.{statement}

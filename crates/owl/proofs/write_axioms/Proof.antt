@@ -1,6 +1,4 @@
-use borrow.Author.Needs.{needs}
 use Prim.Native.Nat.{_-_}
-use mathlib.Core.Path.{_∙_}
 use lib.ListN.{length}
 use native.Mathlib.Omega.{arith}
 use Rattle.declarations.proofs.Passing.{parses-some}
