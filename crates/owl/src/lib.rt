@@ -241,7 +241,7 @@ fn finish(text: &[u8], start: usize, table: &[u32], c: Counts, out: &mut [u32]) 
 }
 
 // Three words for each name that a vocabulary may have.
-const TABLE_SIZE: usize = 1152;
+const TABLE_SIZE: usize = 3 * (FEATURES + MOST_FEATURES as usize);
 
 // With a table of names of its own.
 fn fill(text: &[u8], start: usize, c: Counts, out: &mut [u32]) -> Filling
