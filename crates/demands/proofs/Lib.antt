@@ -6,3 +6,4 @@ pub mod Slices
 pub mod Verdicts
 pub mod Comparisons
 pub mod Checks
+pub mod Owl

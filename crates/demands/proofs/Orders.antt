@@ -50,10 +50,10 @@ refused-iff (answering z) = (λ e. absurd (let y : _≡_ {A = ℕ} 0 1 = cc in o
 -- ---- the definitions follow their orders
 
 module _ {A : Type 0} where
-  follows-here : (n : ℕ) {l : List ℕ} → Follows {A = A} (suc n ∷ l) (refused (suc n))
+  pub follows-here : (n : ℕ) {l : List ℕ} → Follows {A = A} (suc n ∷ l) (refused (suc n))
   follows-here n = refusing {n = suc n} (here (λ e. omega arith))
 
-  follows-on : {l : List ℕ} {a : Answer A} → Follows l a → Follows (0 ∷ l) a
+  pub follows-on : {l : List ℕ} {a : Answer A} → Follows l a → Follows (0 ∷ l) a
   follows-on (refusing f) = refusing (later f)
   follows-on (answering z) = answering (cons refl z)
 

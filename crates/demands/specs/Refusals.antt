@@ -1,4 +1,4 @@
--- The order of refusals, operation by operation (SPECIFICATION 9.2 to 9.8): a list of numbers, each 0 where its condition does not hold.
+-- The order of refusals, operation by operation (SPECIFICATION 9.2 to 9.8, and 9.10): a list of numbers, each 0 where its condition does not hold.
 use Prim.Native.Nat.{ℕ}
 use mathlib.Core.Bool.{Bool, _||_, cond}
 use mathlib.Core.List.{List, [], _∷_}
@@ -7,10 +7,15 @@ use lib.Dec.{leb}
 use lib.ListN.{length}
 use Rattle.meaning.specs.Containment.{Decision, contained, decide, escapes, tooMany}
 use Rattle.meaning.specs.Countermodel.{countermodel}
+use Rattle.meaning.specs.Limits.{mostAxioms}
 use Rattle.meaning.specs.Model.{modelRefusal}
 use Rattle.meaning.specs.Operations.{workRefusal}
 use Rattle.meaning.specs.Policy.{policyOf, policyRefusal, secondRefusal}
 use Rattle.meaning.specs.Vocabulary.{Vocabulary, vocabularyOf, vocabularyRefusal}
+use Rattle.declarations.specs.Names.{declaredWell}
+use Rattle.declarations.specs.Passes.{listOf}
+use Rattle.owl.specs.Owl.{owlWords, parsedOf, vocabularyIn}
+use Rattle.statements.specs.Forms.{Parsed, parsed, wrong}
 
 -- n is the first of the numbers that is not 0
 pub data FirstRefusal (n : ℕ) : List ℕ → Type 0 where
@@ -62,3 +67,15 @@ equalityOrder v p q w o =
 -- SPECIFICATION 9.8: the vocabulary, the policies, the model's 31, 32, 33, and 21 last
 abbrev pub modelCheckOrder : List ℕ → List ℕ → List ℕ → List ℕ → ℕ → List ℕ
 modelCheckOrder v p q m w = vocabularyRefusal v ∷ policyRefusal v p ∷ secondRefusal (policyRefusal v q) ∷ modelRefusal v m ∷ workRefusal w ∷ []
+
+-- 41: the text is too long or departs from the forms
+abbrev pub formsRefusal : Parsed → ℕ
+formsRefusal wrong = 41
+formsRefusal (parsed l) = 0
+
+-- SPECIFICATION 9.10: 41; 42, the names of its statements; 1, their axioms; 23, the words
+abbrev pub owlOrder : List ℕ → ℕ → List ℕ
+owlOrder text o =
+    let l = listOf (parsedOf text) in
+    formsRefusal (parsedOf text) ∷ cond (declaredWell l) 0 42 ∷ cond (leb (length (vocabularyIn l .axioms)) mostAxioms) 0 1 ∷
+    cond (leb (length (owlWords text)) o) 0 23 ∷ []
