@@ -8,7 +8,7 @@ use native.Mathlib.Nat.{add-zero, zero-add}
 use native.Mathlib.Omega.{arith}
 use Rattle.declarations.proofs.Passing.{by-statement, next-ends, next-goes-on, next-none}
 use Rattle.declarations.specs.Names.{declared}
-use Rattle.declarations.specs.Passes.{axiomCount, countsOf, noCounts, oneMore, parsedAt}
+use Rattle.declarations.specs.Passes.{axiomCount, countsOf, noCounts, noNames, oneMore, parsedAt}
 use Rattle.declarations.specs.declared.Counts.{Counts}
 use Rattle.statements.specs.Forms.{Parsed, Statement, after, class, feature, parsed, role, wrong}
 use Rattle.statements.specs.Found.{Next, itemAt, statementOf}
@@ -59,13 +59,12 @@ pub record Surveying (text : List ℕ) (start at : ℕ) (c : Counts) : Type 0 wh
   pub counts : added c (parsedAt text at) ≡ countsOf (parsedAt text start)
   pub small : total c ≤ at
 
-added-none : (p : Parsed) → added (record { ok = true; classes = 0; roles = 0; features = 0; axioms = 0 }) p ≡ countsOf p
+added-none : (p : Parsed) → added noNames p ≡ countsOf p
 added-none wrong = refl
 added-none (parsed l) = simp zero-add
 
-pub survey-starts : (text : List ℕ) (start : ℕ) → start ≤ length text →
-    Surveying text start start (record { ok = true; classes = 0; roles = 0; features = 0; axioms = 0 })
-survey-starts text start h = record { ends = h; ok = refl; counts = added-none (parsedAt text start); small = omega arith }
+pub survey-starts : (text : List ℕ) (start : ℕ) → start ≤ length text → {c : Counts} → c ≡ noNames → Surveying text start start c
+survey-starts text start h e = rw e (record { ends = h; ok = refl; counts = added-none (parsedAt text start); small = omega arith })
 
 module _ {text : List ℕ} {start at : ℕ} {c : Counts} (w : Surveying text start at c) {r : Item} (n : Next text at r) where
   pub survey-fails : r .kind ≡ 0 → {d : Counts} → d ≡ noCounts → d ≡ countsOf (parsedAt text start)

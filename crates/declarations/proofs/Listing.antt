@@ -1,6 +1,5 @@
 -- The second pass: declared names go into the table as they are read. Those in the table and those left are all.
 use Prim.Native.Nat.{_*_, _+_, _<_, _≤_, suc, zero, ℕ}
-use mathlib.Core.Bool.{true}
 use mathlib.Core.List.{List, [], _++_, _∷_, append-nil}
 use mathlib.Core.Path.{_∙_, _≡_, ap, refl, sym}
 use lib.ListN.{length, length-append}
@@ -9,7 +8,7 @@ use native.Mathlib.Numerals.{add-one}
 use native.Mathlib.Omega.{arith}
 use Rattle.declarations.proofs.Passing.{by-statement, parses-end, parses-more, parses-on, parses-some}
 use Rattle.declarations.specs.Names.{declared}
-use Rattle.declarations.specs.Passes.{Fits, Parses, Sorted, Tabled, baseOf, listedOne, oneMore, statementsAt, tableSize}
+use Rattle.declarations.specs.Passes.{Fits, Parses, Sorted, Tabled, baseOf, listedOne, noNames, oneMore, statementsAt, tableSize}
 use Rattle.declarations.specs.declared.Counts.{Counts}
 use Rattle.meaning.specs.Limits.{mostClasses, mostFeatures, mostRoles, mostText}
 use Rattle.name_table.proofs.Laws.{listed-kept, listed-more, names-kept, names-more}
@@ -147,10 +146,10 @@ module _ {text entry : List ℕ} {start : ℕ} (f : Fits text entry start) where
   room : Room (statementsAt text start)
   room = record { classes = f .classes; roles = f .roles; features = f .features }
 
-  pub list-starts : Listing text entry start start (record { ok = true; classes = 0; roles = 0; features = 0; axioms = 0 })
-  list-starts =
+  pub list-starts : {c : Counts} → c ≡ noNames → Listing text entry start start c
+  list-starts e =
       let size = f .size in
-      record {
+      rw e (record {
         parses = f .parses;
         parts = record {
           classes = record { listed = record { room = omega arith; each = λ i a b. absurd (omega arith) }; names = refl };
@@ -158,7 +157,7 @@ module _ {text entry : List ℕ} {start : ℕ} (f : Fits text entry start) where
           features = record { listed = record { room = omega arith; each = λ i a b. absurd (omega arith) }; names = refl };
         };
         few = omega arith;
-      }
+      })
 
   module _ {table : List ℕ} {at : ℕ} {c : Counts} (w : Listing text table start at c) where
     -- the counts are small

@@ -39,6 +39,9 @@ axiomCount (states k us ∷ l) = suc (axiomCount l)
 abbrev pub noCounts : Counts
 noCounts = record { ok = false; classes = 0; roles = 0; features = 0; axioms = 0 }
 
+abbrev pub noNames : Counts
+noNames = record { ok = true; classes = 0; roles = 0; features = 0; axioms = 0 }
+
 -- how many names each sort has, and how many axioms there are
 abbrev pub countsOf : Parsed → Counts
 countsOf wrong = noCounts

@@ -7,7 +7,7 @@ use statements::next_item;
 ghost use mathlib.Core.Path.{_≡_};
 ghost use Prim.Native.Nat.{_<_, _≤_};
 ghost use lib.ListN.{length};
-ghost use Rattle.declarations.specs.Passes.{Fits, Tabled, countsOf, listedOne, noCounts, oneMore, parsedAt, statementsAt, tableSize};
+ghost use Rattle.declarations.specs.Passes.{Fits, Tabled, countsOf, listedOne, noCounts, noNames, oneMore, parsedAt, statementsAt, tableSize};
 ghost use Rattle.meaning.specs.Limits.{mostClasses, mostFeatures, mostRoles, mostText};
 ghost use Rattle.statements.specs.Found.{Within};
 
@@ -20,11 +20,25 @@ pub struct Counts {
     pub axioms: usize,
 }
 
+// Of a text that departs from the forms.
 fn no_counts() -> Counts
     ensures { λ r. ⌜ r ≡ noCounts ⌝ }
 {
     Counts {
         ok: false,
+        classes: 0,
+        roles: 0,
+        features: 0,
+        axioms: 0,
+    }
+}
+
+// Before the first statement.
+fn no_names() -> Counts
+    ensures { λ r. ⌜ r ≡ noNames ⌝ }
+{
+    Counts {
+        ok: true,
         classes: 0,
         roles: 0,
         features: 0,
@@ -74,13 +88,7 @@ pub fn survey(text: &[u8], start: usize) -> Counts
     ensures { λ r. ⌜ r ≡ countsOf (parsedAt (now (text .entry)) start) ⌝ }
 {
     let mut at = start;
-    let mut c = Counts {
-        ok: true,
-        classes: 0,
-        roles: 0,
-        features: 0,
-        axioms: 0,
-    };
+    let mut c = no_names();
     loop {
         let s = next_item(text, at);
         let kind = s.kind;
@@ -123,13 +131,7 @@ pub fn list_names(text: &[u8], start: usize, table: &mut [u32])
     ensures { λ _. ⌜ Tabled (now (text .entry)) (now (table .exit)) (statementsAt (now (text .entry)) start) ⌝ }
 {
     let mut at = start;
-    let mut c = Counts {
-        ok: true,
-        classes: 0,
-        roles: 0,
-        features: 0,
-        axioms: 0,
-    };
+    let mut c = no_names();
     loop {
         let s = next_item(text, at);
         let kind = s.kind;

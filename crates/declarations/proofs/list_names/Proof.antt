@@ -1,3 +1,4 @@
+use borrow.Author.Needs.{needs}
 use Prim.Native.Nat.{_-_}
 use mathlib.Core.Path.{_∙_, _≡_, refl}
 use lib.ListN.{length}
@@ -19,21 +20,22 @@ list-names-spec =
     (tie.spec
     Inv-loop
     μ-loop
-    (λ c. (list-starts (c .before .before .pre), refl))
+    (λ c κs. search needs)
+    (λ c. (list-starts (c .before .before .before .pre) (c .no-names .ensures), refl))
     (λ c κs. c .loop .inv .0 .parses .ends)
     (λ c. c .before .before .loop .inv .1)
-    (λ c. list-ends (c .before .before .before .before .before .pre) (c .before .before .loop .inv .0) (c .before .next-item .ensures) (c .if1 .taken))
+    (λ c. list-ends (c .before .before .before .before .before .before .pre) (c .before .before .loop .inv .0) (c .before .next-item .ensures) (c .if1 .taken))
     (λ c κs.
-    let p = c .before .before .before .before .before .before .pre in
+    let p = c .before .before .before .before .before .before .before .pre in
     let l = c .before .before .before .loop .inv in
     let n = c .before .before .next-item .ensures in
     ((l .1 ∙ p .size, p .short, n .placed .first), list-room p (l .0) n (c .before .if1 .left)))
-    (λ c κs. list-small (c .before .before .before .before .before .before .before .before .before .pre) (c .before .before .before .before .before .before .loop .inv .0))
+    (λ c κs. list-small (c .before .before .before .before .before .before .before .before .before .before .pre) (c .before .before .before .before .before .before .loop .inv .0))
     (λ c.
     let n = c .before .before .before .before .before .before .next-item .ensures in
     omega (arith, n .placed .solid (parses-some n (c .before .before .before .before .before .before .before .loop .inv .0 .parses)), n .placed .ends))
     (λ c.
-    let p = c .before .before .before .before .before .before .before .before .before .before .pre in
+    let p = c .before .before .before .before .before .before .before .before .before .before .before .pre in
     let l = c .before .before .before .before .before .before .before .loop .inv in
     let n = c .before .before .before .before .before .before .next-item .ensures in
     (list-on p (l .0) n (c .before .before .before .before .before .if1 .left) (l .1 ∙ p .size) (c .before .before .before .list-one .ensures) (c .count-one .ensures), c .before .before .before .list-one .kept .1 .0 ∙ l .1)))

@@ -18,12 +18,13 @@ survey-spec =
     (tie.spec
     Inv-loop
     μ-loop
+    (λ c κs. search needs)
     (λ c. search survey-starts)
     (λ c κs. c .loop .inv .ends)
     (λ c κs. search needs)
     (λ c. search survey-fails)
     (λ c. search survey-ends)
-    (λ c κs. let w = c .before .before .before .loop .inv in omega (arith, w .small, w .ends, c .before .before .before .before .before .pre .1))
+    (λ c κs. let w = c .before .before .before .loop .inv in omega (arith, w .small, w .ends, c .before .before .before .before .before .before .pre .1))
     (λ c.
     let n = c .before .before .before .next-item .ensures in
     omega (arith, n .placed .solid (c .before .before .if1 .left), n .placed .ends))
