@@ -59,7 +59,7 @@ struct Found {
 
 /// Why a consent is in no set.
 enum Missing {
-    Unread(Source, Complaint),
+    Unread(Source, Box<Complaint>),
     Refused(Member, Refusal),
 }
 
@@ -102,7 +102,7 @@ impl Sets<'_> {
             let (source, policy) = item.read(self.vocabulary);
             let Policy { name, words } = match policy {
                 Ok(policy) => policy,
-                Err(complaint) => return Err(Missing::Unread(source, complaint)),
+                Err(complaint) => return Err(Missing::Unread(source, Box::new(complaint))),
             };
             let all = 0..self.sets.len();
             let place = gimbuka::read_policy(self.vocabulary.words(), &words)

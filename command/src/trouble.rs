@@ -13,31 +13,38 @@ pub struct Complaint {
     pub file: String,
     /// The line and the column, from 1, where there are any.
     pub place: Option<(usize, usize)>,
+    /// The number of the library's refusal, where it is one.
+    pub refusal: Option<u32>,
     pub message: String,
 }
 
 impl Complaint {
     pub fn new(file: &Path, message: impl Into<String>) -> Self {
-        Self { file: file.to_string_lossy().into_owned(), place: None, message: message.into() }
+        let file = file.to_string_lossy().into_owned();
+        Self { file, place: None, refusal: None, message: message.into() }
     }
 
     pub fn mistake(file: &Path, mistake: Mistake) -> Self {
-        let Mistake { line, column, message } = mistake;
-        Self { place: Some((line, column)), ..Self::new(file, message) }
+        let Mistake { line, column, refusal, message } = mistake;
+        Self { place: Some((line, column)), refusal, ..Self::new(file, message) }
     }
 
     pub fn refused(file: &Path, refusal: Refusal) -> Self {
-        Self::new(file, format!("refused {}: {refusal}", refusal.number()))
+        Self { refusal: Some(refusal.number()), ..Self::new(file, refusal.to_string()) }
     }
 }
 
 impl fmt::Display for Complaint {
     fn fmt(&self, f: &mut fmt::Formatter<'_>) -> fmt::Result {
-        let Self { file, message, .. } = self;
-        match self.place {
-            None => write!(f, "{file}: {message}"),
-            Some((line, column)) => write!(f, "{file}:{line}:{column}: {message}"),
+        let Self { file, place, refusal, message } = self;
+        f.write_str(file)?;
+        if let Some((line, column)) = place {
+            write!(f, ":{line}:{column}")?;
         }
+        if let Some(number) = refusal {
+            write!(f, ": refused {number}")?;
+        }
+        write!(f, ": {message}")
     }
 }
 

@@ -72,7 +72,7 @@ pub fn aloud(vocabulary: &Vocabulary, answer: &[u8]) -> Result<String, Mistake> 
     let head_end = answer.iter().position(|&byte| byte == b'\n').unwrap_or(answer.len());
     let head = String::from_utf8_lossy(&answer[..head_end]);
     let words: Vec<&str> = head.split(' ').collect();
-    let mistake = |message: String| Mistake { line: 1, column: 1, message };
+    let mistake = |message: String| Mistake { line: 1, column: 1, refusal: None, message };
     let number = |word: &str| -> Result<u32, Mistake> {
         word.parse().map_err(|_| mistake(format!("\"{word}\" is no number")))
     };
@@ -125,8 +125,7 @@ pub fn aloud(vocabulary: &Vocabulary, answer: &[u8]) -> Result<String, Mistake> 
             [] => Ok(lines.into_text()),
             _ => Err(Mistake {
                 line: 2,
-                column: 1,
-                message: "nothing stands behind such an answer".to_owned(),
+                ..mistake("nothing stands behind such an answer".to_owned())
             }),
         };
     };

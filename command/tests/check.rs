@@ -201,7 +201,7 @@ fn a_byte_over_127_is_told_with_line_and_column() {
     desk.run(&["check", "v.txt", "buyer.txt", "a.txt"]).is(
         2,
         "",
-        &format!("gimbuka: v.txt:4:20: {message}\n"),
+        &format!("gimbuka: v.txt:4:20: refused 41: {message}\n"),
     );
     desk.put("wide.txt", [0xff, 0xfe, b'P', 0]);
     desk.check(&["wide.txt"]).is(

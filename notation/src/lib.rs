@@ -15,10 +15,27 @@
 //! Policy(owl:Thing)
 //! ```
 //!
-//! Declarations number the names in their order, and stand before a name is used. `#` begins a
-//! comment. A policy may have a name, `Annotation(rdfs:label "..")` at its front. Its records are
-//! laid out in the order of the walk, unless `Annotation(:recordOrder "1 3 2")` there gives each
-//! record of the walk another number. Words are ASCII; comments and strings may hold other bytes.
+//! Declarations number the names in their order. `#` begins a comment. A policy may have a name,
+//! `Annotation(rdfs:label "..")` at its front. Its records are laid out in the order of the walk,
+//! unless `Annotation(:recordOrder "1 3 2")` there gives each record of the walk another number. Words
+//! are ASCII; comments and strings may hold other bytes.
+//!
+//! # Vocabularies
+//!
+//! The words of a vocabulary are those that the proved operation `read_owl` writes. What that reads is
+//! narrow (SPECIFICATION 3.4), so that a vocabulary's text is first taken to it:
+//!
+//! - `Ontology( )` may stand around the declarations and axioms, with an IRI, a version's IRI and
+//!   annotations; `Prefix( )` before it. Declarations and axioms may have annotations. There may be
+//!   axioms of annotations, and declarations of annotation properties, datatypes and individuals.
+//!   All this states nothing, and is left out: [`Vocabulary::left_out`] says what there was.
+//! - What else there is may state something. It is a mistake, and never left out.
+//! - A name may be spelled `:A`, `prefix:A` or `<whole IRI>`, and is the same where the whole IRI is. A
+//!   prefix that is not declared stands for itself. A name that the operation has no spelling for is
+//!   handed to it in another, and told as it is declared.
+//! - A mistake has the number with which the operation refuses such a text: 41, 42 or 1.
+//!
+//! [`Vocabulary::exact`] hands a text to the operation as it is, and says where and why it is refused.
 //!
 //! ```
 //! use notation::{policy, policy_at, print_policy, Mistake, Policies, Vocabulary};
@@ -48,26 +65,32 @@
 //! # }
 //! ```
 //!
-//! Nothing here is proved. What is read is handed to the proved library, which accepts or refuses it.
+//! Nothing here is proved. What is read is handed to the proved library, which reads it, or accepts or
+//! refuses its words.
 
 #![forbid(unsafe_code)]
 
+mod forms;
+mod left_out;
 mod mistake;
 mod model;
 mod names;
+mod owl;
 mod picture;
 mod policy;
 mod print;
+mod resolve;
 mod scan;
 mod stream;
 mod vocabulary;
 
+pub use left_out::LeftOut;
 pub use mistake::{Mistake, Trouble};
 pub use model::{facts, model};
 pub use names::Names;
 pub use picture::picture;
 pub use policy::Policy;
-pub use print::{print_policy, print_vocabulary};
+pub use print::{print_owl, print_policy, print_vocabulary};
 pub use stream::{Piece, Policies, LONGEST};
 pub use vocabulary::Vocabulary;
 
@@ -99,9 +122,13 @@ pub fn policy_at(
     told(read, scanner, text, Place { line, column })
 }
 
-fn one_policy(vocabulary: &Vocabulary, scanner: &mut Scanner<'_>) -> Scanned<Policy> {
+fn next_policy(vocabulary: &Vocabulary, scanner: &mut Scanner<'_>) -> Scanned<Policy> {
     scanner.this_word("Policy")?;
-    let read = policy::read(vocabulary, scanner)?;
+    policy::read(vocabulary, scanner)
+}
+
+fn one_policy(vocabulary: &Vocabulary, scanner: &mut Scanner<'_>) -> Scanned<Policy> {
+    let read = next_policy(vocabulary, scanner)?;
     match scanner.peek() {
         None => Ok(read),
         Some(_) => Err(scanner.unexpected("nothing behind the policy")),
@@ -117,30 +144,21 @@ pub struct Document {
     pub policies: Vec<Policy>,
 }
 
-/// Reads declarations, axioms and any number of policies. A policy uses names that are declared
-/// above it.
+/// Reads a vocabulary and any number of policies beside it.
 ///
 /// # Errors
 ///
-/// The first mistake of the text.
+/// The first mistake of the vocabulary, or else of the policies.
 pub fn document(text: &[u8]) -> Result<Document, Mistake> {
-    let mut scanner = Scanner::new(text);
-    let read = whole_document(&mut scanner);
-    told(read, scanner, text, Place::START)
-}
-
-fn whole_document(scanner: &mut Scanner<'_>) -> Scanned<Document> {
-    let mut read = Document { vocabulary: Vocabulary::new(), policies: Vec::new() };
-    while scanner.peek().is_some() {
-        let (keyword, at) = scanner.word("Declaration, an axiom or Policy")?;
-        if keyword == b"Policy" {
-            read.policies.push(policy::read(&read.vocabulary, scanner)?);
-        } else {
-            read.vocabulary.item(scanner, keyword, at)?;
-        }
-    }
-    read.vocabulary.finish(scanner)?;
-    Ok(read)
+    let (vocabulary, places) = Vocabulary::read(text, true)?;
+    let policies = places.into_iter().map(|at| {
+        let mut scanner = Scanner::new(text);
+        scanner.go_to(at);
+        let read = next_policy(&vocabulary, &mut scanner);
+        told(read, scanner, text, Place::START)
+    });
+    let policies = policies.collect::<Result<_, _>>()?;
+    Ok(Document { vocabulary, policies })
 }
 
 /// What was read of a text that begins at this place, or the mistake with its line and column.

@@ -9,13 +9,21 @@ pub struct Mistake {
     pub line: usize,
     /// The column, from 1, in characters.
     pub column: usize,
+    /// Of a vocabulary's text, the number with which the proved operation refuses such a text: 41, 42
+    /// or 1. A mistake of another text has none.
+    pub refusal: Option<u32>,
     /// What is wrong.
     pub message: String,
 }
 
 impl fmt::Display for Mistake {
     fn fmt(&self, f: &mut fmt::Formatter<'_>) -> fmt::Result {
-        write!(f, "line {}, column {}: {}", self.line, self.column, self.message)
+        let Self { line, column, refusal, message } = self;
+        write!(f, "line {line}, column {column}: ")?;
+        match refusal {
+            None => f.write_str(message),
+            Some(number) => write!(f, "refused {number}: {message}"),
+        }
     }
 }
 
@@ -64,6 +72,11 @@ impl Place {
     }
 
     pub fn mistake(self, message: impl Into<String>) -> Mistake {
-        Mistake { line: self.line, column: self.column, message: message.into() }
+        let Self { line, column } = self;
+        Mistake { line, column, refusal: None, message: message.into() }
+    }
+
+    pub fn refused(self, number: u32, message: impl Into<String>) -> Mistake {
+        Mistake { refusal: Some(number), ..self.mistake(message) }
     }
 }

@@ -14,55 +14,58 @@ pub struct Names {
 }
 
 impl Names {
+    /// The names of each sort.
+    pub(crate) fn each(mut names: impl FnMut(Sort) -> Vec<String>) -> Self {
+        let [classes, roles, features] = Sort::ALL.map(&mut names);
+        Self { classes, roles, features }
+    }
+
+    pub(crate) fn of(&self, sort: Sort) -> &[String] {
+        match sort {
+            Sort::Class => &self.classes,
+            Sort::Role => &self.roles,
+            Sort::Feature => &self.features,
+        }
+    }
+
     /// Names made of numbers: :C1, :r1, :f1.
-    pub(crate) fn numbered([classes, roles, features]: [u32; 3]) -> Self {
-        let series = |letter: char, count: u32| {
-            (1..=count).map(|number| format!(":{letter}{number}")).collect()
-        };
-        Self {
-            classes: series('C', classes),
-            roles: series('r', roles),
-            features: series('f', features),
-        }
+    pub(crate) fn numbered(counts: [usize; 3]) -> Self {
+        Self::each(|sort| {
+            let letter = ['C', 'r', 'f'][sort as usize];
+            (1..=counts[sort as usize]).map(|number| format!(":{letter}{number}")).collect()
+        })
     }
 }
 
-/// What is said of a series, and how many names it may have.
-pub(crate) struct Series {
-    pub what: &'static str,
-    pub keyword: &'static str,
-    pub most: usize,
+/// What a name is of. Each sort is numbered apart.
+#[derive(Clone, Copy, Debug, PartialEq, Eq)]
+pub(crate) enum Sort {
+    Class,
+    Role,
+    Feature,
 }
 
-pub(crate) const CLASSES: Series = Series { what: "class", keyword: "Class", most: 256 };
-pub(crate) const ROLES: Series = Series { what: "role", keyword: "ObjectProperty", most: 64 };
-pub(crate) const FEATURES: Series = Series { what: "feature", keyword: "DataProperty", most: 64 };
+impl Sort {
+    pub const ALL: [Self; 3] = [Self::Class, Self::Role, Self::Feature];
 
-impl Series {
-    /// Puts a name behind the others; the error says why it cannot stand there.
-    pub fn declare(
-        &self,
-        names: &mut Vec<String>,
-        index: &mut Index,
-        name: &str,
-    ) -> Result<(), String> {
-        let Self { what, most, .. } = *self;
-        if index.number(names, name.as_bytes()).is_some() {
-            return Err(format!("the {what} {} is declared twice", say(name.as_bytes())));
-        }
-        if names.len() == most {
-            let name = say(name.as_bytes());
-            return Err(format!("{name} is one {what} too many; there are at most {most}"));
-        }
-        names.push(name.to_owned());
-        index.insert(names);
-        Ok(())
+    /// What people call one of it.
+    pub fn what(self) -> &'static str {
+        ["class", "role", "feature"][self as usize]
     }
 
-    /// What to say of a name that is not there.
-    pub fn unknown(&self, name: &[u8]) -> String {
-        let Self { what, keyword, .. } = self;
-        let name = say(name);
+    /// The word with which OWL declares it.
+    pub fn keyword(self) -> &'static str {
+        ["Class", "ObjectProperty", "DataProperty"][self as usize]
+    }
+
+    /// How many there may be.
+    pub fn most(self) -> usize {
+        [256, 64, 64][self as usize]
+    }
+
+    /// What to say of a policy's name that the vocabulary has not.
+    pub fn unknown(self, name: &[u8]) -> String {
+        let (what, keyword, name) = (self.what(), self.keyword(), say(name));
         format!(
             "{name} is no {what} declared above; write Declaration({keyword}({name})) before it"
         )
@@ -93,15 +96,6 @@ impl Index {
             at = (at + 1) & mask;
         }
         self.slots[at] = number;
-    }
-
-    /// Takes up the last name.
-    fn insert(&mut self, names: &[String]) {
-        if 2 * names.len() > self.slots.len() {
-            *self = Self::of(names);
-        } else if let Some(name) = names.last() {
-            self.put(name.as_bytes(), names.len() as u32);
-        }
     }
 
     /// The number of a name, from 1.

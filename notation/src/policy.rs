@@ -1,8 +1,9 @@
 //! A policy's text straight to its words. The walk visits records in the order in which a text has
 //! them, so that each is written where it is read.
 
-use crate::scan::{fault, say, Scanned, Scanner};
-use crate::vocabulary::{close, open, Vocabulary};
+use crate::names::Sort;
+use crate::scan::{fault, say, Fault, Scanned, Scanner};
+use crate::vocabulary::Vocabulary;
 
 const MOST_RECORDS: usize = 512;
 const DEEPEST: u32 = 16;
@@ -38,9 +39,25 @@ pub struct Policy {
 
 /// Reads what stands behind the keyword `Policy`.
 pub(crate) fn read(vocabulary: &Vocabulary, scanner: &mut Scanner<'_>) -> Scanned<Policy> {
-    let mut reader = Reader { vocabulary, scanner, words: Vec::with_capacity(96 * WIDTH), open: 0 };
-    reader.words.extend([0; WIDTH]);
-    reader.policy()
+    Reader::new(vocabulary, scanner).policy()
+}
+
+/// Passes what stands behind the keyword `Policy`, whatever its names are.
+pub(crate) fn pass(scanner: &mut Scanner<'_>) -> Scanned<()> {
+    Reader::new(&AnyName, scanner).policy().map(drop)
+}
+
+/// What knows the numbers of names.
+pub(crate) trait Numbers {
+    fn number(&self, sort: Sort, name: &[u8]) -> Option<u32>;
+}
+
+struct AnyName;
+
+impl Numbers for AnyName {
+    fn number(&self, _: Sort, _: &[u8]) -> Option<u32> {
+        Some(1)
+    }
 }
 
 /// What stands at a policy's front.
@@ -51,17 +68,23 @@ struct Annotations<'a> {
     order: Option<(Vec<u32>, usize)>,
 }
 
-struct Reader<'r, 'a> {
-    vocabulary: &'r Vocabulary,
+struct Reader<'r, 'a, N> {
+    numbers: &'r N,
     scanner: &'r mut Scanner<'a>,
     words: Vec<u32>,
     /// Parentheses open now.
     open: u32,
 }
 
-impl<'a> Reader<'_, 'a> {
+impl<'r, 'a, N: Numbers> Reader<'r, 'a, N> {
+    fn new(numbers: &'r N, scanner: &'r mut Scanner<'a>) -> Self {
+        let mut words = Vec::with_capacity(96 * WIDTH);
+        words.extend([0; WIDTH]);
+        Self { numbers, scanner, words, open: 0 }
+    }
+
     fn open(&mut self, keyword: &[u8]) -> Scanned<()> {
-        open(self.scanner, keyword)?;
+        self.scanner.open(keyword)?;
         self.open += 1;
         if self.open > MOST_OPEN {
             return Err(fault(self.scanner.place(), "parentheses are nested too deep"));
@@ -71,7 +94,7 @@ impl<'a> Reader<'_, 'a> {
 
     fn close(&mut self, keyword: &[u8]) -> Scanned<()> {
         self.open -= 1;
-        close(self.scanner, keyword)
+        self.scanner.close(keyword)
     }
 
     /// Annotations, and terms or unions of them.
@@ -221,7 +244,8 @@ impl<'a> Reader<'_, 'a> {
         let fields = match head {
             Head::Some => {
                 self.open(SOME)?;
-                let role = self.vocabulary.role(self.scanner)?;
+                let (name, at) = self.scanner.word("the name of a role")?;
+                let role = self.number(Sort::Role, name, at)?;
                 let (head, at) = self.head()?;
                 self.concept(head, at, depth + 1, start + 4)?;
                 self.close(SOME)?;
@@ -240,16 +264,27 @@ impl<'a> Reader<'_, 'a> {
         Ok(start + 5)
     }
 
-    fn class(&self, name: &[u8], at: usize) -> Scanned<u32> {
-        self.vocabulary.class_number(name, at).map_err(|unknown| match name {
-            b"Policy" => fault(at, "another policy begins here, and the one before is not closed"),
-            _ => unknown,
+    fn number(&self, sort: Sort, name: &[u8], at: usize) -> Scanned<u32> {
+        let number = self.numbers.number(sort, name);
+        number.ok_or_else(|| fault(at, sort.unknown(name)))
+    }
+
+    /// The number of a class. No parenthesis stands behind one, but behind the next policy's keyword.
+    fn class(&mut self, name: &[u8], at: usize) -> Scanned<u32> {
+        let is_keyword = name == b"Policy";
+        if is_keyword && self.scanner.peek() == Some(b'(') {
+            return Err(next_policy(at));
+        }
+        self.number(Sort::Class, name, at).map_err(|unknown| match is_keyword {
+            true => next_policy(at),
+            false => unknown,
         })
     }
 
     /// `f DatatypeRestriction(xsd:integer xsd:minInclusive lo xsd:maxInclusive hi)`
     fn span(&mut self) -> Scanned<[u32; 3]> {
-        let feature = self.vocabulary.feature(self.scanner)?;
+        let (name, at) = self.scanner.word("the name of a feature")?;
+        let feature = self.number(Sort::Feature, name, at)?;
         self.scanner.this_word("DatatypeRestriction")?;
         self.open(b"DatatypeRestriction")?;
         self.scanner.this_word("xsd:integer")?;
@@ -275,6 +310,10 @@ impl<'a> Reader<'_, 'a> {
             fault(at, format!("expected a whole number from 0 to {most}, found \"{digits}\""))
         })
     }
+}
+
+fn next_policy(at: usize) -> Box<Fault> {
+    fault(at, "another policy begins here, and the one before is not closed")
 }
 
 /// A word in base ten, of digits alone.

@@ -1,47 +1,105 @@
 //! Words to text.
 
-use crate::names::Names;
+use crate::forms::AXIOMS;
+use crate::names::{Names, Sort};
+use crate::scan::LONGEST_NAME;
 use crate::vocabulary::Vocabulary;
+use gimbuka::MOST_OWL_BYTES;
+use std::collections::HashSet;
 use std::fmt::Write as _;
 
 /// The declarations and axioms of a vocabulary, a line each. They read back as the same words where
 /// its records are chained 1, 2, 3 and so on.
 #[must_use]
 pub fn print_vocabulary(vocabulary: &Vocabulary) -> String {
-    let Names { classes, roles, features } = vocabulary.names();
-    let series = [("Class", classes), ("ObjectProperty", roles), ("DataProperty", features)];
-    let mut text = String::new();
-    for (keyword, names) in series {
-        for name in names {
-            let _ = writeln!(text, "Declaration({keyword}({name}))");
-        }
+    lines(vocabulary.names(), &axioms(vocabulary.words()))
+}
+
+/// A vocabulary as the proved operation reads it, `Ontology( )` with a line for each declaration and
+/// axiom. A name that the operation has no spelling for is spelled otherwise. The words that it reads
+/// are the same where the vocabulary's records are chained 1, 2, 3 and so on.
+#[must_use]
+pub fn print_owl(vocabulary: &Vocabulary) -> String {
+    owl(vocabulary.names(), &axioms(vocabulary.words()))
+}
+
+/// What the proved operation reads, of names and axioms.
+pub(crate) fn owl(names: &Names, axioms: &[[u32; 3]]) -> String {
+    let spelled = Names::each(|sort| spelled(names.of(sort)));
+    let text = format!("Ontology(\n{})\n", lines(&spelled, axioms));
+    if text.len() <= MOST_OWL_BYTES {
+        return text;
     }
-    let words = vocabulary.words();
+    // Names of a few letters always fit.
+    let short = Names::numbered(Sort::ALL.map(|sort| names.of(sort).len()));
+    format!("Ontology(\n{})\n", lines(&short, axioms))
+}
+
+/// The records of a vocabulary's chain, as kind, a and b.
+pub(crate) fn axioms(words: &[u32]) -> Vec<[u32; 3]> {
+    let mut axioms = Vec::new();
     let (mut own, mut link) = (0, words.get(3).copied().unwrap_or(0));
     while link > own {
         let start = 4 * link as usize;
         let Some(&[kind, a, b, next]) = words.get(start..start + 4) else { break };
-        let Some(axiom) = axiom(vocabulary.names(), kind, a, b) else { break };
-        let _ = writeln!(text, "{axiom}");
+        axioms.push([kind, a, b]);
         (own, link) = (link, next);
     }
+    axioms
+}
+
+/// Declarations, and axioms up to one that cannot be told.
+fn lines(names: &Names, axioms: &[[u32; 3]]) -> String {
+    let mut text = String::new();
+    for sort in Sort::ALL {
+        for name in names.of(sort) {
+            let _ = writeln!(text, "Declaration({}({name}))", sort.keyword());
+        }
+    }
+    for line in axioms.iter().map_while(|&axiom| line(names, axiom)) {
+        let _ = writeln!(text, "{line}");
+    }
     text
+}
+
+fn line(names: &Names, [kind, a, b]: [u32; 3]) -> Option<String> {
+    let form = AXIOMS.get((kind as usize).checked_sub(1)?)?;
+    let of_form = form.sorts.iter().zip([a, b]).map(|(&sort, number)| name(names.of(sort), number));
+    let of_form = of_form.collect::<Option<Vec<_>>>()?;
+    Some(format!("{}({})", form.keyword, of_form.join(" ")))
 }
 
 fn name(names: &[String], number: u32) -> Option<&str> {
     names.get((number as usize).checked_sub(1)?).map(String::as_str)
 }
 
-fn axiom(names: &Names, kind: u32, a: u32, b: u32) -> Option<String> {
-    let Names { classes, roles, features } = names;
-    Some(match kind {
-        1 => format!("SubClassOf({} {})", name(classes, a)?, name(classes, b)?),
-        2 => format!("DisjointClasses({} {})", name(classes, a)?, name(classes, b)?),
-        3 => format!("FunctionalObjectProperty({})", name(roles, a)?),
-        4 => format!("FunctionalDataProperty({})", name(features, a)?),
-        5 => format!("ObjectPropertyRange({} {})", name(roles, a)?, name(classes, b)?),
-        _ => return None,
-    })
+/// Does the proved operation read this name?
+fn is_exact(name: &str) -> bool {
+    let signs = name.strip_prefix(':').unwrap_or_default();
+    (1..=LONGEST_NAME).contains(&signs.len())
+        && signs.bytes().all(|sign| sign.is_ascii_alphanumeric())
+}
+
+/// The names of a sort as the proved operation reads them, no two alike. One that it does not read is
+/// spelled by the letters and digits of its last part, and by a number where another is spelled so.
+fn spelled(names: &[String]) -> Vec<String> {
+    let mut taken: HashSet<String> = names.iter().filter(|name| is_exact(name)).cloned().collect();
+    let mut spell = |name: &String| {
+        if is_exact(name) {
+            return name.clone();
+        }
+        let last = name.trim_end_matches('>').rsplit(['#', '/', ':']).next().unwrap_or_default();
+        let mut signs: String = last.chars().filter(char::is_ascii_alphanumeric).collect();
+        // With room for a number behind them.
+        signs.truncate(LONGEST_NAME - 3);
+        let alone = (!signs.is_empty()).then(|| format!(":{signs}"));
+        let numbered = (2..).map(|number| format!(":{signs}{number}"));
+        let mut free = alone.into_iter().chain(numbered).filter(|name| !taken.contains(name));
+        let free = free.next().unwrap_or_default();
+        taken.insert(free.clone());
+        free
+    };
+    names.iter().map(&mut spell).collect()
 }
 
 /// The text of a policy, which reads back as the same words; records that no link reaches are left

@@ -140,7 +140,7 @@ impl<R: BufRead> Policies<R> {
 
     /// The mistake that another thing stands behind so many bytes of the rest.
     fn mistake(&self, bytes: usize, what: &str) -> Mistake {
-        let mut scanner = Scanner::new(self.rest());
+        let mut scanner: Scanner<'_> = Scanner::new(self.rest());
         scanner.go_to(bytes);
         let fault = scanner.unexpected(what);
         self.place.behind(&self.rest()[..fault.at]).mistake(fault.message)

@@ -1,61 +1,82 @@
-//! A vocabulary: its words, and its names with a quick look-up.
+//! A vocabulary: its words, which are the proved operation's, and its names with a quick look-up.
 
+use crate::left_out::LeftOut;
 use crate::mistake::{Mistake, Place};
-use crate::names::{Index, Names, Series, CLASSES, FEATURES, ROLES};
-use crate::scan::{fault, say, Scanned, Scanner};
+use crate::names::{Index, Names, Sort};
+use crate::owl::{self, Found};
+use crate::policy::Numbers;
+use crate::print;
+use crate::resolve::{resolve, Iris, Resolved};
+use crate::scan::{Of, Scanned};
+use gimbuka::{read_owl, MOST_VOCABULARY_WORDS};
 
-const MOST_AXIOMS: usize = 1_024;
-
-/// A vocabulary with names.
+/// A vocabulary with names. The words of one that is read from a text are those that the proved
+/// operation `read_owl` writes.
 #[derive(Clone, Debug)]
 pub struct Vocabulary {
     words: Vec<u32>,
     names: Names,
-    classes: Index,
-    roles: Index,
-    features: Index,
+    indexes: [Index; 3],
+    /// For a name that is spelled otherwise than where it is declared.
+    iris: Iris,
+    left_out: LeftOut,
 }
 
 impl Vocabulary {
-    /// Reads declarations and axioms.
+    /// Reads a vocabulary as people write it or as an OWL editor saves it. What states nothing is left
+    /// out. A text that the proved operation reads is handed to it as it is.
     ///
     /// # Errors
     ///
-    /// The first mistake of the text. A policy in it is one.
+    /// The first mistake of the text, of 41 before 42 before 1. A policy in it is one.
     pub fn parse(text: &[u8]) -> Result<Self, Mistake> {
-        let mut scanner = Scanner::new(text);
-        let mut read = Self::new();
-        let found = read.parse_all(&mut scanner);
-        crate::told(found, scanner, text, Place::START)?;
-        Ok(read)
+        Self::read(text, false).map(|(vocabulary, _)| vocabulary)
     }
 
-    fn parse_all(&mut self, scanner: &mut Scanner<'_>) -> Scanned<()> {
-        while scanner.peek().is_some() {
-            let (keyword, at) = scanner.word("Declaration or an axiom")?;
-            if keyword == b"Policy" {
-                return Err(fault(at, "a policy stands in a text of its own, not in a vocabulary"));
-            }
-            self.item(scanner, keyword, at)?;
+    /// Hands these bytes to the proved operation.
+    ///
+    /// # Errors
+    ///
+    /// The operation's refusal, with the place and the reason of it.
+    pub fn exact(text: &[u8]) -> Result<Self, Mistake> {
+        let words = proved(text);
+        let read = placed(text, owl::read_exact(text)).and_then(|found| resolve(text, &found));
+        match (words, read) {
+            (Ok(words), Ok(read)) => Ok(Self::of(words, read, LeftOut::default())),
+            // The operation has the last word.
+            (Err(refused), Err(mistake)) if refused.refusal != mistake.refusal => Err(refused),
+            (_, Err(mistake)) | (Err(mistake), _) => Err(mistake),
         }
-        self.finish(scanner)
+    }
+
+    /// Reads a vocabulary, and where the policies begin that stand beside it, if there may be some.
+    pub(crate) fn read(text: &[u8], takes_policies: bool) -> Result<(Self, Vec<usize>), Mistake> {
+        if let Ok(exact) = Self::exact(text) {
+            return Ok((exact, Vec::new()));
+        }
+        let found = placed(text, owl::read(text, takes_policies))?;
+        let read = resolve(text, &found)?;
+        let words = proved(print::owl(&read.names, &read.axioms).as_bytes())?;
+        Ok((Self::of(words, read, found.left_out), found.policies))
+    }
+
+    fn of(words: Vec<u32>, read: Resolved, left_out: LeftOut) -> Self {
+        let Resolved { names, iris, .. } = read;
+        let indexes = Sort::ALL.map(|sort| Index::of(names.of(sort)));
+        Self { words, names, indexes, iris, left_out }
     }
 
     /// A vocabulary of words, whose names are :C1, :r1 and :f1. The words may be any: let the proved
     /// library accept them first.
     #[must_use]
     pub fn of_words(words: Vec<u32>) -> Self {
-        let count = |word: usize, series: &Series| {
-            words.get(word).map_or(0, |&n| n.min(series.most as u32))
+        let count = |sort: Sort| {
+            let count = words.get(sort as usize).map_or(0, |&count| count as usize);
+            count.min(sort.most())
         };
-        let names = Names::numbered([count(0, &CLASSES), count(1, &ROLES), count(2, &FEATURES)]);
-        Self {
-            classes: Index::of(&names.classes),
-            roles: Index::of(&names.roles),
-            features: Index::of(&names.features),
-            names,
-            words,
-        }
+        let names = Names::numbered(Sort::ALL.map(count));
+        let read = Resolved { names, axioms: Vec::new(), iris: Iris::default() };
+        Self::of(words, read, LeftOut::default())
     }
 
     /// The words of the table.
@@ -70,133 +91,43 @@ impl Vocabulary {
         &self.names
     }
 
-    /// One without a name, to which a text's items are added.
-    pub(crate) fn new() -> Self {
-        Self::of_words(vec![0; 4])
+    /// How many axioms the words state.
+    #[must_use]
+    pub fn axioms(&self) -> usize {
+        print::axioms(&self.words).len()
     }
 
-    /// Reads what stands behind the keyword of a declaration or an axiom.
-    pub(crate) fn item(
-        &mut self,
-        scanner: &mut Scanner<'_>,
-        keyword: &[u8],
-        at: usize,
-    ) -> Scanned<()> {
-        let kind = match keyword {
-            b"Declaration" => return self.declaration(scanner),
-            b"SubClassOf" => 1,
-            b"DisjointClasses" => 2,
-            b"FunctionalObjectProperty" => 3,
-            b"FunctionalDataProperty" => 4,
-            b"ObjectPropertyRange" => 5,
-            _ => {
-                return Err(fault(
-                    at,
-                    format!(
-                        "\"{}\" is not known here; there are Declaration, SubClassOf, \
-                         DisjointClasses, FunctionalObjectProperty, FunctionalDataProperty and \
-                         ObjectPropertyRange, and Policy where a text has policies",
-                        say(keyword)
-                    ),
-                ))
-            }
-        };
-        open(scanner, keyword)?;
-        let (a, b) = match kind {
-            1 | 2 => (self.class(scanner)?, self.class(scanner)?),
-            3 => (self.role(scanner)?, 0),
-            4 => (self.feature(scanner)?, 0),
-            _ => (self.role(scanner)?, self.class(scanner)?),
-        };
-        close(scanner, keyword)?;
-        let records = self.words.len() / 4;
-        if records > MOST_AXIOMS {
-            return Err(fault(at, format!("a vocabulary has at most {MOST_AXIOMS} axioms")));
-        }
-        // The link that leads here: the header's, or the record's before.
-        let link = 4 * records - 1;
-        self.words[link] = records as u32;
-        self.words.extend([kind, a, b, 0]);
-        Ok(())
-    }
-
-    fn declaration(&mut self, scanner: &mut Scanner<'_>) -> Scanned<()> {
-        open(scanner, b"Declaration")?;
-        let (keyword, at) = scanner.word("Class, ObjectProperty or DataProperty")?;
-        open(scanner, keyword)?;
-        let (name, name_at) = scanner.word("a name")?;
-        close(scanner, keyword)?;
-        let Self { names, classes, roles, features, .. } = self;
-        let name = say_whole(name);
-        let declared = match keyword {
-            b"Class" if matches!(name, "owl:Thing" | "owl:Nothing") => {
-                Err(format!("{name} is always there and is not declared"))
-            }
-            b"Class" => CLASSES.declare(&mut names.classes, classes, name),
-            b"ObjectProperty" => ROLES.declare(&mut names.roles, roles, name),
-            b"DataProperty" => FEATURES.declare(&mut names.features, features, name),
-            _ => {
-                return Err(fault(
-                    at,
-                    format!(
-                        "\"{}\" cannot be declared; Class, ObjectProperty and DataProperty can",
-                        say(keyword)
-                    ),
-                ))
-            }
-        };
-        declared.map_err(|message| fault(name_at, message))?;
-        close(scanner, b"Declaration")
-    }
-
-    /// The end of the text: the header's counts.
-    pub(crate) fn finish(&mut self, scanner: &mut Scanner<'_>) -> Scanned<()> {
-        let Names { classes, roles, features } = &self.names;
-        if classes.is_empty() {
-            return Err(fault(
-                scanner.place(),
-                "a vocabulary has at least one class; none is declared",
-            ));
-        }
-        for (word, names) in [classes, roles, features].into_iter().enumerate() {
-            self.words[word] = names.len() as u32;
-        }
-        Ok(())
-    }
-
-    /// The number of a class, by its name.
-    pub(crate) fn class_number(&self, name: &[u8], at: usize) -> Scanned<u32> {
-        let number = self.classes.number(&self.names.classes, name);
-        number.ok_or_else(|| fault(at, CLASSES.unknown(name)))
-    }
-
-    pub(crate) fn class(&self, scanner: &mut Scanner<'_>) -> Scanned<u32> {
-        let (name, at) = scanner.word("the name of a class")?;
-        self.class_number(name, at)
-    }
-
-    pub(crate) fn role(&self, scanner: &mut Scanner<'_>) -> Scanned<u32> {
-        let (name, at) = scanner.word("the name of a role")?;
-        let number = self.roles.number(&self.names.roles, name);
-        number.ok_or_else(|| fault(at, ROLES.unknown(name)))
-    }
-
-    pub(crate) fn feature(&self, scanner: &mut Scanner<'_>) -> Scanned<u32> {
-        let (name, at) = scanner.word("the name of a feature")?;
-        let number = self.features.number(&self.names.features, name);
-        number.ok_or_else(|| fault(at, FEATURES.unknown(name)))
+    /// What the text has beside what the words state.
+    #[must_use]
+    pub fn left_out(&self) -> LeftOut {
+        self.left_out
     }
 }
 
-/// A word is ASCII, so that it is a text.
-fn say_whole(word: &[u8]) -> &str {
-    std::str::from_utf8(word).unwrap_or_default()
+impl Numbers for Vocabulary {
+    /// By its spelling, or else by its whole IRI.
+    fn number(&self, sort: Sort, name: &[u8]) -> Option<u32> {
+        let number = self.indexes[sort as usize].number(self.names.of(sort), name);
+        number.or_else(|| self.iris.number(sort, name))
+    }
 }
 
-pub(crate) fn open(scanner: &mut Scanner<'_>, keyword: &[u8]) -> Scanned<()> {
-    scanner.expect(b'(', || format!("after {}", say(keyword)))
+/// The words that the proved operation writes for a text.
+fn proved(text: &[u8]) -> Result<Vec<u32>, Mistake> {
+    let mut words = vec![0; MOST_VOCABULARY_WORDS];
+    let count = read_owl(text, &mut words)
+        .map_err(|refusal| Place::START.refused(refusal.number(), refusal.to_string()))?;
+    words.truncate(count);
+    Ok(words)
 }
 
-pub(crate) fn close(scanner: &mut Scanner<'_>, keyword: &[u8]) -> Scanned<()> {
-    scanner.expect(b')', || format!("at the end of {}", say(keyword)))
+/// What was found in a text, or where it departs from what is read.
+fn placed<'a>(text: &[u8], found: Scanned<Found<'a>>) -> Result<Found<'a>, Mistake> {
+    found.map_err(|fault| {
+        let place = Place::START.behind(&text[..fault.at]);
+        match fault.of {
+            Of::Policy => place.mistake(fault.message),
+            Of::Words | Of::Bytes => place.refused(41, fault.message),
+        }
+    })
 }

@@ -24,24 +24,36 @@ fn in_vocabulary(text: &[u8]) -> String {
 #[test]
 fn documents() {
     let cases = [
-        ("Policy()", "line 1, column 9: a vocabulary has at least one class; none is declared"),
+        ("Policy()", "line 1, column 9: refused 42: a vocabulary has at least one class; none is declared"),
         ("Declaration(Class(:A))\nPolicy(:B)", "line 2, column 8: :B is no class declared above; write Declaration(Class(:B)) before it"),
-        ("SubClassOf(:A", "line 1, column 12: :A is no class declared above; write Declaration(Class(:A)) before it"),
-        ("Declaration(Class(:A))\n  Declaration(Class(:A))", "line 2, column 21: the class :A is declared twice"),
-        ("Declaration(Class(owl:Thing))", "line 1, column 19: owl:Thing is always there and is not declared"),
-        ("Declaration(Individual(:A))", "line 1, column 13: \"Individual\" cannot be declared; Class, ObjectProperty and DataProperty can"),
+        ("Declaration(Class(:A))\n  Declaration(Class(:A))", "line 2, column 21: refused 42: the class :A is declared twice, first at 1:19"),
+        ("Declaration(Class(owl:Thing))", "line 1, column 19: refused 41: owl:Thing has a meaning of its own, and is no name of a vocabulary"),
+        ("Declaration(Individual(:A))", "line 1, column 13: refused 41: \"Individual\" cannot be declared; Class, ObjectProperty and DataProperty can"),
         ("Declaration(Class(:A)) Policy(:A", "line 1, column 33: expected a class or a restriction, found the end of the text"),
-        ("Declaration(Class(:A)) Policy(:A))", "line 1, column 34: expected Declaration, an axiom or Policy, found \")\""),
-        ("Declaration Class", "line 1, column 13: expected \"(\" after Declaration, found \"Class\""),
+        ("Declaration(Class(:A)) Policy(:A))", "line 1, column 34: refused 41: expected Declaration, an axiom or Policy, found \")\""),
+        ("Declaration Class", "line 1, column 13: refused 41: expected \"(\" after Declaration, found \"Class\""),
         ("Policy(\"x", "line 1, column 8: no closing \" on this line"),
         ("Policy(<x\n>)", "line 1, column 8: no closing > on this line"),
-        // A string that is not closed is told before everything else.
-        ("Foo(:A)\n  \"x\n", "line 2, column 3: no closing \" on this line"),
+        // First what the text is made of, in its order: a policy is no better than an axiom there.
+        ("SubClassOf(:A :B) Policy(:A)\nSubClassOf(:A", "line 2, column 14: refused 41: expected the name of a class, found the end of the text"),
+        ("SubClassOf(:A :B) Policy(:A\nSubClassOf(:A", "line 2, column 11: expected a class or a restriction, found \"(\""),
+        // Then the names of the vocabulary, and then those of policies.
+        ("Policy(:B) SubClassOf(:A :A)", "line 1, column 23: refused 42: the class :A is not declared"),
     ];
     for (text, expected) in cases {
         assert_eq!(in_document(text.as_bytes()), expected, "{text}");
     }
-    assert!(in_document(b"Foo(:A)").starts_with("line 1, column 1: \"Foo\" is not known here"));
+    assert!(
+        in_document(b"Foo(:A)").starts_with("line 1, column 1: refused 41: \"Foo\" is none of the")
+    );
+}
+
+#[test]
+fn a_name_may_be_used_before_it_is_declared() {
+    let text = b"Policy(:B) SubClassOf(:B :A) Declaration(Class(:A)) Declaration(Class(:B))";
+    let read = document(text).expect("a document");
+    assert_eq!(read.vocabulary.words(), [2, 0, 0, 1, 1, 2, 1, 0]);
+    assert_eq!(read.policies, [policy(&desk(), b"Policy(:B)").expect("a policy")]);
 }
 
 #[test]
@@ -84,11 +96,11 @@ fn a_policy_in_its_file() {
 fn vocabularies() {
     assert_eq!(
         in_vocabulary(b"Declaration(Class(:A))\nPolicy(:A)"),
-        "line 2, column 1: a policy stands in a text of its own, not in a vocabulary"
+        "line 2, column 1: refused 41: a policy stands in a text of its own, not in a vocabulary"
     );
     assert_eq!(
         in_vocabulary(b"# nothing\n"),
-        "line 2, column 1: a vocabulary has at least one class; none is declared"
+        "line 2, column 1: refused 42: a vocabulary has at least one class; none is declared"
     );
 }
 
@@ -133,14 +145,14 @@ fn names_and_records_are_limited() {
         let column = "Declaration(".len() + keyword.len() + 2;
         assert_eq!(
             in_vocabulary(text(most_here + 1).as_bytes()),
-            format!("line {line}, column {column}: :N{name} is one {what} too many; there are at most {most}")
+            format!("line {line}, column {column}: refused 42: :N{name} is one {what} too many; there are at most {most}")
         );
     }
     let axioms = |count: usize| [DESK, "\nSubClassOf(:A :B)".repeat(count).as_bytes()].concat();
     assert!(Vocabulary::parse(&axioms(1_024)).is_ok());
     assert_eq!(
         in_vocabulary(&axioms(1_025)),
-        "line 1027, column 1: a vocabulary has at most 1024 axioms"
+        "line 1027, column 1: refused 1: a vocabulary has at most 1024 axioms"
     );
     let wide = |count: usize| format!("Policy(ObjectIntersectionOf({}))", ":A ".repeat(count));
     assert_eq!(policy(&desk(), wide(511).as_bytes()).expect("a policy").words.len(), 513 * 6);
