@@ -23,8 +23,9 @@ pub struct Arguments {
 
 const FILES: &str = "\
 Files:
-  A text is in OWL 2 functional style: declarations and axioms in a vocabulary's file, Policy(..) in a
-  policy's. A policy may have a name: Policy(Annotation(rdfs:label \"alice\") ..).
+  A text is in OWL 2 functional style: declarations and axioms in a vocabulary's file, which may be as
+  an OWL editor saves it, Policy(..) in a policy's. A policy may have a name:
+  Policy(Annotation(rdfs:label \"alice\") ..).
   A file with a byte 0 in its first 64 KB is words: a table of 32-bit words, the least byte first.
   A consent is a file, a file with many policies, a folder of files, or a file that ends in .parts:
   for each policy a count and so many words. A dash is standard input.
@@ -60,6 +61,9 @@ pub enum Verb {
     /// Which consents mean the same?
     #[command(long_about = GROUP)]
     Group(Group),
+    /// What does a vocabulary hold, and where is a mistake in it?
+    #[command(long_about = VOCABULARY)]
+    Vocabulary(Vocabulary),
     /// Draws a countermodel as an SVG
     #[command(long_about = PICTURE)]
     Picture(Picture),
@@ -281,6 +285,47 @@ pub struct Group {
     pub consents: Vec<PathBuf>,
 }
 
+const VOCABULARY: &str = "\
+What does a vocabulary hold? The proved library reads its text, and there is one line: how many
+classes, roles, features and axioms it has.
+
+An OWL editor saves more than that. Prefixes, IRIs, annotations and the like state nothing: they are
+left out, and standard error says what was. Names that the library has no spelling for are handed to it
+in another, and are told as they are written. Whatever else there is may state something, and is never
+left out: it is refused, with its line and column.
+  refused 41: ..  the text has another form than the library reads
+  refused 42: ..  a name is declared twice or not at all, or there are too few or too many
+  refused 1: ..   there are over 1,024 axioms
+Of several the first in this order is told. All verbs read a vocabulary so.";
+
+const VOCABULARY_MORE: &str = "\
+Keys with --json: file, verdict (read, refused or unread); for read, classes, roles, features, axioms,
+left_out, which has a count for each kind, and with --fragment also fragment; for refused, line,
+column, refusal and message; for unread, message.
+
+Exit status: 0 it is read, 2 trouble.
+
+Examples:
+  gimbuka vocabulary examples/editor.ofn
+  gimbuka vocabulary --fragment examples/editor.ofn > fragment.ofn
+  gimbuka vocabulary --exact fragment.ofn";
+
+#[derive(Debug, Args)]
+#[command(after_help = VOCABULARY_MORE)]
+pub struct Vocabulary {
+    /// Hand the file's bytes to the library as they are, and leave nothing out
+    #[arg(long)]
+    pub exact: bool,
+    /// Print the text that the library reads instead, which is OWL again
+    #[arg(long)]
+    pub fragment: bool,
+    /// Print a JSON object, for programs
+    #[arg(long)]
+    pub json: bool,
+    /// The vocabulary
+    pub file: PathBuf,
+}
+
 const PICTURE: &str = "\
 Draws why a buyer's policy does not lie inside a consent: the countermodel as an SVG, on standard
 output, for a browser. Individuals are boxes with their classes and values, roles are arrows, and
@@ -400,6 +445,7 @@ pub fn files(verb: &Verb) -> Vec<&PathBuf> {
         }
         Verb::Possible(it) => [&it.vocabulary].into_iter().chain(&it.policies).collect(),
         Verb::Verify(it) => vec![&it.vocabulary, &it.buyer, &it.consent, &it.model],
+        Verb::Vocabulary(it) => vec![&it.file],
         Verb::Group(it) => [&it.vocabulary].into_iter().chain(&it.consents).collect(),
         Verb::Picture(it) => [&it.vocabulary]
             .into_iter()

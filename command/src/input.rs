@@ -1,7 +1,11 @@
 //! Files: what a byte stream holds, and the one table that a file has.
 
+use crate::output::say;
 use crate::trouble::{Complaint, Failure};
-use gimbuka::{model_check, read_policy, read_vocabulary, MOST_MODEL_WORDS, WORK_SIZE};
+use gimbuka::{
+    model_check, read_policy, read_vocabulary, MOST_MODEL_WORDS, MOST_OWL_BYTES,
+    MOST_VOCABULARY_WORDS, WORK_SIZE,
+};
 use notation::{Document, Vocabulary};
 use std::fs::File;
 use std::io::{self, Cursor, Read};
@@ -14,8 +18,7 @@ pub const NOBODY: [u32; 6] = [0; 6];
 const LOOKED_AT: usize = 1 << 16;
 /// The longest text that is read as a whole.
 const LONGEST_TEXT: usize = 1 << 26;
-/// The most words of a vocabulary and of a policy (SPECIFICATION 12).
-const MOST_VOCABULARY_WORDS: usize = 4_100;
+/// The most words of a policy (SPECIFICATION 12).
 pub const MOST_POLICY_WORDS: usize = 3_078;
 
 /// The beginning of a file, looked at, and the rest.
@@ -27,16 +30,27 @@ pub enum Held {
     Words(Opened),
 }
 
-/// Opens a file, or standard input for a dash, and looks at its beginning.
+/// A file, or standard input for a dash.
+fn source(path: &Path) -> Result<Box<dyn Read + Send>, Complaint> {
+    if path == Path::new("-") {
+        return Ok(Box::new(io::stdin()));
+    }
+    let file = File::open(path).map_err(|error| Complaint::new(path, error.to_string()))?;
+    Ok(Box::new(file))
+}
+
+/// So many bytes of a file, or as many as there are.
+fn some(path: &Path, file: impl Read, most: usize) -> Result<Vec<u8>, Complaint> {
+    let mut bytes = Vec::new();
+    let read = file.take(most as u64).read_to_end(&mut bytes);
+    read.map_err(|error| Complaint::new(path, error.to_string()))?;
+    Ok(bytes)
+}
+
+/// Opens a file, and looks at its beginning.
 pub fn open(path: &Path) -> Result<Held, Complaint> {
-    let told = |error: io::Error| Complaint::new(path, error.to_string());
-    let mut file: Box<dyn Read + Send> = if path == Path::new("-") {
-        Box::new(io::stdin())
-    } else {
-        Box::new(File::open(path).map_err(told)?)
-    };
-    let mut start = Vec::new();
-    file.by_ref().take(LOOKED_AT as u64).read_to_end(&mut start).map_err(told)?;
+    let mut file = source(path)?;
+    let start = some(path, &mut file, LOOKED_AT)?;
     if start.starts_with(b"\xff\xfe") || start.starts_with(b"\xfe\xff") {
         return Err(Complaint::new(path, "this is UTF-16; save the text as ASCII or UTF-8"));
     }
@@ -47,9 +61,7 @@ pub fn open(path: &Path) -> Result<Held, Complaint> {
 
 /// A whole text.
 fn text(path: &Path, opened: Opened) -> Result<Vec<u8>, Complaint> {
-    let mut bytes = Vec::new();
-    let most = LONGEST_TEXT as u64 + 1;
-    opened.take(most).read_to_end(&mut bytes).map_err(|e| Complaint::new(path, e.to_string()))?;
+    let bytes = some(path, opened, LONGEST_TEXT + 1)?;
     if bytes.len() > LONGEST_TEXT {
         return Err(Complaint::new(path, "the text is over 64 MB"));
     }
@@ -58,9 +70,7 @@ fn text(path: &Path, opened: Opened) -> Result<Vec<u8>, Complaint> {
 
 /// The words of one table. Of a table that is longer than any may be, so many are read that the library refuses it.
 pub fn words(path: &Path, opened: Opened, most: usize) -> Result<Vec<u32>, Complaint> {
-    let mut bytes = Vec::new();
-    let enough = 4 * (most as u64 + 1);
-    opened.take(enough).read_to_end(&mut bytes).map_err(|e| Complaint::new(path, e.to_string()))?;
+    let bytes = some(path, opened, 4 * (most + 1))?;
     if bytes.len() % 4 != 0 {
         let message = format!("damaged words: {} bytes are no multiple of 4", bytes.len());
         return Err(Complaint::new(path, message));
@@ -74,22 +84,44 @@ pub fn of_bytes(bytes: &[u8]) -> Vec<u32> {
     bytes.chunks_exact(4).map(word).collect()
 }
 
-/// A vocabulary, which the library accepts.
-pub fn vocabulary(path: &Path) -> Result<Vocabulary, Complaint> {
-    let vocabulary = match open(path)? {
-        Held::Words(opened) => {
-            let words = words(path, opened, MOST_VOCABULARY_WORDS)?;
-            read_vocabulary(&words).map_err(|refusal| Complaint::refused(path, refusal))?;
-            return Ok(Vocabulary::of_words(words));
-        }
-        Held::Text(opened) => Vocabulary::parse(&text(path, opened)?),
-    };
-    accepted(path, vocabulary.map_err(|mistake| Complaint::mistake(path, mistake))?)
+/// A vocabulary of words, which the library accepts.
+fn vocabulary_of_words(path: &Path, opened: Opened) -> Result<Vocabulary, Complaint> {
+    let words = words(path, opened, MOST_VOCABULARY_WORDS)?;
+    read_vocabulary(&words).map_err(|refusal| Complaint::refused(path, refusal))?;
+    Ok(Vocabulary::of_words(words))
 }
 
-fn accepted(path: &Path, vocabulary: Vocabulary) -> Result<Vocabulary, Complaint> {
-    read_vocabulary(vocabulary.words()).map_err(|refusal| Complaint::refused(path, refusal))?;
-    Ok(vocabulary)
+/// Says what was left out of a vocabulary's text.
+fn tell_left_out(path: &Path, vocabulary: &Vocabulary) {
+    let left_out = vocabulary.left_out();
+    if !left_out.is_empty() {
+        say(&format!("{}: left out: {left_out}", path.to_string_lossy()));
+    }
+}
+
+/// A vocabulary, from a file of its own.
+pub fn vocabulary(path: &Path) -> Result<Vocabulary, Complaint> {
+    let opened = match open(path)? {
+        Held::Words(opened) => return vocabulary_of_words(path, opened),
+        Held::Text(opened) => opened,
+    };
+    let read = Vocabulary::parse(&text(path, opened)?);
+    let read = read.map_err(|mistake| Complaint::mistake(path, mistake))?;
+    tell_left_out(path, &read);
+    Ok(read)
+}
+
+/// A vocabulary whose bytes are handed to the library as they are.
+pub fn exact_vocabulary(path: &Path) -> Result<Vocabulary, Complaint> {
+    let read = Vocabulary::exact(&bytes(path, MOST_OWL_BYTES)?);
+    read.map_err(|mistake| Complaint::mistake(path, mistake))
+}
+
+fn document_of_text(path: &Path, opened: Opened) -> Result<Document, Complaint> {
+    let read = notation::document(&text(path, opened)?);
+    let read = read.map_err(|mistake| Complaint::mistake(path, mistake))?;
+    tell_left_out(path, &read.vocabulary);
+    Ok(read)
 }
 
 /// A text with a vocabulary and policies.
@@ -99,27 +131,15 @@ pub fn document(path: &Path) -> Result<Document, Complaint> {
             path,
             "these are words; a text with a vocabulary and policies is wanted",
         )),
-        Held::Text(opened) => {
-            let read = notation::document(&text(path, opened)?);
-            let Document { vocabulary, policies } =
-                read.map_err(|mistake| Complaint::mistake(path, mistake))?;
-            Ok(Document { vocabulary: accepted(path, vocabulary)?, policies })
-        }
+        Held::Text(opened) => document_of_text(path, opened),
     }
 }
 
 /// A vocabulary, from a file of its own or from a text that has policies too.
 pub fn any_vocabulary(path: &Path) -> Result<Vocabulary, Complaint> {
     match open(path)? {
-        Held::Words(opened) => {
-            let words = words(path, opened, MOST_VOCABULARY_WORDS)?;
-            read_vocabulary(&words).map_err(|refusal| Complaint::refused(path, refusal))?;
-            Ok(Vocabulary::of_words(words))
-        }
-        Held::Text(opened) => {
-            let read = notation::document(&text(path, opened)?);
-            accepted(path, read.map_err(|mistake| Complaint::mistake(path, mistake))?.vocabulary)
-        }
+        Held::Words(opened) => vocabulary_of_words(path, opened),
+        Held::Text(opened) => Ok(document_of_text(path, opened)?.vocabulary),
     }
 }
 
@@ -153,13 +173,9 @@ fn of_json(bytes: &[u8]) -> Option<Vec<u32>> {
     words.iter().map(|word| u32::try_from(word.as_u64()?).ok()).collect()
 }
 
-/// Bytes as the program reads them: at most 65,536, and one more shows that there are too many.
+/// Bytes as they are: so many at most, and one more shows that there are too many.
 pub fn bytes(path: &Path, most: usize) -> Result<Vec<u8>, Complaint> {
-    let (Held::Text(opened) | Held::Words(opened)) = open(path)?;
-    let mut bytes = Vec::new();
-    let enough = most as u64 + 1;
-    opened.take(enough).read_to_end(&mut bytes).map_err(|e| Complaint::new(path, e.to_string()))?;
-    Ok(bytes)
+    some(path, source(path)?, most + 1)
 }
 
 /// A first policy that the library accepts.

@@ -13,16 +13,17 @@ mod probes;
 mod single;
 mod slices;
 mod trouble;
+mod vocabulary;
 mod words;
 
 use arguments::{Arguments, Verb};
 use clap::error::ErrorKind;
 use clap::{CommandFactory, Parser};
-use output::{tell, Status};
+use output::{say, Status};
 use std::io::{self, Write};
 use std::path::Path;
 use std::process::ExitCode;
-use trouble::{shown, Failure};
+use trouble::Failure;
 
 fn main() -> ExitCode {
     let arguments = match Arguments::try_parse() {
@@ -40,6 +41,7 @@ fn main() -> ExitCode {
         Verb::Equal(asked) => ask::equal(asked),
         Verb::Possible(asked) => ask::possible(asked),
         Verb::Verify(asked) => single::verify(asked),
+        Verb::Vocabulary(asked) => vocabulary::vocabulary(asked),
         Verb::Group(asked) => group::group(asked),
         Verb::Picture(asked) => single::picture(asked),
         Verb::Aloud(asked) => single::aloud(asked),
@@ -60,10 +62,6 @@ fn usage(said: &clap::Error) -> ExitCode {
         _ if said.use_stderr() => ExitCode::from(Status::Trouble as u8),
         _ => ExitCode::SUCCESS,
     }
-}
-
-fn say(message: &str) {
-    tell(&format!("gimbuka: {}\n", shown(message)));
 }
 
 fn trouble(failure: &Failure) -> ExitCode {

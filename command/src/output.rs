@@ -151,8 +151,13 @@ impl Output {
 }
 
 /// Writes to standard error. If that fails there is nowhere to say so.
-pub fn tell(line: &str) {
+fn tell(line: &str) {
     let _ = io::stderr().lock().write_all(line.as_bytes());
+}
+
+/// Tells people something on standard error.
+pub fn say(message: &str) {
+    tell(&format!("gimbuka: {}\n", shown(message)));
 }
 
 /// A JSON object on one line, with its keys in the order in which they are put.

@@ -3,7 +3,7 @@
 use crate::arguments::{Aloud, Decode, Encode, Picture, Verify};
 use crate::collection::{self, Policy};
 use crate::input::{self, accepted_policy};
-use crate::output::{tell, Lines, Object, Output, Status};
+use crate::output::{say, Lines, Object, Output, Status};
 use crate::slices::{with_slices, Slices};
 use crate::trouble::{Complaint, Failure};
 use crate::words;
@@ -126,7 +126,7 @@ pub fn picture(asked: Picture) -> Result<Status, Failure> {
     with_slices(|Slices { work, out }| {
         match gimbuka::compliance(vocabulary.words(), first, second, work, out) {
             Ok(Verdict::Compliant) => {
-                tell("gimbuka: compliant, so there is no case to draw\n");
+                say("compliant, so there is no case to draw");
                 Ok(Status::SomeNot)
             }
             Ok(Verdict::Outside { words, .. }) => {

@@ -465,12 +465,14 @@ fn a_full_disk_is_told() {
     let desk = Desk::new();
     desk.put("alice.txt", days("alice", 0, 90));
     let message = "gimbuka: the output cannot be written: No space left on device (os error 28)\n";
-    let verbs: [&[&str]; 7] = [
+    let verbs: [&[&str]; 9] = [
         &["check", "vocabulary.txt", "buyer.txt", "alice.txt"],
         &["check", "--json", "vocabulary.txt", "buyer.txt", "alice.txt"],
         &["group", "vocabulary.txt", "alice.txt"],
         &["encode", "vocabulary.txt", "buyer.txt", "alice.txt"],
         &["picture", "vocabulary.txt", "alice.txt", "buyer.txt"],
+        &["vocabulary", "vocabulary.txt"],
+        &["vocabulary", "--fragment", "vocabulary.txt"],
         &["--help"],
         &["--version"],
     ];

@@ -15,9 +15,8 @@ fn help_goes_to_standard_output() {
         assert_eq!((ran.status, ran.err.as_str()), (Some(0), ""), "{words:?}");
         assert!(ran.out.contains("Usage: gimbuka") && ran.out.contains("Example"), "{words:?}");
     }
-    for verb in
-        ["check", "equal", "possible", "verify", "group", "picture", "aloud", "encode", "decode"]
-    {
+    let verbs = "check equal possible verify group vocabulary picture aloud encode decode";
+    for verb in verbs.split(' ') {
         let ran = desk.run(&[verb, "--help"]);
         assert!(ran.out.contains("Exit status: 0 ") && ran.out.contains("2 trouble"), "{verb}");
     }
@@ -28,13 +27,15 @@ fn help_goes_to_standard_output() {
 #[test]
 fn wrong_usage_goes_to_standard_error() {
     let desk = Desk::new();
-    let wrong: [&[&str]; 8] = [
+    let wrong: [&[&str]; 10] = [
         &[],
         &["chekc"],
         &["check"],
         &["check", "--wyh", "vocabulary.txt"],
         &["check", "vocabulary.txt", "buyer.txt"],
         &["group"],
+        &["vocabulary"],
+        &["vocabulary", "vocabulary.txt", "vocabulary.txt"],
         &["verify", "vocabulary.txt", "buyer.txt", "buyer.txt"],
         &["picture", "--model", "m", "vocabulary.txt", "buyer.txt", "buyer.txt"],
     ];

@@ -19,10 +19,10 @@ pub(crate) enum Mute {
 const TOLD: [(&str, &str, &str); 8] = [
     ("prefixes", "1 prefix", "prefixes"),
     ("iri", "the ontology's IRI", ""),
-    ("version_iri", "the IRI of its version", ""),
+    ("version_iri", "its version", ""),
     ("annotations", "1 annotation", "annotations"),
     ("annotation_axioms", "1 axiom of annotation properties", "axioms of annotation properties"),
-    ("annotation_properties", "1 declared annotation property", "declared annotation properties"),
+    ("annotation_properties", "1 annotation property", "annotation properties"),
     ("datatypes", "1 declared datatype", "declared datatypes"),
     ("individuals", "1 declared individual", "declared individuals"),
 ];

@@ -26,7 +26,7 @@ fn what_states_nothing_is_left_out() {
         ("Ontology(DESK) Prefix(:=<http://x#>)", "1 prefix"),
         ("Ontology(<http://x> DESK)", "the ontology's IRI"),
         ("Ontology(x:o DESK)", "the ontology's IRI"),
-        ("Ontology(<http://x><http://x/1> DESK)", "the ontology's IRI, the IRI of its version"),
+        ("Ontology(<http://x><http://x/1> DESK)", "the ontology's IRI, its version"),
         ("Ontology(Annotation(rdfs:label \"x\") DESK)", "1 annotation"),
         ("Ontology(<http://x> Annotation(rdfs:seeAlso <http://y>) Annotation(x:by _:b) DESK)", "the ontology's IRI, 2 annotations"),
         ("Ontology(DESK Annotation(x:y x:z))", "1 annotation"),
@@ -36,7 +36,7 @@ fn what_states_nothing_is_left_out() {
         ("DESK AnnotationAssertion(rdfs:label _:someone _:other)", "1 annotation"),
         ("DESK SubAnnotationPropertyOf(x:a x:b)", "1 axiom of annotation properties"),
         ("DESK AnnotationPropertyDomain(x:a :A) AnnotationPropertyRange(Annotation(x:a x:b) x:a :A)", "1 annotation, 2 axioms of annotation properties"),
-        ("Declaration(AnnotationProperty(x:a)) DESK", "1 declared annotation property"),
+        ("Declaration(AnnotationProperty(x:a)) DESK", "1 annotation property"),
         ("Declaration(Annotation(x:a x:b) Datatype(x:a)) DESK", "1 annotation, 1 declared datatype"),
         ("DESK Declaration(NamedIndividual(:A)) Declaration(NamedIndividual(:A))", "2 declared individuals"),
     ];

@@ -1,6 +1,6 @@
 //! The examples, read as the reasoner reads them.
 
-use notation::{document, facts, model, policy_at, Policies};
+use notation::{document, facts, model, policy_at, print_vocabulary, Policies, Vocabulary};
 use reasoner::text::Document;
 use std::fs;
 
@@ -16,7 +16,7 @@ fn the_examples_have_the_reasoners_words() {
     let mut read = 0;
     for entry in fs::read_dir("../examples").expect("the examples") {
         let path = entry.expect("an entry").path();
-        if path.is_dir() {
+        if path.extension().is_none_or(|extension| extension != "txt") {
             continue;
         }
         let text = fs::read_to_string(&path).expect("a text");
@@ -37,6 +37,24 @@ fn the_examples_have_the_reasoners_words() {
         read += 1;
     }
     assert!(read >= 7);
+}
+
+#[test]
+fn the_editors_file_has_the_reasoners_words() {
+    let text = fs::read_to_string("../examples/editor.ofn").expect("the file");
+    let found = Vocabulary::parse(text.as_bytes()).unwrap_or_else(|mistake| panic!("{mistake}"));
+    // Its declarations and axioms stand on a line each, the former first; one axiom has an annotation.
+    let kept = ["Declaration", "SubClassOf", "Disjoint", "Functional", "ObjectPropertyRange"];
+    let is_kept = |line: &&str| kept.iter().any(|kept| line.starts_with(kept));
+    let lines: Vec<&str> = text.lines().filter(is_kept).collect();
+    let lines = lines.into_iter().filter(|line| !line.contains("AnnotationProperty"));
+    let bare: String = lines.map(|line| format!("{line}\n")).collect();
+    let bare = bare.replace("Annotation(rdfs:comment \"Asked for by the hospitals.\"@en) ", "");
+    let judge =
+        Document::parse(&format!("{bare}Policy() Policy()")).expect("the reasoner reads it");
+    assert_eq!(found.words(), judge.words()[0]);
+    assert_eq!(print_vocabulary(&found), judge.axioms());
+    assert_eq!(found.axioms(), 8);
 }
 
 #[test]
