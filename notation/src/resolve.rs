@@ -29,8 +29,7 @@ impl Iris {
 
     /// The whole IRI, as `<..>`. A name whose prefix is not known stands for itself.
     fn whole<'n>(&self, name: &'n [u8]) -> Cow<'n, [u8]> {
-        let is_whole = name.starts_with(b"<");
-        let colon = name.iter().position(|&byte| byte == b':' && !is_whole);
+        let colon = name.iter().position(|&byte| byte == b':');
         let known = colon.and_then(|colon| {
             let (prefix, rest) = name.split_at(colon + 1);
             Some([b"<", &self.prefixes.get(prefix)?[..], rest, b">"].concat())

@@ -1,5 +1,8 @@
 //! The judge of this package: the reasoner's parser and printer, written apart from it. On random
-//! texts and on damaged ones both give the same words, or a mistake at the same line and column.
+//! texts and on damaged ones both give the same words, or a mistake at the same line and column. The
+//! judge wants names to be declared before they are used, knows no annotations outside policies, and
+//! tells the first mistake of a text, of whatever kind, but what is wrong with its bytes before that:
+//! where one of these makes a difference, the text is held to it again without what made it.
 
 use notation::{
     document, facts, model, policy, print_policy, print_vocabulary, Document, Vocabulary,
@@ -298,10 +301,8 @@ fn whole_and_damaged_texts() {
     }
     let count = |wanted: Held| held.iter().filter(|&&one| one == wanted).count();
     let [read, same, otherwise] = [Held::Read, Held::Same, Held::Otherwise].map(count);
-    assert!(
-        read > TEXTS / 25 && same > 10 * otherwise,
-        "{read} read, {same} alike, {otherwise} not"
-    );
+    let told = format!("{read} are read, {same} mistakes are told alike, {otherwise} are not");
+    assert!(read > TEXTS / 25 && same > 15 * otherwise, "{told}");
 }
 
 /// Where the bytes themselves are wrong first, by the rule: a character over 127 that stands in no
