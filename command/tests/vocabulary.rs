@@ -144,7 +144,7 @@ fn objects_for_programs() {
     };
     let left_out = json!({
         "prefixes": 2, "iri": 1, "version_iri": 0, "annotations": 2, "annotation_axioms": 0,
-        "annotation_properties": 0, "datatypes": 0, "individuals": 0,
+        "annotation_properties": 0, "datatypes": 0, "individuals": 0, "owls_own": 0,
     });
     let mut held = json!({
         "file": "saved.ofn", "verdict": "read", "classes": 2, "roles": 1, "features": 1, "axioms": 2,

@@ -13,10 +13,11 @@ pub(crate) enum Mute {
     AnnotationProperty,
     Datatype,
     Individual,
+    OwlsOwn,
 }
 
 /// For each of these its key, and how one and several are told.
-const TOLD: [(&str, &str, &str); 8] = [
+const TOLD: [(&str, &str, &str); 9] = [
     ("prefixes", "1 prefix", "prefixes"),
     ("iri", "the ontology's IRI", ""),
     ("version_iri", "its version", ""),
@@ -25,6 +26,7 @@ const TOLD: [(&str, &str, &str); 8] = [
     ("annotation_properties", "1 annotation property", "annotation properties"),
     ("datatypes", "1 declared datatype", "declared datatypes"),
     ("individuals", "1 declared individual", "declared individuals"),
+    ("owls_own", "1 declared name of OWL's own", "declared names of OWL's own"),
 ];
 
 /// What a vocabulary's text has and its words have not, since it states nothing. Comments and blanks

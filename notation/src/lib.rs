@@ -27,8 +27,9 @@
 //!
 //! - `Ontology( )` may stand around the declarations and axioms, with an IRI, a version's IRI and
 //!   annotations; `Prefix( )` before it. Declarations and axioms may have annotations. There may be
-//!   axioms of annotations, and declarations of annotation properties, datatypes and individuals.
-//!   All this states nothing, and is left out: [`Vocabulary::left_out`] says what there was.
+//!   axioms of annotations, and declarations of annotation properties, datatypes, individuals and
+//!   names of OWL's own. All this states nothing, and is left out: [`Vocabulary::left_out`] says what
+//!   there was.
 //! - What else there is may state something. It is a mistake, and never left out.
 //! - A name may be spelled `:A`, `prefix:A` or `<whole IRI>`, and is the same where the whole IRI is. A
 //!   prefix that is not declared stands for itself. A name that the operation has no spelling for is

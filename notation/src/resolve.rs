@@ -1,6 +1,7 @@
 //! From the names of a text to their numbers, and what is wrong with the names.
 
 use crate::forms::{OWL, PREFIXES};
+use crate::left_out::{LeftOut, Mute};
 use crate::mistake::{Mistake, Place};
 use crate::names::{Names, Sort};
 use crate::owl::{Found, Name};
@@ -48,10 +49,12 @@ impl Iris {
 }
 
 /// What a text's names say: each sort in its order, and the axioms as kind, a and b.
+#[derive(Default)]
 pub(crate) struct Resolved {
     pub names: Names,
     pub axioms: Vec<[u32; 3]>,
     pub iris: Iris,
+    pub left_out: LeftOut,
 }
 
 /// Something wrong with the names, or with how many axioms there are.
@@ -89,14 +92,15 @@ impl Wrong<'_> {
 
 /// Finds out which name is which. Of several mistakes the one is told that the proved operation tells,
 /// and of these the first in the text.
-pub(crate) fn resolve(text: &[u8], found: &Found<'_>) -> Result<Resolved, Mistake> {
+pub(crate) fn resolve(text: &[u8], mut found: Found<'_>) -> Result<Resolved, Mistake> {
     let mut iris = Iris::new(&found.prefixes);
-    let mut wrong = declare(&mut iris, found);
-    wrong.extend(undeclared(&iris, found));
+    leave_out_owls(&iris, &mut found);
+    let mut wrong = declare(&mut iris, &found);
+    wrong.extend(undeclared(&iris, &found));
     wrong.extend(found.stated.get(MOST_AXIOMS).map(|axiom| Wrong::TooManyAxioms(axiom.at)));
     if let Some(first) = wrong.into_iter().min_by_key(|one| (one.rank(), one.at())) {
         let place = Place::START.behind(&text[..first.at()]);
-        return Err(place.refused(ORDER[first.rank()], message(text, found, &iris, first)));
+        return Err(place.refused(ORDER[first.rank()], message(text, &found, &iris, first)));
     }
     let axioms = found.stated.iter().map(|axiom| {
         let numbers = axiom.form.sorts.iter().zip(&axiom.names);
@@ -108,16 +112,25 @@ pub(crate) fn resolve(text: &[u8], found: &Found<'_>) -> Result<Resolved, Mistak
         let declared = found.declared.iter().filter(|declared| declared.0 == sort);
         declared.map(|(_, name)| String::from_utf8_lossy(name.text).into_owned()).collect()
     });
-    Ok(Resolved { names, axioms, iris })
+    Ok(Resolved { names, axioms, iris, left_out: found.left_out })
+}
+
+/// Leaves out declarations of OWL's own names: what they mean is known without.
+fn leave_out_owls(iris: &Iris, found: &mut Found<'_>) {
+    let Found { declared, left_out, .. } = found;
+    declared.retain(|(_, name)| {
+        let is_owls = iris.is_owls(name.text);
+        if is_owls {
+            left_out.add(Mute::OwlsOwn);
+        }
+        !is_owls
+    });
 }
 
 /// Numbers the names; gives what is wrong with their declarations.
 fn declare<'a>(iris: &mut Iris, found: &Found<'a>) -> Vec<Wrong<'a>> {
     let mut wrong = Vec::new();
     for &(sort, name) in &found.declared {
-        if iris.is_owls(name.text) {
-            wrong.push(Wrong::Owls(name));
-        }
         let whole = iris.whole(name.text).into_owned();
         let numbers = &mut iris.numbers[sort as usize];
         let next = numbers.len() + 1;

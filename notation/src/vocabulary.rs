@@ -9,6 +9,7 @@ use crate::print;
 use crate::resolve::{resolve, Iris, Resolved};
 use crate::scan::{Of, Scanned};
 use gimbuka::{read_owl, MOST_VOCABULARY_WORDS};
+use std::mem;
 
 /// A vocabulary with names. The words of one that is read from a text are those that the proved
 /// operation `read_owl` writes.
@@ -40,9 +41,9 @@ impl Vocabulary {
     /// The operation's refusal, with the place and the reason of it.
     pub fn exact(text: &[u8]) -> Result<Self, Mistake> {
         let words = proved(text);
-        let read = placed(text, owl::read_exact(text)).and_then(|found| resolve(text, &found));
+        let read = placed(text, owl::read_exact(text)).and_then(|found| resolve(text, found));
         match (words, read) {
-            (Ok(words), Ok(read)) => Ok(Self::of(words, read, LeftOut::default())),
+            (Ok(words), Ok(read)) => Ok(Self::of(words, read)),
             // The operation has the last word.
             (Err(refused), Err(mistake)) if refused.refusal != mistake.refusal => Err(refused),
             (_, Err(mistake)) | (Err(mistake), _) => Err(mistake),
@@ -54,14 +55,15 @@ impl Vocabulary {
         if let Ok(exact) = Self::exact(text) {
             return Ok((exact, Vec::new()));
         }
-        let found = placed(text, owl::read(text, takes_policies))?;
-        let read = resolve(text, &found)?;
+        let mut found = placed(text, owl::read(text, takes_policies))?;
+        let policies = mem::take(&mut found.policies);
+        let read = resolve(text, found)?;
         let words = proved(print::owl(&read.names, &read.axioms).as_bytes())?;
-        Ok((Self::of(words, read, found.left_out), found.policies))
+        Ok((Self::of(words, read), policies))
     }
 
-    fn of(words: Vec<u32>, read: Resolved, left_out: LeftOut) -> Self {
-        let Resolved { names, iris, .. } = read;
+    fn of(words: Vec<u32>, read: Resolved) -> Self {
+        let Resolved { names, iris, left_out, .. } = read;
         let indexes = Sort::ALL.map(|sort| Index::of(names.of(sort)));
         Self { words, names, indexes, iris, left_out }
     }
@@ -75,8 +77,7 @@ impl Vocabulary {
             count.min(sort.most())
         };
         let names = Names::numbered(Sort::ALL.map(count));
-        let read = Resolved { names, axioms: Vec::new(), iris: Iris::default() };
-        Self::of(words, read, LeftOut::default())
+        Self::of(words, Resolved { names, ..Resolved::default() })
     }
 
     /// The words of the table.

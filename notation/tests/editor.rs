@@ -6,6 +6,7 @@ mod common;
 use common::{items, ontology, Item, SORTS};
 use notation::{facts, policy, print_owl, Names, Vocabulary};
 use reasoner::random::Rng;
+use std::fs;
 
 const WORDS: [u32; 8] = [2, 1, 0, 1, 1, 1, 2, 0];
 const DESK: &str = "Declaration(Class(:A)) Declaration(Class(:B)) Declaration(ObjectProperty(:r))
@@ -39,6 +40,7 @@ fn what_states_nothing_is_left_out() {
         ("Declaration(AnnotationProperty(x:a)) DESK", "1 annotation property"),
         ("Declaration(Annotation(x:a x:b) Datatype(x:a)) DESK", "1 annotation, 1 declared datatype"),
         ("DESK Declaration(NamedIndividual(:A)) Declaration(NamedIndividual(:A))", "2 declared individuals"),
+        ("Declaration(Class(owl:Thing)) DESK Declaration(ObjectProperty(<http://www.w3.org/2002/07/owl#topObjectProperty>))", "2 declared names of OWL's own"),
     ];
     for (text, left_out) in cases {
         let text = text.replace("DESK", DESK);
@@ -50,7 +52,7 @@ fn what_states_nothing_is_left_out() {
     let counts: Vec<_> =
         read("Prefix(:=<x>) Ontology(x:y Declaration(Class(:A)))").left_out().counts().collect();
     assert_eq!(counts[..3], [("prefixes", 1), ("iri", 1), ("version_iri", 0)]);
-    assert_eq!(counts.len(), 8);
+    assert_eq!(counts.len(), 9);
 }
 
 #[test]
@@ -173,7 +175,7 @@ fn reasons() {
             "41: <http://www.w3.org/2002/07/owl#Nothing> OWLS",
         ),
         (
-            "Declaration(Class(§o:Thing)) DESK Prefix(o:=<http://www.w3.org/2002/07/owl#>)",
+            "Declaration(Class(o:Thing)) SubClassOf(:A §o:Thing) DESK Prefix(o:=<http://www.w3.org/2002/07/owl#>)",
             "41: o:Thing OWLS",
         ),
         ("DESK ObjectPropertyRange(§owl:topObjectProperty :A)", "41: owl:topObjectProperty OWLS"),
@@ -462,4 +464,45 @@ fn random_vocabularies_as_an_editor_writes_them() {
         }
     }
     assert!(all > 10_000, "{all}");
+}
+
+/// One change of a few bytes, of which some stand in the text elsewhere.
+fn damage(rng: &mut Rng, text: &mut Vec<u8>) {
+    let at = rng.place(text.len());
+    let end = text.len().min(at + rng.place(12));
+    let from = rng.place(text.len());
+    let part = text[from..text.len().min(from + rng.place(12))].to_vec();
+    match rng.below(4) {
+        0 => drop(text.drain(at..end)),
+        1 => drop(text.splice(at..end, part)),
+        2 => drop(text.splice(at..at, part)),
+        _ => text[at] = *rng.pick(b"()()\"\\<>#:=^@ \n\r\0A\xc3"),
+    }
+}
+
+#[test]
+fn a_damaged_file_is_read_or_refused() {
+    let whole = fs::read("../examples/editor.ofn").expect("the file");
+    let mut rng = Rng::new(47);
+    let (mut accepted, mut refused) = (0, 0);
+    for _ in 0..20_000 {
+        let mut text = whole.clone();
+        (0..=rng.below(2)).for_each(|_| damage(&mut rng, &mut text));
+        match Vocabulary::parse(&text) {
+            Ok(found) => {
+                // What the library is handed is all that there is.
+                let again = Vocabulary::exact(print_owl(&found).as_bytes()).expect("a vocabulary");
+                assert_eq!(again.words(), found.words());
+                accepted += 1;
+            }
+            Err(mistake) => {
+                let told = String::from_utf8_lossy(&text);
+                assert!(matches!(mistake.refusal, Some(41 | 42)), "{mistake}\n{told}");
+                let line = text.split(|&byte| byte == b'\n').nth(mistake.line - 1).expect("a line");
+                assert!(mistake.column <= line.len() + 1, "{mistake}\n{told}");
+                refused += 1;
+            }
+        }
+    }
+    assert!(accepted > 4_000 && refused > 4_000, "{accepted} {refused}");
 }

@@ -156,27 +156,42 @@ fn hold(text: &str) -> Held {
     let found = document(text.as_bytes());
     let judged = Judge::parse(text);
     let held = match (&found, &judged) {
+        (_, Ok(judged)) if has_owls(judged) => Some(Held::Otherwise),
         (Ok(found), Ok(judged)) => agrees(found, judged).then_some(Held::Read),
-        // The judge takes two policies, no fewer and no more, and no name before it is declared.
+        // The judge takes two policies, no fewer and no more.
         (Ok(found), Err(judged)) => {
             let is_known = match found.policies.len() {
                 0 | 1 => judged.message.contains("a text has two policies"),
                 2 => false,
                 _ => judged.message.contains("this is the third"),
             };
-            (is_known || is_of_above(&judged.message)).then_some(Held::Otherwise)
+            (is_known || is_strict(&judged.message)).then_some(Held::Otherwise)
         }
         (Err(found), Err(judged)) => {
-            let judged_at = (judged.line, judged.column);
-            if (found.line, found.column) == judged_at {
-                Some(Held::Same)
-            } else {
-                is_told_otherwise(text, found, judged).then_some(Held::Otherwise)
+            let is_same = (found.line, found.column) == (judged.line, judged.column);
+            match is_same {
+                true => Some(Held::Same),
+                false => is_told_otherwise(text, found, judged).then_some(Held::Otherwise),
             }
         }
-        (Err(found), Ok(_)) => is_of_owl(text, found).then_some(Held::Otherwise),
+        (Err(_), Ok(_)) => None,
     };
     held.unwrap_or_else(|| panic!("found {found:?}\njudge {judged:?}\n{text}"))
+}
+
+/// The judge takes a name of OWL's own for one like the others, where it is no class.
+fn has_owls(judged: &Judge) -> bool {
+    let Names { classes, roles, features } = &judged.names;
+    classes.iter().chain(roles).chain(features).any(|name| name.starts_with("owl:"))
+}
+
+/// The judge wants a name to be declared above, and OWL's own not to be declared.
+fn is_strict(message: &str) -> bool {
+    is_of_above(message) || message.contains("is always there")
+}
+
+fn is_of_above(message: &str) -> bool {
+    message.contains("declared above")
 }
 
 /// Holds one text to the judge, and where the two tell different mistakes of it, the text without what
@@ -210,18 +225,6 @@ fn without(text: &str, names: &Names) -> Option<String> {
     Some(format!("{}{known}{}", &text[..at], &text[at + unknown.len()..]))
 }
 
-/// The judge wants a name to be declared above.
-fn is_of_above(message: &str) -> bool {
-    message.contains("declared above")
-}
-
-/// The judge takes a name of OWL's own for one like the others, where it is no class.
-fn is_of_owl(text: &str, found: &notation::Mistake) -> bool {
-    let line = text.split('\n').nth(found.line - 1).expect("a line");
-    found.message.contains("has a meaning of its own")
-        && line[found.column - 1..].starts_with("owl:")
-}
-
 /// The judge tells what is wrong with the bytes, and then what comes first in the text. Here the order
 /// is 41 or the like of a policy, 42, 1, the names of policies.
 fn is_told_otherwise(
@@ -253,13 +256,13 @@ fn is_told_otherwise(
         // The judge reads on, to what stands behind the word that is wrong.
         let words =
             ["cannot be declared", "another policy begins", "a compound one", ":recordOrder"];
-        return is_of_owl(text, found) || words.iter().any(|word| found.message.contains(word));
+        return words.iter().any(|word| found.message.contains(word));
     }
     let is_before = found_order < order(judged_refusal, said);
     // Outside policies the judge knows no annotations.
     let line = text.split('\n').nth(judged.line - 1).expect("a line");
     let is_annotation = says("Annotation") || line.contains("Annotation");
-    is_before || is_of_above(said) || says("this is the third") || is_annotation
+    is_before || is_strict(said) || says("this is the third") || is_annotation
 }
 
 fn agrees(found: &Document, judged: &Judge) -> bool {

@@ -27,7 +27,7 @@ fn documents() {
         ("Policy()", "line 1, column 9: refused 42: a vocabulary has at least one class; none is declared"),
         ("Declaration(Class(:A))\nPolicy(:B)", "line 2, column 8: :B is no class declared above; write Declaration(Class(:B)) before it"),
         ("Declaration(Class(:A))\n  Declaration(Class(:A))", "line 2, column 21: refused 42: the class :A is declared twice, first at 1:19"),
-        ("Declaration(Class(owl:Thing))", "line 1, column 19: refused 41: owl:Thing has a meaning of its own, and is no name of a vocabulary"),
+        ("Declaration(Class(owl:Thing))", "line 1, column 30: refused 42: a vocabulary has at least one class; none is declared"),
         ("Declaration(Individual(:A))", "line 1, column 13: refused 41: \"Individual\" cannot be declared; Class, ObjectProperty and DataProperty can"),
         ("Declaration(Class(:A)) Policy(:A", "line 1, column 33: expected a class or a restriction, found the end of the text"),
         ("Declaration(Class(:A)) Policy(:A))", "line 1, column 34: refused 41: expected Declaration, an axiom or Policy, found \")\""),
