@@ -254,8 +254,13 @@ fn is_told_otherwise(
     }
     if found_at < judged_at {
         // The judge reads on, to what stands behind the word that is wrong.
-        let words =
-            ["cannot be declared", "another policy begins", "a compound one", ":recordOrder"];
+        let words = [
+            "cannot be declared",
+            "another policy begins",
+            "a compound one",
+            "a meaning of its own",
+            ":recordOrder",
+        ];
         return words.iter().any(|word| found.message.contains(word));
     }
     let is_before = found_order < order(judged_refusal, said);
