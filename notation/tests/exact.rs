@@ -58,7 +58,7 @@ fn damage(rng: &mut Rng, tokens: &mut Vec<String>) {
         4 => tokens[at].push(*rng.pick(&['x', '0', ':', '\r', '#', ' ', '-', 'é'])),
         5 => tokens[at].insert(0, *rng.pick(&['x', '0', ':', '\r', '"', '<', '\0', 'é'])),
         6 => tokens[at] = tokens[at].to_uppercase(),
-        _ => tokens[at].truncate(1),
+        _ => tokens[at] = tokens[at].chars().take(1).collect(),
     }
 }
 
