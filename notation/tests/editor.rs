@@ -1,10 +1,8 @@
 //! Vocabularies as people write them and as OWL editors save them: what is left out, what is not, and
 //! which name is which.
 
-mod common;
-
-use common::{items, ontology, Item, SORTS};
 use notation::{facts, policy, print_owl, Names, Vocabulary};
+use reasoner::random::owl::source::{around, Form, Source};
 use reasoner::random::Rng;
 use std::fs;
 
@@ -396,26 +394,24 @@ fn spelled(rng: &mut Rng, name: &str) -> String {
     }
 }
 
-/// An item as an editor may write it, with other spellings and annotations.
-fn written(rng: &mut Rng, item: &Item, annotations: &mut usize) -> String {
+/// A form as an editor may write it, with other spellings and an annotation, and whether that is there.
+fn written(rng: &mut Rng, form: &Form) -> (String, bool) {
+    let is_annotated = rng.once_in(4);
     let mut text = String::new();
-    for (token, before) in item.iter().zip([""].into_iter().chain(item.iter().map(String::as_str)))
-    {
-        if before == "(" && rng.once_in(4) && !SORTS.contains(&item[2].as_str()) {
+    for (token, at) in form.iter().zip(0..) {
+        if at == 2 && is_annotated {
             text.push_str("Annotation(rdfs:comment \"A \\\"sign\\\" (:\n\"@en) ");
-            *annotations += 1;
         }
-        let token = if token.starts_with(':') { spelled(rng, token) } else { token.clone() };
-        text.push_str(&token);
+        match token.starts_with(':') {
+            true => text.push_str(&format!("{} ", spelled(rng, token))),
+            false => text.push_str(token),
+        }
         text.push_str(["", " ", "\r\n", " # a comment ( \" <\n"][rng.place(4)]);
-        if token.starts_with([':', 'o']) {
-            text.push(' ');
-        }
     }
-    text
+    (text, is_annotated)
 }
 
-/// What an editor adds between items: each is counted as one annotation but the last.
+/// What an editor adds between forms: each is counted as one annotation but the last.
 const BETWEEN: [&str; 4] = [
     "AnnotationAssertion(rdfs:label :N1 \"one\"@en)\n",
     "AnnotationAssertion(<http://purl.org/dc/terms/creator> <http://example.org/v#N1> _:b0)\n",
@@ -428,16 +424,18 @@ fn random_vocabularies_as_an_editor_writes_them() {
     let mut rng = Rng::new(46);
     let mut all = 0;
     for _ in 0..5_000 {
-        let items = items(&mut rng);
-        let exact = ontology(&items).join(" ");
-        let wanted = Vocabulary::exact(exact.as_bytes()).expect("a vocabulary");
+        let forms = Source::random(&mut rng).forms_in_any_order(&mut rng);
+        let Ok(wanted) = Vocabulary::exact(around(forms.clone()).concat().as_bytes()) else {
+            continue;
+        };
         let mut annotations = 0;
         let mut text = "Prefix(:=<http://example.org/v#>)\nPrefix(other-one:=<http://example.org/v#>)\n\n\nOntology(<http://example.org/v>\n".to_owned();
-        for item in &items {
-            text += &written(&mut rng, item, &mut annotations);
+        for form in &forms {
+            let (written, is_annotated) = written(&mut rng, form);
             let between = rng.place(2 * BETWEEN.len());
+            text += &written;
             text += BETWEEN.get(between).copied().unwrap_or_default();
-            annotations += usize::from(between + 1 < BETWEEN.len());
+            annotations += usize::from(is_annotated) + usize::from(between + 1 < BETWEEN.len());
         }
         text += ")\n";
         let found = read(&text);
