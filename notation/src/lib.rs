@@ -120,7 +120,7 @@ pub fn policy_at(
 ) -> Result<Policy, Mistake> {
     let mut scanner = Scanner::new(text);
     let read = one_policy(vocabulary, &mut scanner);
-    told(read, scanner, text, Place { line, column })
+    told(read.map_err(|found| scanner.first(found)), text, Place { line, column })
 }
 
 fn next_policy(vocabulary: &Vocabulary, scanner: &mut Scanner<'_>) -> Scanned<Policy> {
@@ -155,22 +155,13 @@ pub fn document(text: &[u8]) -> Result<Document, Mistake> {
     let policies = places.into_iter().map(|at| {
         let mut scanner = Scanner::new(text);
         scanner.go_to(at);
-        let read = next_policy(&vocabulary, &mut scanner);
-        told(read, scanner, text, Place::START)
+        told(next_policy(&vocabulary, &mut scanner), text, Place::START)
     });
     let policies = policies.collect::<Result<_, _>>()?;
     Ok(Document { vocabulary, policies })
 }
 
 /// What was read of a text that begins at this place, or the mistake with its line and column.
-fn told<T>(
-    read: Scanned<T>,
-    scanner: Scanner<'_>,
-    text: &[u8],
-    start: Place,
-) -> Result<T, Mistake> {
-    read.map_err(|found| {
-        let fault = scanner.first(found);
-        start.behind(&text[..fault.at]).mistake(fault.message)
-    })
+fn told<T>(read: Scanned<T>, text: &[u8], start: Place) -> Result<T, Mistake> {
+    read.map_err(|fault| start.behind(&text[..fault.at]).mistake(fault.message))
 }

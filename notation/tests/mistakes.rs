@@ -49,6 +49,13 @@ fn documents() {
 }
 
 #[test]
+fn a_string_of_the_vocabulary_is_no_mistake_of_a_policy() {
+    let text =
+        b"Policy(:B) Ontology(Annotation(rdfs:comment \"two\nlines\") Declaration(Class(:A)))";
+    assert!(in_document(text).starts_with("line 1, column 8: :B is no class"));
+}
+
+#[test]
 fn a_name_may_be_used_before_it_is_declared() {
     let text = b"Policy(:B) SubClassOf(:B :A) Declaration(Class(:A)) Declaration(Class(:B))";
     let read = document(text).expect("a document");
