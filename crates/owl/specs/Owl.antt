@@ -1,4 +1,4 @@
--- SPECIFICATION 3.4 and 9.10: the vocabulary that an OWL text states, and the operation Read OWL.
+-- SPECIFICATION 3.4 and 9.12: the vocabulary that an OWL text states, and the operation Read OWL.
 use Prim.Native.Nat.{ℕ}
 use mathlib.Core.Bool.{cond}
 use mathlib.Core.List.{List, [], _∷_, map}
@@ -64,7 +64,7 @@ parsedWords (parsed l) = vocabularyWords (vocabularyIn l)
 unfoldable pub owlWords : List ℕ → List ℕ
 owlWords text = parsedWords (parsedOf text)
 
--- Read OWL, SPECIFICATION 9.10: o is the length of the output
+-- Read OWL, SPECIFICATION 9.12: o is the length of the output
 unfoldable pub readOwl : List ℕ → ℕ → Outcome FillingResult
 readOwl text o = let told = written o wrote (owlWords text) in unless refuses (owlRefusal text) told
 
