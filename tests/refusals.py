@@ -1,14 +1,15 @@
 #!/usr/bin/env python3
 """refusals.py: docs/REFUSALS.md and docs/SPECIFICATION.md name the refusals that the definitions give.
 
-The table in REFUSALS.md has a row for each number that a definition in crates/meaning/specs gives, in number order, and no other row; a
-row names exactly the operations that can give its number. The section of SPECIFICATION.md that an operation's link leads to has the
-line "Refusals, in order:", with exactly the operation's numbers, in the order in which its definition looks for them.
+The table in REFUSALS.md has a row for each number that a definition gives, in number order, and no other row; a row names exactly the
+operations that can give its number, or "all", or "all but" some, and a sentence behind the table names all. The section of
+SPECIFICATION.md that an operation's link leads to has the line "Refusals, in order:", with exactly the operation's numbers, in the
+order in which its definition looks for them.
 
-The numbers are read from the definitions' text. A number is given by `refused`, `refuses`, `fault` or `refusalAlong` with a numeral
-behind it, and in a definition whose name ends in Refusal by an arm of `cond` that is a numeral. An operation gives what its definition
-names and what is given by those that it names. An arm that is written out is looked for before one that is a name of `let`, since
-the definitions bind by `let` what comes later.
+The numbers are read from the text of the definitions, which stand in DEFINED. A number is given by `refused`, `refuses`, `fault` or
+`refusalAlong` with a numeral behind it, and in a definition whose name ends in Refusal by a clause or an arm of `cond` that is a
+numeral. An operation gives what its definition names and what is given by those that it names. An arm that is written out is looked
+for before one that is a name of `let`, since the definitions bind by `let` what comes later.
 
 The library for Rust and the reasoner say of each number what the table says is wrong. And where a file refers to SPECIFICATION by
 section, as in SPECIFICATION 9.4, there is such a section.
@@ -28,8 +29,11 @@ OPERATIONS = {
     'compliance': ('Compliance', 'compliance'),
     'equality': ('Equality', 'equality'),
     'model_check': ('Model check', 'modelCheck'),
+    'read_owl': ('Read OWL', 'readOwl'),
 }
 PROGRAM = ('program', 'program')
+# the definitions of one operation may stand in a crate of its own
+DEFINED = ['crates/meaning/specs/*.antt', 'crates/owl/specs/*.antt']
 # where a number has its sentence once more: the form of a row, and numbers that it does not have
 SAID = {
     'gimbuka/src/refusal.rs': (r'\((\d+), "([^"]*)"\)', {40}),
@@ -58,7 +62,7 @@ def parsed(tokens):
 def definitions():
     """For each name the right-hand sides of its clauses."""
     bodies, name = {}, None
-    for path in glob('crates/meaning/specs/*.antt'):
+    for path in (path for form in DEFINED for path in glob(form)):
         for line in open(path, encoding='utf-8'):
             line = re.sub(r'(^|\s)--.*', '', line.rstrip())
             signature = SIGNATURE.match(line)
@@ -87,9 +91,15 @@ class Numbers:
         if name not in self.bodies or name in self.within:
             return []
         self.within.append(name)
-        numbers = [n for clause in self.bodies[name] for n in self.of(clause, {})]
+        numbers = [n for clause in self.bodies[name] for n in self.arm(clause, {})]
         self.within.pop()
         return numbers
+
+    def arm(self, items, lets):
+        """What a clause or an arm of `cond` gives: in a refusal it may be the number itself, and 0 is none."""
+        if len(items) == 1 and is_numeral(items[0]) and self.within[-1].endswith('Refusal'):
+            return [int(items[0])] if int(items[0]) else []
+        return self.of(items, lets)
 
     def of(self, items, lets):
         numbers, i = [], 0
@@ -102,10 +112,7 @@ class Numbers:
             elif item == 'cond':
                 numbers += self.of([items[i + 1]], lets)
                 for arm in sorted(items[i + 2:i + 4], key=lambda arm: isinstance(arm, str) and arm in lets):
-                    if is_numeral(arm) and self.within[-1].endswith('Refusal'):
-                        numbers += [int(arm)] if int(arm) else []
-                    else:
-                        numbers += self.of([arm], lets)
+                    numbers += self.arm([arm], lets)
                 i += 3
             elif item == 'secondRefusal' and i + 1 < len(items):
                 numbers += [self.more + n for n in self.of([items[i + 1]], lets)]
@@ -139,6 +146,12 @@ def orders(numbers, wrong):
     return found
 
 
+def named(cell, found):
+    """The operations that a cell of the table names."""
+    linked = re.findall(r'\[([^\]]+)\]', cell)
+    return [title for title in found if title not in linked] if re.match('all( but |$)', cell) else linked
+
+
 def rows(text, found, wrong):
     """The table's numbers, each with its operations and what is wrong."""
     table, sentences = {}, {}
@@ -150,8 +163,11 @@ def rows(text, found, wrong):
                 wrong.append('%s: row %d has not four cells' % (TABLE, number))
             if table and number <= max(table):
                 wrong.append('%s: row %d is not in number order' % (TABLE, number))
-            table[number] = list(found) if cells[1] == 'all' else re.findall(r'\[([^\]]+)\]', cells[1])
+            table[number] = named(cells[1], found)
             sentences[number] = cells[2][0].lower() + cells[2][1:].rstrip('.')
+    told = re.search(r'\n"All" are ([^.]*)\.', text)
+    if not told or re.findall(r'\[([^\]]+)\]', told[1]) != list(found):
+        wrong.append('%s: "all" are not %s' % (TABLE, ', '.join(found)))
     return table, sentences
 
 
