@@ -17,11 +17,11 @@ PLACES, CALLERS = 'layout', 'exports'
 # Each stage has a title, a colour, and its crates: the column and the row that each stands in, and what it is for.
 STAGES = [
     ('The shelf, used in many places: no arrows are drawn from these', '#f1f1ee', {
-        'meaning': (3, 0, 'every definition and the theorems about them; the names, the answers, the limits'),
+        'meaning': (3, 0, 'the definitions and the theorems about them; the names, the answers, the limits'),
         'intervals': (0.5, 1, 'lo..hi: inside, empty, touching'),
         'frames': (1.5, 1, 'what a call may change; 21; clearing'),
         'words': (2.5, 1, 'sets of numbers in words'),
-        'records': (3.5, 1, 'a word, a link; the way along a chain'),
+        'records': (3.5, 1, 'a word, a link; chains read and written'),
         'keys': (4.5, 1, 'feature and value as one number'),
         'layout': (5.5, 1, 'the map of the work slice'),
     }),
@@ -38,8 +38,8 @@ STAGES = [
         'preparation': (1, 4, 'all three'),
     }),
     ('3  Normal form', '#dcefee', {
-        'normal_form': (1, 5, 'a term as flat tables'),
-        'tabulation': (1, 6, 'and whether it is possible'),
+        'normal_form': (2, 5, 'a term as flat tables'),
+        'tabulation': (2, 6, 'and whether it is possible'),
     }),
     ('4  Split and tried', '#e2ebf8', {
         'splitting': (3, 3, 'ends, pieces, how many combinations'),
@@ -61,7 +61,14 @@ STAGES = [
         'containment': (4, 7, 'Possible and Compliance'),
         'equality': (5, 7, 'Equality'),
     }),
-    ('7  What callers see', '#f1f1ee', {
+    ('7  A vocabulary from OWL text', '#f8e9dc', {
+        'tokens': (0.5, 5, 'bytes to tokens'),
+        'name_table': (0, 6, 'names, and their numbers by look-up'),
+        'statements': (1, 6, 'tokens to the eight forms'),
+        'declarations': (0, 7, 'the declared names, counted and listed'),
+        'owl': (1, 7, 'the operation Read OWL: 41, 42, 1, 23'),
+    }),
+    ('8  What callers see', '#f1f1ee', {
         'input': (0, 8, 'bytes to words and parts'),
         'printing': (1, 8, 'bytes, names, decimals'),
         'exports': (5, 8, 'the operations for C'),
@@ -77,7 +84,8 @@ PLACE = {name: place for _, _, crates in STAGES for name, place in crates.items(
 # The points, in columns and rows, by which an arrow goes around what is in its way; it starts and ends at the sides named.
 WAYS = {
     ('vocabulary', 'model'): ('top', [(1.3, 1.54), (6, 1.54)], 'top'),
-    ('policy', 'normal_form'): ('bottom', [(3.7, 2.4), (2.5, 2.4), (2.5, 5)], 'right'),
+    ('preparation', 'normal_form'): ('right', [(2.24, 4)], 'top'),
+    ('policy', 'normal_form'): ('bottom', [(3.7, 2.4), (2.5, 2.4), (2.5, 4.45), (2.37, 4.45)], 'top'),
     ('policy', 'spans'): ('bottom', [(4.3, 2.4), (5.5, 2.4), (5.5, 4)], 'left'),
     ('model_check', 'exports'): ('bottom', [(5.8, 7.39), (5.2, 7.39)], 'top'),
 }
