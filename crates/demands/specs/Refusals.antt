@@ -1,4 +1,4 @@
--- The order of refusals, operation by operation (SPECIFICATION 9.2 to 9.8, and 9.10): a list of numbers, each 0 where its condition does not hold.
+-- The order of refusals, operation by operation (SPECIFICATION 9.2 to 9.8, and 9.12): a list of numbers, each 0 where its condition does not hold.
 use Prim.Native.Nat.{ℕ}
 use mathlib.Core.Bool.{Bool, _||_, cond}
 use mathlib.Core.List.{List, [], _∷_}
@@ -73,7 +73,7 @@ abbrev pub formsRefusal : Parsed → ℕ
 formsRefusal wrong = 41
 formsRefusal (parsed l) = 0
 
--- SPECIFICATION 9.10: 41; 42, the names of its statements; 1, their axioms; 23, the words
+-- SPECIFICATION 9.12: 41; 42, the names of its statements; 1, their axioms; 23, the words
 abbrev pub owlOrder : List ℕ → ℕ → List ℕ
 owlOrder text o =
     let l = listOf (parsedOf text) in

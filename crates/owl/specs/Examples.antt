@@ -1,4 +1,4 @@
--- SPECIFICATION 11.4: OWL texts with their answers, a table. Most of the settled readings of 3.4 and 9.10 have a row.
+-- SPECIFICATION 11.4: OWL texts with their answers, a table. Most of the settled readings of 3.4 and 9.12 have a row.
 use Prim.Native.Nat.{ℕ}
 use Prim.Native.String.{String}
 use mathlib.Core.List.{List, [], _++_, _∷_, map}
