@@ -15,14 +15,14 @@ use Rattle.meaning.specs.Records.{Name}
 use Rattle.meaning.specs.Vocabulary.{Axiom}
 use Rattle.name_table.proofs.Numbers.{number-of-range}
 use Rattle.owl.specs.Owl.{axiomsBy}
-use Rattle.statements.specs.Forms.{Front, Parsed, Piece, Row, Sort, Statement, Taken, Use, after, afterOpening, ahead, class, exactly, feature}
+use Rattle.statements.specs.Forms.{Front, Parsed, Symbol, Row, Sort, Statement, Taken, Use, after, afterOpening, ahead, class, exactly, feature}
 use Rattle.statements.specs.Forms.{firstForm, forms, front, frontOf, isLast, left, name, none, nothing, ontology, opening, orLater, parsed, role}
-use Rattle.statements.specs.Forms.{statements, statementsFrom, taken, takePieces, withName, wrong}
+use Rattle.statements.specs.Forms.{statements, statementsFrom, taken, takeSymbols, withName, wrong}
 use Rattle.tokens.specs.Tokens.{Token, isNameToken, sameBytes}
 
 -- ---- the sorts of a statement's names are those of its form's places
 
-abbrev placesOf : List Piece → List Sort
+abbrev placesOf : List Symbol → List Sort
 placesOf [] = []
 placesOf (exactly w ∷ ps) = placesOf ps
 placesOf (name s ∷ ps) = s ∷ placesOf ps
@@ -46,27 +46,27 @@ chosen : (b : Bool) {x : Taken} {ss : List Sort} → Takes x ss → Takes (cond 
 chosen true h = h
 chosen false h = never
 
-pieces-take : (ps : List Piece) (ts : List Token) → Takes (takePieces ps ts) (placesOf ps)
-pieces-take [] ts = λ us rest e. let d : [] ≡ us = cc in sym (ap sortsOf d)
-pieces-take (exactly w ∷ ps) [] = never
-pieces-take (name s ∷ ps) [] = never
-pieces-take (exactly w ∷ ps) (t ∷ ts) = chosen (sameBytes t w) (pieces-take ps ts)
-pieces-take (name s ∷ ps) (t ∷ ts) = chosen (isNameToken t) (named-takes s t (takePieces ps ts) (pieces-take ps ts))
+symbols-take : (ps : List Symbol) (ts : List Token) → Takes (takeSymbols ps ts) (placesOf ps)
+symbols-take [] ts = λ us rest e. let d : [] ≡ us = cc in sym (ap sortsOf d)
+symbols-take (exactly w ∷ ps) [] = never
+symbols-take (name s ∷ ps) [] = never
+symbols-take (exactly w ∷ ps) (t ∷ ts) = chosen (sameBytes t w) (symbols-take ps ts)
+symbols-take (name s ∷ ps) (t ∷ ts) = chosen (isNameToken t) (named-takes s t (takeSymbols ps ts) (symbols-take ps ts))
 
 -- ---- what holds of all that a form can say holds of every statement
 
 module _ (P : Statement → Type 0) where
   abbrev Says : Row → Type 0
-  Says f = (us : List Use) → sortsOf us ≡ placesOf (f .pieces) → P (f .says us)
+  Says f = (us : List Use) → sortsOf us ≡ placesOf (f .symbols) → P (f .says us)
 
   abbrev InFront : Front → Type 0
   InFront x = (s : Statement) (rest : List Token) → x ≡ front s rest → P s
 
   first-holds : (fs : List Row) (ts : List Token) → All Says fs → InFront (firstForm fs ts)
   first-holds [] ts nil = λ s rest e. let z : _≡_ {A = ℕ} 0 1 = cc in absurd (omega arith)
-  first-holds (f ∷ fs) ts (cons h hs) = go (takePieces (f .pieces) ts) (pieces-take (f .pieces) ts) (first-holds fs ts hs)
+  first-holds (f ∷ fs) ts (cons h hs) = go (takeSymbols (f .symbols) ts) (symbols-take (f .symbols) ts) (first-holds fs ts hs)
     where
-      go : (x : Taken) → Takes x (placesOf (f .pieces)) → InFront (firstForm fs ts) → InFront (orLater (f .says) x (firstForm fs ts))
+      go : (x : Taken) → Takes x (placesOf (f .symbols)) → InFront (firstForm fs ts) → InFront (orLater (f .says) x (firstForm fs ts))
       go none k later = later
       go (taken us more) k later = λ s rest e. let d : f .says us ≡ s = cc in rw (← d) (h us (k us more refl))
 
@@ -95,7 +95,7 @@ module _ (P : Statement → Type 0) where
 
     ontology-holds : (ts : List Token) → AllHold (ontology ts)
     unfolding ontology statements
-    ontology-holds ts = go (takePieces (exactly (bytes "Ontology") ∷ (opening ∷ [])) ts)
+    ontology-holds ts = go (takeSymbols (exactly (bytes "Ontology") ∷ (opening ∷ [])) ts)
       where
         go : (x : Taken) → AllHold (afterOpening x)
         go none = λ l e. let z : _≡_ {A = ℕ} 0 1 = cc in absurd (omega arith)

@@ -23,8 +23,8 @@ four a b c d rest = a ∷ (b ∷ (c ∷ (d ∷ rest)))
 
 -- used before it is declared, one name in two sorts, two names without a space, layout; no axiom; every kind, equal axioms, a class
 -- disjoint from itself; a name of 32
-abbrev pub written : List Example
-written =
+abbrev legal : List Example
+legal =
     writes "Ontology( SubClassOf(:A:B) Declaration(Class(:B)) Declaration ( Class(:A ))\n\tFunctionalDataProperty(:A)Declaration(DataProperty(:A)))" 12
     (four 2 0 1 1 (four 1 2 1 2 (four 4 1 0 0 [])))
     ∷ (writes "Ontology(Declaration(Class(:A1)))" 4 (four 1 0 0 0 [])
@@ -78,7 +78,7 @@ misnamed =
 
 abbrev pub owlExamples : List Example
 owlExamples =
-    written
+    legal
     ++ (map (λ (text : String). isRefused text 100 41) departing
     ++ (map (λ (text : String). isRefused text 0 42) misnamed
     ++ (isRefused "Ontology(Declaration(Class(:A))SubClassOf(:A:A))" 7 23 ∷ [])))

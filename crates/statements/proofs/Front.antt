@@ -9,20 +9,20 @@ use borrow.Author.Tests.{ne-eqb, not-false, not-true}
 use Rattle.meaning.specs.Program.{bytes}
 use Rattle.tokens.specs.Places.{headed, part}
 use Rattle.tokens.specs.Tokens.{tokens}
-use Rattle.statements.specs.declared.Form.{Form}
+use Rattle.statements.specs.declared.Fit.{Fit}
 use Rattle.statements.specs.declared.Item.{Item}
-use Rattle.statements.specs.Forms.{Piece, Sort, class, closing, declares, feature, forms, frontOf, name, none, role, states}
-use Rattle.statements.specs.Forms.{taken, takePieces}
+use Rattle.statements.specs.Forms.{Symbol, Sort, class, closing, declares, feature, forms, frontOf, name, none, role, states}
+use Rattle.statements.specs.Forms.{taken, takeSymbols}
 use Rattle.statements.specs.Found.{IsStatement, One, Placed, Stated, TriedOne, TriedTwo, Two, Within, chosen, declaring, heading, itemOf}
 use Rattle.statements.specs.Found.{used}
 
 -- a form of one name, and nothing behind it
-whole : {ws vs : List Piece} {text : List ℕ} {start stop : ℕ} {f : Form} → One ws vs text start stop f → (x : Sort) →
-    takePieces (ws ++ (name x ∷ vs)) (headed text start stop) ≡
+whole : {ws vs : List Symbol} {text : List ℕ} {start stop : ℕ} {f : Fit} → One ws vs text start stop f → (x : Sort) →
+    takeSymbols (ws ++ (name x ∷ vs)) (headed text start stop) ≡
     cond (f .ok) (taken (used x (part text (f .from) (f .to)) ∷ []) (tokens (drop (f .next) text))) none
 whole {vs = vs} o x = rw (append-nil vs) at (o .same x [])
 
-module _ {ws vs : List Piece} {kind : ℕ} {text : List ℕ} {start stop : ℕ} {s : Item} (p : Placed 8 text start s) where
+module _ {ws vs : List Symbol} {kind : ℕ} {text : List ℕ} {start stop : ℕ} {s : Item} (p : Placed 8 text start s) where
   -- what was found stays
   pub stays-one : (s .kind ≡ 0 → ⊥) → TriedOne ws vs kind text start stop s s
   unfolding chosen
@@ -32,7 +32,7 @@ module _ {ws vs : List Piece} {kind : ℕ} {text : List ℕ} {start stop : ℕ} 
   unfolding chosen
   stays-two n = record { placed = p; same = λ x y says fs e. rw (ne-eqb (s .kind) 0 n) }
 
-  module _ (z : s .kind ≡ 0) {f : Form} where
+  module _ (z : s .kind ≡ 0) {f : Fit} where
     module _ (o : One ws vs text start stop f) where
       -- the form does not stand there, or it does
       pub misses-one : not (f .ok) ≡ true → TriedOne ws vs kind text start stop s s
@@ -61,7 +61,7 @@ module _ {ws vs : List Piece} {kind : ℕ} {text : List ℕ} {start stop : ℕ} 
           })
 
 -- nothing was found yet, and the end is no statement
-module _ {text : List ℕ} {start stop : ℕ} {f : Form} (h : Within text start stop)
+module _ {text : List ℕ} {start stop : ℕ} {f : Fit} (h : Within text start stop)
     (e : f ≡ record { ok = false; from = start; to = stop; from2 = start; to2 = stop; next = stop }) where
   pub none-placed : {r : Item} → r ≡ itemOf 0 f → Placed 8 text start r
   none-placed d = rw (d, e) (record { few = omega arith; solid = λ n. absurd (n refl); first = h; second = h; ends = h .1 })

@@ -10,13 +10,13 @@ use borrow.Author.Tests.{ltb-true, ne-eqb}
 use Rattle.meaning.specs.Lists.{All, cons, nil}
 use Rattle.tokens.specs.Places.{Read, headed, part}
 use Rattle.tokens.specs.Tokens.{Token, isNameToken, sameBytes, tokens}
-use Rattle.statements.specs.declared.Form.{Form}
+use Rattle.statements.specs.declared.Fit.{Fit}
 use Rattle.statements.specs.declared.Item.{Item}
-use Rattle.statements.specs.Forms.{Front, Parsed, Piece, Row, Sort, Statement, Taken, Use, after, ahead, exactly, firstForm, forms, front, frontOf}
-use Rattle.statements.specs.Forms.{isLast, left, name, none, nothing, orLater, parsed, statements, statementsFrom, taken, takePieces, withName, wrong}
+use Rattle.statements.specs.Forms.{Front, Parsed, Symbol, Row, Sort, Statement, Taken, Use, after, ahead, exactly, firstForm, forms, front, frontOf}
+use Rattle.statements.specs.Forms.{isLast, left, name, none, nothing, orLater, parsed, statements, statementsFrom, taken, takeSymbols, withName, wrong}
 use Rattle.statements.specs.Found.{Next, Stated, chosen, followed, itemAt, itemOf}
 
--- ---- a form takes a token for each piece
+-- ---- a form takes a token for each symbol
 
 abbrev Shortens : ℕ → List Token → Taken → Type 0
 Shortens n ts x = (us : List Use) (rest : List Token) → x ≡ taken us rest → length rest + n ≡ length ts
@@ -32,22 +32,22 @@ chosen-shortens : (b : Bool) (n : ℕ) (t : Token) (ts : List Token) (x : Taken)
 chosen-shortens true n t ts x h = λ us rest e. let q = h us rest e in omega arith
 chosen-shortens false n t ts x h = no-taken (suc n) (t ∷ ts)
 
-take-shortens : (ps : List Piece) (ts : List Token) → Shortens (length ps) ts (takePieces ps ts)
+take-shortens : (ps : List Symbol) (ts : List Token) → Shortens (length ps) ts (takeSymbols ps ts)
 take-shortens [] ts = λ us rest e. let d : ts ≡ rest = cc in rw d (omega arith)
 take-shortens (exactly w ∷ ps) [] = no-taken (suc (length ps)) []
 take-shortens (name s ∷ ps) [] = no-taken (suc (length ps)) []
-take-shortens (exactly w ∷ ps) (t ∷ ts) = chosen-shortens (sameBytes t w) (length ps) t ts (takePieces ps ts) (take-shortens ps ts)
+take-shortens (exactly w ∷ ps) (t ∷ ts) = chosen-shortens (sameBytes t w) (length ps) t ts (takeSymbols ps ts) (take-shortens ps ts)
 take-shortens (name s ∷ ps) (t ∷ ts) =
-    chosen-shortens (isNameToken t) (length ps) t ts (withName s t (takePieces ps ts)) (named-shortens (length ps) ts (takePieces ps ts) s t (take-shortens ps ts))
+    chosen-shortens (isNameToken t) (length ps) t ts (withName s t (takeSymbols ps ts)) (named-shortens (length ps) ts (takeSymbols ps ts) s t (take-shortens ps ts))
 
 abbrev Shorter : List Token → Front → Type 0
 Shorter ts x = (s : Statement) (rest : List Token) → x ≡ front s rest → length rest < length ts
 
-first-shorter : (fs : List Row) (ts : List Token) → All (λ (f : Row). 1 ≤ length (f .pieces)) fs → Shorter ts (firstForm fs ts)
+first-shorter : (fs : List Row) (ts : List Token) → All (λ (f : Row). 1 ≤ length (f .symbols)) fs → Shorter ts (firstForm fs ts)
 first-shorter [] ts nil = λ s rest e. let z : _≡_ {A = ℕ} 0 1 = cc in absurd (omega arith)
-first-shorter (f ∷ fs) ts (cons h hs) = go (takePieces (f .pieces) ts) (take-shortens (f .pieces) ts) (first-shorter fs ts hs)
+first-shorter (f ∷ fs) ts (cons h hs) = go (takeSymbols (f .symbols) ts) (take-shortens (f .symbols) ts) (first-shorter fs ts hs)
   where
-    go : (x : Taken) → Shortens (length (f .pieces)) ts x → Shorter ts (firstForm fs ts) → Shorter ts (orLater (f .says) x (firstForm fs ts))
+    go : (x : Taken) → Shortens (length (f .symbols)) ts x → Shorter ts (firstForm fs ts) → Shorter ts (orLater (f .says) x (firstForm fs ts))
     go none k later = later
     go (taken us more) k later = λ s rest e. let d : more ≡ rest = cc in let q = k us more refl in rw (← d) (omega arith)
 
@@ -114,7 +114,7 @@ chosen-followed text from to r few = rw (ne-eqb (r .kind) 9 (λ d. omega arith))
 
 module _ {text : List ℕ} {at from to : ℕ} (t : Read text at from to) {b : Bool} (e : b ≡ isLast (headed text from to)) where
   -- the end of the ontology
-  pub next-end : b ≡ true → {f : Form} → f ≡ record { ok = false; from = from; to = to; from2 = from; to2 = to; next = to } →
+  pub next-end : b ≡ true → {f : Fit} → f ≡ record { ok = false; from = from; to = to; from2 = from; to2 = to; next = to } →
       {r : Item} → r ≡ itemOf 9 f → Next text at r
   next-end h d q =
       rw (q, d) (record {

@@ -22,30 +22,30 @@ pub data Statement : Type 0 where
   states : ℕ → List Use → Statement
 
 -- what stands at a place of a form: one token, or a name of a sort
-pub data Piece : Type 0 where
-  exactly : Token → Piece
-  name : Sort → Piece
+pub data Symbol : Type 0 where
+  exactly : Token → Symbol
+  name : Sort → Symbol
 
 -- a form, and the statement that its names make
 pub record Row : Type 0 where
-  pub pieces : List Piece
+  pub symbols : List Symbol
   pub says : List Use → Statement
 
-abbrev pub opening : Piece
+abbrev pub opening : Symbol
 opening = exactly (bytes "(")
 
-abbrev pub closing : Piece
+abbrev pub closing : Symbol
 closing = exactly (bytes ")")
 
 abbrev pub declaration : Token → Sort → Row
 declaration word s =
     record {
-      pieces = exactly (bytes "Declaration") ∷ (opening ∷ (exactly word ∷ (opening ∷ (name s ∷ (closing ∷ (closing ∷ []))))));
+      symbols = exactly (bytes "Declaration") ∷ (opening ∷ (exactly word ∷ (opening ∷ (name s ∷ (closing ∷ (closing ∷ []))))));
       says = declares s;
     }
 
 abbrev pub axiomForm : ℕ → Token → List Sort → Row
-axiomForm kind word places = record { pieces = exactly word ∷ (opening ∷ (map name places ++ (closing ∷ []))); says = states kind }
+axiomForm kind word places = record { symbols = exactly word ∷ (opening ∷ (map name places ++ (closing ∷ []))); says = states kind }
 
 -- an axiom has the kind of its record, and the sorts of its names
 unfoldable pub forms : List Row
@@ -69,11 +69,11 @@ abbrev pub withName : Sort → Token → Taken → Taken
 withName s t none = none
 withName s t (taken us rest) = taken (record { sort = s; token = t } ∷ us) rest
 
-abbrev pub takePieces : List Piece → List Token → Taken
-takePieces [] ts = taken [] ts
-takePieces (p ∷ ps) [] = none
-takePieces (exactly w ∷ ps) (t ∷ ts) = let more = takePieces ps ts in cond (sameBytes t w) more none
-takePieces (name s ∷ ps) (t ∷ ts) = let more = withName s t (takePieces ps ts) in cond (isNameToken t) more none
+abbrev pub takeSymbols : List Symbol → List Token → Taken
+takeSymbols [] ts = taken [] ts
+takeSymbols (p ∷ ps) [] = none
+takeSymbols (exactly w ∷ ps) (t ∷ ts) = let more = takeSymbols ps ts in cond (sameBytes t w) more none
+takeSymbols (name s ∷ ps) (t ∷ ts) = let more = withName s t (takeSymbols ps ts) in cond (isNameToken t) more none
 
 -- the statement at the front of the tokens, and the tokens left
 pub data Front : Type 0 where
@@ -86,7 +86,7 @@ orLater says (taken us rest) later = front (says us) rest
 
 abbrev pub firstForm : List Row → List Token → Front
 firstForm [] ts = nothing
-firstForm (f ∷ fs) ts = let later = firstForm fs ts in orLater (f .says) (takePieces (f .pieces) ts) later
+firstForm (f ∷ fs) ts = let later = firstForm fs ts in orLater (f .says) (takeSymbols (f .symbols) ts) later
 
 unfoldable pub frontOf : List Token → Front
 frontOf ts = firstForm forms ts
@@ -129,4 +129,4 @@ afterOpening (taken us rest) = statements rest
 
 -- one ontology of these forms, and nothing beside it
 unfoldable pub ontology : List Token → Parsed
-ontology ts = afterOpening (takePieces (exactly (bytes "Ontology") ∷ (opening ∷ [])) ts)
+ontology ts = afterOpening (takeSymbols (exactly (bytes "Ontology") ∷ (opening ∷ [])) ts)

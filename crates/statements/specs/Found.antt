@@ -8,22 +8,22 @@ use lib.ListN.{drop, length}
 use Rattle.meaning.specs.Program.{bytes}
 use Rattle.tokens.specs.Places.{headed, part}
 use Rattle.tokens.specs.Tokens.{Token, sameBytes, tokens}
-use Rattle.statements.specs.declared.Form.{Form}
+use Rattle.statements.specs.declared.Fit.{Fit}
 use Rattle.statements.specs.declared.Item.{Item}
 use Rattle.statements.specs.declared.Step.{Step}
-use Rattle.statements.specs.Forms.{Front, Parsed, Piece, Row, Sort, Statement, Use, after, class, declares, exactly, feature, firstForm, front, frontOf}
-use Rattle.statements.specs.Forms.{name, none, ontology, opening, parsed, role, statements, states, taken, takePieces, withName, wrong}
+use Rattle.statements.specs.Forms.{Front, Parsed, Symbol, Row, Sort, Statement, Use, after, class, declares, exactly, feature, firstForm, front, frontOf}
+use Rattle.statements.specs.Forms.{name, none, ontology, opening, parsed, role, statements, states, taken, takeSymbols, withName, wrong}
 
 -- two places of a text, one not behind the other
 abbrev pub Within : List ℕ → ℕ → ℕ → Type 0
 Within text from to = (from ≤ to) × (to ≤ length text)
 
--- ---- pieces
+-- ---- symbols
 
--- the pieces are in front of the tokens, and the tokens behind them are those from next on; or they are not
-pub record Passed (ws : List Piece) (text : List ℕ) (ts : List Token) (ok : Bool) (next : ℕ) : Type 0 where
+-- the symbols are in front of the tokens, and the tokens behind them are those from next on; or they are not
+pub record Passed (ws : List Symbol) (text : List ℕ) (ts : List Token) (ok : Bool) (next : ℕ) : Type 0 where
   pub ends : next ≤ length text
-  pub same : (ps : List Piece) → takePieces (ws ++ ps) ts ≡ cond ok (takePieces ps (tokens (drop next text))) none
+  pub same : (ps : List Symbol) → takeSymbols (ws ++ ps) ts ≡ cond ok (takeSymbols ps (tokens (drop next text))) none
 
 -- the first token is a word
 abbrev pub first : Token → List Token → Bool
@@ -51,8 +51,8 @@ pub record Named (text : List ℕ) (at : ℕ) (ok : Bool) (from to : ℕ) : Type
   pub begins : at ≤ from
   pub rises : from ≤ to
   pub ends : to ≤ length text
-  pub same : (s : Sort) (ps : List Piece) →
-      takePieces (name s ∷ ps) (tokens (drop at text)) ≡ cond ok (withName s (part text from to) (takePieces ps (tokens (drop to text)))) none
+  pub same : (s : Sort) (ps : List Symbol) →
+      takeSymbols (name s ∷ ps) (tokens (drop at text)) ≡ cond ok (withName s (part text from to) (takeSymbols ps (tokens (drop to text)))) none
 
 -- ---- forms
 
@@ -60,30 +60,30 @@ abbrev pub used : Sort → Token → Use
 used s t = record { sort = s; token = t }
 
 -- a form of one name, at a token that was read
-pub record One (ws vs : List Piece) (text : List ℕ) (start stop : ℕ) (r : Form) : Type 0 where
+pub record One (ws vs : List Symbol) (text : List ℕ) (start stop : ℕ) (r : Fit) : Type 0 where
   pub solid : r .ok ≡ true → start < r .next
   pub place : Within text (r .from) (r .to)
   pub place₂ : Within text (r .from2) (r .to2)
   pub ends : r .next ≤ length text
-  pub same : (s : Sort) (ps : List Piece) →
-      takePieces (ws ++ (name s ∷ (vs ++ ps))) (headed text start stop) ≡
-      cond (r .ok) (withName s (part text (r .from) (r .to)) (takePieces ps (tokens (drop (r .next) text)))) none
+  pub same : (s : Sort) (ps : List Symbol) →
+      takeSymbols (ws ++ (name s ∷ (vs ++ ps))) (headed text start stop) ≡
+      cond (r .ok) (withName s (part text (r .from) (r .to)) (takeSymbols ps (tokens (drop (r .next) text)))) none
 
 -- a form of two
-pub record Two (ws vs : List Piece) (text : List ℕ) (start stop : ℕ) (r : Form) : Type 0 where
+pub record Two (ws vs : List Symbol) (text : List ℕ) (start stop : ℕ) (r : Fit) : Type 0 where
   pub solid : r .ok ≡ true → start < r .next
   pub place : Within text (r .from) (r .to)
   pub place₂ : Within text (r .from2) (r .to2)
   pub ends : r .next ≤ length text
   pub same : (s t : Sort) →
-      takePieces (ws ++ (name s ∷ (name t ∷ vs))) (headed text start stop) ≡
+      takeSymbols (ws ++ (name s ∷ (name t ∷ vs))) (headed text start stop) ≡
       cond (r .ok) (taken (used s (part text (r .from) (r .to)) ∷ (used t (part text (r .from2) (r .to2)) ∷ [])) (tokens (drop (r .next) text))) none
 
 -- what stands in front of a form's names
-abbrev pub heading : Token → List Piece
+abbrev pub heading : Token → List Symbol
 heading word = exactly word ∷ (opening ∷ [])
 
-abbrev pub declaring : Token → List Piece
+abbrev pub declaring : Token → List Symbol
 declaring word = exactly (bytes "Declaration") ∷ (opening ∷ (exactly word ∷ (opening ∷ [])))
 
 -- ---- statements
@@ -106,7 +106,7 @@ abbrev pub itemAt : List ℕ → Item → Statement
 itemAt text r = statementOf (r .kind) (part text (r .from) (r .to)) (part text (r .from2) (r .to2))
 
 -- the item of a form that stands there
-abbrev pub itemOf : ℕ → Form → Item
+abbrev pub itemOf : ℕ → Fit → Item
 itemOf k f = record { kind = k; from = f .from; to = f .to; from2 = f .from2; to2 = f .to2; next = f .next }
 
 -- where an item that was read from a place on stands, its number being at most so much
@@ -124,15 +124,15 @@ chosen text start stop r fs =
     cond (eqb (r .kind) 0) later (front (itemAt text r) (tokens (drop (r .next) text)))
 
 -- one more form of one name is tried, or of two: what it says is the statement of its number
-pub record TriedOne (ws vs : List Piece) (kind : ℕ) (text : List ℕ) (start stop : ℕ) (s r : Item) : Type 0 where
+pub record TriedOne (ws vs : List Symbol) (kind : ℕ) (text : List ℕ) (start stop : ℕ) (s r : Item) : Type 0 where
   pub placed : Placed 8 text start r
   pub same : (x : Sort) (says : List Use → Statement) (fs : List Row) → ((a b : Token) → says (used x a ∷ []) ≡ statementOf kind a b) →
-      chosen text start stop s (record { pieces = ws ++ (name x ∷ vs); says = says } ∷ fs) ≡ chosen text start stop r fs
+      chosen text start stop s (record { symbols = ws ++ (name x ∷ vs); says = says } ∷ fs) ≡ chosen text start stop r fs
 
-pub record TriedTwo (ws vs : List Piece) (kind : ℕ) (text : List ℕ) (start stop : ℕ) (s r : Item) : Type 0 where
+pub record TriedTwo (ws vs : List Symbol) (kind : ℕ) (text : List ℕ) (start stop : ℕ) (s r : Item) : Type 0 where
   pub placed : Placed 8 text start r
   pub same : (x y : Sort) (says : List Use → Statement) (fs : List Row) → ((a b : Token) → says (used x a ∷ (used y b ∷ [])) ≡ statementOf kind a b) →
-      chosen text start stop s (record { pieces = ws ++ (name x ∷ (name y ∷ vs)); says = says } ∷ fs) ≡ chosen text start stop r fs
+      chosen text start stop s (record { symbols = ws ++ (name x ∷ (name y ∷ vs)); says = says } ∷ fs) ≡ chosen text start stop r fs
 
 -- the item in front at a token, 0 for none
 pub record Stated (text : List ℕ) (start stop : ℕ) (r : Item) : Type 0 where

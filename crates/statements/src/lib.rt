@@ -26,7 +26,7 @@ pub struct Name {
 }
 
 // A form's names: of a form of one, the second is the first.
-pub struct Form {
+pub struct Fit {
     pub ok: bool,
     pub from: usize,
     pub to: usize,
@@ -102,7 +102,7 @@ fn begin(text: &[u8], t: Token, word: &[u8]) -> Step
 }
 
 // A word with one name in brackets.
-fn one_name(text: &[u8], t: Token, word: &[u8]) -> Form
+fn one_name(text: &[u8], t: Token, word: &[u8]) -> Fit
     requires { ⌜ Within (now text) (t .from) (t .to) ⌝ }
     ensures { λ r. ⌜ One (heading (now (word .entry))) (closing ∷ []) (now (text .entry)) (t .from) (t .to) r ⌝ }
 {
@@ -118,7 +118,7 @@ fn one_name(text: &[u8], t: Token, word: &[u8]) -> Form
     if !close.ok {
         return unfit(t);
     }
-    Form {
+    Fit {
         ok: true,
         from: name.from,
         to: name.to,
@@ -128,10 +128,10 @@ fn one_name(text: &[u8], t: Token, word: &[u8]) -> Form
     }
 }
 
-fn unfit(t: Token) -> Form
+fn unfit(t: Token) -> Fit
     ensures { λ r. ⌜ r ≡ record { ok = false; from = t .from; to = t .to; from2 = t .from; to2 = t .to; next = t .to } ⌝ }
 {
-    Form {
+    Fit {
         ok: false,
         from: t.from,
         to: t.to,
@@ -142,7 +142,7 @@ fn unfit(t: Token) -> Form
 }
 
 // A word with two names in brackets.
-fn two_names(text: &[u8], t: Token, word: &[u8]) -> Form
+fn two_names(text: &[u8], t: Token, word: &[u8]) -> Fit
     requires { ⌜ Within (now text) (t .from) (t .to) ⌝ }
     ensures { λ r. ⌜ Two (heading (now (word .entry))) (closing ∷ []) (now (text .entry)) (t .from) (t .to) r ⌝ }
 {
@@ -162,7 +162,7 @@ fn two_names(text: &[u8], t: Token, word: &[u8]) -> Form
     if !close.ok {
         return unfit(t);
     }
-    Form {
+    Fit {
         ok: true,
         from: name.from,
         to: name.to,
@@ -173,7 +173,7 @@ fn two_names(text: &[u8], t: Token, word: &[u8]) -> Form
 }
 
 // A declaration of a name in a sort.
-fn declaration(text: &[u8], t: Token, sort: &[u8]) -> Form
+fn declaration(text: &[u8], t: Token, sort: &[u8]) -> Fit
     requires { ⌜ Within (now text) (t .from) (t .to) ⌝ }
     ensures { λ r. ⌜ One (declaring (now (sort .entry))) (closing ∷ (closing ∷ [])) (now (text .entry)) (t .from) (t .to) r ⌝ }
 {
@@ -189,7 +189,7 @@ fn declaration(text: &[u8], t: Token, sort: &[u8]) -> Form
     if !last.ok {
         return unfit(t);
     }
-    Form {
+    Fit {
         ok: true,
         from: inner.from,
         to: inner.to,
@@ -199,7 +199,7 @@ fn declaration(text: &[u8], t: Token, sort: &[u8]) -> Form
     }
 }
 
-fn found(kind: u32, f: Form) -> Item
+fn found(kind: u32, f: Fit) -> Item
     ensures { λ r. ⌜ r ≡ itemOf kind f ⌝ }
 {
     Item {

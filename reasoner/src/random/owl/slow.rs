@@ -18,6 +18,10 @@ pub fn texts() -> Vec<(&'static str, Text)> {
         ("256 classes of 2, 1,024 axioms of the last", text(0, 256, 256, 1_024)),
         ("256 classes of 2, axioms of the last: 1", text(0, 256, 256, FILL)),
         ("1 class of 2, axioms: 1", text(0, 1, 1, FILL)),
+        (
+            "256 classes of one sum in base 31, axioms of the last",
+            text_of(&one_sum, 256, 256, FILL),
+        ),
         ("978 classes alike in 30 of 32, axioms of the last: 42", text(30, 978, 978, FILL)),
         ("1,236 classes alike in 30 of 32: 42", text(30, 1_236, 1, 0)),
         ("2,848 classes of 2: 42", text(0, 2_848, 1, 0)),
@@ -39,11 +43,22 @@ fn name(alike: usize, number: usize) -> String {
     format!(":{}{}{}", "a".repeat(alike), own[0], own[1])
 }
 
+/// The name of one of 256 classes that the sum of the bytes in base 31, a common hash, does not tell apart: "Aa" and "BB" have one.
+fn one_sum(number: usize) -> String {
+    let block = |bit: usize| if number >> bit & 1 == 0 { "Aa" } else { "BB" };
+    format!(":{}{}", "a".repeat(16), (0..8).rev().map(block).collect::<String>())
+}
+
 /// A text of so many classes whose names begin alike, and so many axioms of one of them, or as many as fit.
 fn text(alike: usize, classes: usize, used: usize, axioms: usize) -> Text {
-    let declaration = |number| format!("Declaration(Class({}))", name(alike, number));
+    text_of(&|number| name(alike, number), classes, used, axioms)
+}
+
+/// The same of classes with these names.
+fn text_of(name: &dyn Fn(usize) -> String, classes: usize, used: usize, axioms: usize) -> Text {
+    let declaration = |number| format!("Declaration(Class({}))", name(number));
     let declarations: String = (1..=classes).map(declaration).collect();
-    let used = name(alike, used);
+    let used = name(used);
     let axiom = format!("SubClassOf({used}{used})");
     let room = MOST_BYTES - "Ontology()".len() - declarations.len();
     let axioms = axiom.repeat(axioms.min(room / axiom.len()));
