@@ -1,7 +1,7 @@
 -- The examples hold of the definitions: one statement, computed.
 use mathlib.Core.List.{_++_}
 use mathlib.Core.Path.{refl}
-use Rattle.meaning.specs.Containment.{decide, firstFailure, passes, tooMany}
+use Rattle.meaning.specs.Containment.{crowded, decide, firstFailure, passes, resolve, shortWay, tooMany}
 use Rattle.meaning.specs.Countermodel.{canonicalModel, countermodel}
 use Rattle.meaning.specs.Examples.{Correct, further, starred}
 use Rattle.meaning.specs.Intervals.{valueOf}
@@ -19,10 +19,11 @@ use Rattle.meaning.specs.Stated.{isFunctionalRole, rangePairs, ranges, s
 use Rattle.meaning.specs.Vocabulary.{axiomsOf, vocabularyOf, vocabularyRefusal}
 
 pub answered : All Correct (starred ++ further)
-unfolding vocabularyRefusal axiomsOf vocabularyOf subclasses disjointPairs functionalRoles functionalFeatures rangePairs isBelow isFunctionalRole isFunctionalFeature ranges policyRefusal walk policyOf normalForm possible valueOf combinations combinationCount passes firstFailure decide tooMany canonicalModel modelWords countermodel modelRefusal factsOf refutes inputRefusal readVocabulary readPolicy readSecondPolicy possibility complianceOf compliance equalityOf equality modelCheck decimal printed program
+unfolding vocabularyRefusal axiomsOf vocabularyOf subclasses disjointPairs functionalRoles functionalFeatures rangePairs isBelow isFunctionalRole isFunctionalFeature ranges policyRefusal walk policyOf normalForm possible valueOf combinations combinationCount passes firstFailure decide tooMany shortWay resolve crowded canonicalModel modelWords countermodel modelRefusal factsOf refutes inputRefusal readVocabulary readPolicy readSecondPolicy possibility complianceOf compliance equalityOf equality modelCheck decimal printed program
 answered =
     cons refl (cons refl (cons refl (cons refl (cons refl (cons refl (cons refl (cons refl (cons refl (cons refl (cons refl (cons refl
     (cons refl (cons refl (cons refl (cons refl (cons refl (cons refl (cons refl (cons refl (cons refl (cons refl (cons refl (cons refl
     (cons refl (cons refl (cons refl (cons refl (cons refl (cons refl (cons refl (cons refl (cons refl (cons refl (cons refl (cons refl
     (cons refl (cons refl (cons refl (cons refl (cons refl (cons refl (cons refl (cons refl (cons refl (cons refl (cons refl (cons refl
-    (cons refl (cons refl (cons refl (cons refl (cons refl (cons refl (cons refl nil))))))))))))))))))))))))))))))))))))))))))))))))))))))
+    (cons refl (cons refl (cons refl (cons refl (cons refl (cons refl (cons refl (cons refl (cons refl (cons refl (cons refl (cons refl
+    (cons refl (cons refl (cons refl (cons refl (cons refl (cons refl (cons refl nil))))))))))))))))))))))))))))))))))))))))))))))))))))))))))))))))))

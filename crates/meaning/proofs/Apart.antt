@@ -3,7 +3,7 @@ use Prim.Native.Nat.{_≤_, ℕ}
 use mathlib.Core.Bool.{false}
 use mathlib.Core.List.{List}
 use mathlib.Core.Logic.{_↔_, inl, inr, ⊎-elim}
-use mathlib.Core.Path.{_≡_, refl}
+use mathlib.Core.Path.{_∙_, _≡_, refl}
 use native.Mathlib.Omega.{arith}
 use borrow.Author.Tests.{le-ltb}
 use Rattle.meaning.proofs.Bounds.{bounded, bounded-terms}
@@ -12,8 +12,9 @@ use Rattle.meaning.proofs.Containment.{Decided, allComply, decided, som
 use Rattle.meaning.proofs.Equality.{both-ways, equal-right, one-way, other-way}
 use Rattle.meaning.proofs.Normal.{BoundedChain}
 use Rattle.meaning.proofs.Refusals.{accepted-input}
+use Rattle.meaning.proofs.ShortWay.{resolve-decide}
 use Rattle.meaning.specs.Answers.{VerdictResult, compliant, equal, result}
-use Rattle.meaning.specs.Containment.{Apart, Contained, Decision, Indistinct, Refutes, ToldApart, contained, decide, tooMany}
+use Rattle.meaning.specs.Containment.{Apart, Contained, Decision, Indistinct, Refutes, ToldApart, contained, crowded, decide, resolve}
 use Rattle.meaning.specs.Limits.{workSize}
 use Rattle.meaning.specs.Lists.{All}
 use Rattle.meaning.specs.Model.{Fact, stands}
@@ -56,8 +57,8 @@ module _ (K : Vocabulary) (w : Bounded K) (P Q : Policy) (f : All (BoundedChain 
       go d (someFails h) = absurd (none (refutes-apart (escape K w P Q f h .refutes)))
 
   -- where no interpretation has an individual in the first policy and outside the second, the decision is "contained"
-  pub decide-of-not-apart : (Apart K P Q → ⊥) → decide K P Q ≡ contained
-  decide-of-not-apart none = all-comply none .0
+  pub resolve-of-not-apart : (Apart K P Q → ⊥) → resolve K P Q ≡ contained
+  resolve-of-not-apart none = resolve-decide K P Q ∙ all-comply none .0
 
   pub contained-iff-not-apart : Contained K P Q ↔ (Apart K P Q → ⊥)
   contained-iff-not-apart = (λ c x. contained-not-apart c x, λ none. sound K P Q (all-comply none .1))
@@ -91,28 +92,28 @@ module _ (v p q : List ℕ) (w o : ℕ) where
       go none r (agreed c) t = refl
       go none r (escaped s k words h l) t = absurd (none (refutes-apart (h .refutes)))
 
-  module _ (accepted : inputRefusal v p q ≡ 0) (full : workSize ≤ w) (few : tooMany (vocabularyOf v) (policyOf p) (policyOf q) ≡ false) where
-    -- within Compliance's limits, whatever the output's length, "compliant" if and only if no interpretation has an individual in the policy and outside the consent
-    pub within-compliant-iff : (compliance v p q w o .answer ≡ result compliant) ↔ (Apart (vocabularyOf v) (policyOf p) (policyOf q) → ⊥)
+  module _ (accepted : inputRefusal v p q ≡ 0) (full : workSize ≤ w) (free : crowded (vocabularyOf v) (policyOf p) (policyOf q) ≡ false) where
+    -- where 22 is not given, whatever the output's length, "compliant" if and only if no interpretation has an individual in the policy and outside the consent
+    pub uncrowded-compliant-iff : (compliance v p q w o .answer ≡ result compliant) ↔ (Apart (vocabularyOf v) (policyOf p) (policyOf q) → ⊥)
     unfolding compliance complianceOf
-    within-compliant-iff = (
+    uncrowded-compliant-iff = (
       λ e x. contained-not-apart (compliant-right v p q w o e) x,
       λ none.
           let a = accepted-input v p q accepted in
-          let forth = decide-of-not-apart K (bounded v (a .vocabulary)) P Q (bounded-terms v p (a .firstPolicy)) none in
-          rw (accepted, le-ltb w workSize full, few, forth),
+          let forth = resolve-of-not-apart K (bounded v (a .vocabulary)) P Q (bounded-terms v p (a .firstPolicy)) none in
+          rw (accepted, le-ltb w workSize full, free, forth),
     )
 
-    -- within Equality's limits, whatever the output's length, "equal" exactly when no interpretation tells the two apart
-    pub within-equal-iff : tooMany (vocabularyOf v) (policyOf q) (policyOf p) ≡ false →
+    -- where it is given in neither direction, whatever the output's length, "equal" exactly when no interpretation tells the two apart
+    pub uncrowded-equal-iff : crowded (vocabularyOf v) (policyOf q) (policyOf p) ≡ false →
         (equality v p q w o .answer ≡ result equal) ↔ (ToldApart (vocabularyOf v) (policyOf p) (policyOf q) → ⊥)
     unfolding equality equalityOf
-    within-equal-iff fewer = (
+    uncrowded-equal-iff back-free = (
       λ e x. indistinct-not-told-apart (equal-right v p q w o e) x,
       λ none.
           let a = accepted-input v p q accepted in
           let b = bounded v (a .vocabulary) in
-          let forth = decide-of-not-apart K b P Q (bounded-terms v p (a .firstPolicy)) (λ x. none (inl x)) in
-          let back = decide-of-not-apart K b Q P (bounded-terms v q (a .secondPolicy)) (λ x. none (inr x)) in
-          rw (accepted, le-ltb w workSize full, few, fewer, forth, back),
+          let forth = resolve-of-not-apart K b P Q (bounded-terms v p (a .firstPolicy)) (λ x. none (inl x)) in
+          let back = resolve-of-not-apart K b Q P (bounded-terms v q (a .secondPolicy)) (λ x. none (inr x)) in
+          rw (accepted, le-ltb w workSize full, free, back-free, forth, back),
     )

@@ -14,9 +14,10 @@ use Rattle.meaning.proofs.ModelWords.{model-facts, model-individuals}
 use Rattle.meaning.proofs.Normal.{BoundedChain}
 use Rattle.meaning.proofs.Refusals.{accepted-input, cond-all, orElse-zero, unless-all}
 use Rattle.meaning.proofs.Rules.{any-right, isTrue}
+use Rattle.meaning.proofs.ShortWay.{resolve-decide}
 use Rattle.meaning.specs.Answers.{VerdictResult, compliant, outside, result}
-use Rattle.meaning.specs.Containment.{Contained, ContainedFinite, ContainedTested, Decision, Refutes, decide, escapes}
-use Rattle.meaning.specs.Containment.{tooMany}
+use Rattle.meaning.specs.Containment.{Contained, ContainedFinite, ContainedTested, Decision, Refutes, crowded, decide, escapes}
+use Rattle.meaning.specs.Containment.{resolve}
 use Rattle.meaning.specs.Countermodel.{canonicalModel, countermodel, individuals}
 use Rattle.meaning.specs.Lists.{All, _∈_, here}
 use Rattle.meaning.specs.Model.{Fact, factsOf, individualCount}
@@ -56,8 +57,8 @@ module _ (K : Vocabulary) (w : Bounded K) where
   pub reported-all {ℓ} : {A : Type 0} (P Q : Policy) → All (BoundedChain (K .classes)) P → (o : ℕ) (tell : ℕ → ℕ → ℕ → A) (rest : Outcome A) (R : Outcome A → Type ℓ) →
       ((n : ℕ) → R (refuses n)) → (All (Complies K Q) P → R rest) →
       ((s q : ℕ) (words : List ℕ) → Escape K P Q s q words → length words ≤ o → R (record { answer = result (tell (suc s) (suc q) (length words)); words = words })) →
-      R (reported K o tell (decide K P Q) rest)
-  reported-all P Q f o tell rest R refuse yes-all no-one = go (decide K P Q) (decided K P Q)
+      R (reported K o tell (resolve K P Q) rest)
+  reported-all P Q f o tell rest R refuse yes-all no-one = rw (resolve-decide K P Q) (go (decide K P Q) (decided K P Q))
     where
       fits : (s q : ℕ) (words : List ℕ) → Escape K P Q s q words → (b : Bool) → leb (length words) o ≡ b →
           R (cond b (record { answer = result (tell (suc s) (suc q) (length words)); words = words }) (refuses 23))
@@ -79,7 +80,7 @@ module _ (v p q : List ℕ) where
   compliance-told w o =
       unless-all (CorrectVerdict K (policyOf p) (policyOf q) o) refuses (orElse (inputRefusal v p q) (workRefusal w)) _ unsaidVerdict (λ e.
       let a = accepted-input v p q (orElse-zero (inputRefusal v p q) (workRefusal w) e .0) in
-      cond-all (CorrectVerdict K (policyOf p) (policyOf q) o) (tooMany K (policyOf p) (policyOf q)) (unsaidVerdict 22)
+      cond-all (CorrectVerdict K (policyOf p) (policyOf q) o) (crowded K (policyOf p) (policyOf q)) (unsaidVerdict 22)
       (reported-all K (bounded v (a .vocabulary)) (policyOf p) (policyOf q) (bounded-terms v p (a .firstPolicy)) o outside (says compliant) (CorrectVerdict K (policyOf p) (policyOf q) o)
       unsaidVerdict (λ h. agreed (sound K (policyOf p) (policyOf q) h)) escaped))
 

@@ -31,7 +31,7 @@ use Rattle.meaning.specs.Splitting.{combinations}
 use Rattle.meaning.specs.Subsumption.{subsumed}
 use Rattle.meaning.specs.Vocabulary.{Vocabulary}
 
-passes-sound : (I : Interpretation) (K : Vocabulary) → Satisfies I K → (Q : Policy) (u : Form) (d : ℕ) → T (passes K Q u) → HoldsForm I u d → In I Q d
+pub passes-sound : (I : Interpretation) (K : Vocabulary) → Satisfies I K → (Q : Policy) (u : Form) (d : ℕ) → T (passes K Q u) → HoldsForm I u d → In I Q d
 unfolding passes
 passes-sound I K s Q u d t h =
     any-mono (λ q v. subsumed-sound I K s q (u .node) (u .successors) d v (h .node) (h .successors)) (any-out (λ q. subsumed K q (u .node) (u .successors)) Q t)

@@ -11,7 +11,7 @@ use Rattle.meaning.proofs.Containment.{sound}
 use Rattle.meaning.proofs.Interpretations.{contained-finite, tested-finite}
 use Rattle.meaning.proofs.Refusals.{accepted-input, cond-all, orElse-zero, unless-all}
 use Rattle.meaning.specs.Answers.{ComparisonResult, compliant, differs, equal, result}
-use Rattle.meaning.specs.Containment.{Contained, ContainedFinite, Indistinct, IndistinctTested, tooMany}
+use Rattle.meaning.specs.Containment.{Contained, ContainedFinite, Indistinct, IndistinctTested, crowded}
 use Rattle.meaning.specs.Operations.{Outcome, compliance, equality, equalityOf, inputRefusal, refuses, says, workRefusal}
 use Rattle.meaning.specs.Policy.{Policy, policyOf}
 use Rattle.meaning.specs.Promises.{CorrectComparison, IsRefusal, same, side1, side2, unsaidComparison}
@@ -43,7 +43,7 @@ module _ (v p q : List ℕ) where
       unless-all (CorrectComparison K P Q o) refuses (orElse (inputRefusal v p q) (workRefusal w)) _ unsaidComparison (λ e.
       let a = accepted-input v p q (orElse-zero (inputRefusal v p q) (workRefusal w) e .0) in
       let b = bounded v (a .vocabulary) in
-      cond-all (CorrectComparison K P Q o) (tooMany K P Q || tooMany K Q P) (unsaidComparison 22)
+      cond-all (CorrectComparison K P Q o) (crowded K P Q || crowded K Q P) (unsaidComparison 22)
       (reported-all K b P Q (bounded-terms v p (a .firstPolicy)) o (differs 1) _ (CorrectComparison K P Q o) unsaidComparison (λ c.
       reported-all K b Q P (bounded-terms v q (a .secondPolicy)) o (differs 2) (says equal) (CorrectComparison K P Q o) unsaidComparison
       (λ d. same (both-ways (sound K P Q c) (sound K Q P d))) (λ s k words. side2 s k words (sound K P Q c))) side1))

@@ -25,6 +25,7 @@ pub mod Subsumption
 pub mod First
 pub mod Whole
 pub mod Containment
+pub mod ShortWay
 pub mod Impossible
 pub mod Interpretations
 pub mod ModelCheck

@@ -1,13 +1,13 @@
--- Containment of one policy in another: what it means, SPECIFICATION 5.4, and how it is decided by combinations and Algorithm 1,
--- SPECIFICATION 7.4 and 7.5.
+-- Containment of one policy in another: what it means, SPECIFICATION 5.4, and how it is decided by Algorithm 1, SPECIFICATION 7.4:
+-- by combinations, SPECIFICATION 7.5, and by the short way, SPECIFICATION 7.7.
 use Prim.Native.Nat.{_≤_, suc, ℕ}
-use mathlib.Core.Bool.{Bool, _&&_, cond}
+use mathlib.Core.Bool.{Bool, _&&_, _||_, cond, not}
 use mathlib.Core.List.{List, [], _∷_}
 use mathlib.Core.Logic.{_↔_, _⊎_}
 use lib.Dec.{T, ltb}
 use Rattle.meaning.specs.Interpretation.{In, Interpretation, Proper, Satisfies, Tested, interpreted}
 use Rattle.meaning.specs.Limits.{mostCombinations}
-use Rattle.meaning.specs.Lists.{Found, any, firstFailing, found, nowhere}
+use Rattle.meaning.specs.Lists.{Found, all, any, firstFailing, found, nowhere}
 use Rattle.meaning.specs.Model.{Fact, stands}
 use Rattle.meaning.specs.NormalForm.{Form, normalForm, possible}
 use Rattle.meaning.specs.Policy.{Chain, Policy}
@@ -60,7 +60,7 @@ pub record Refutes (K : Vocabulary) (P Q : Policy) (n : ℕ) (F : List Fact) : T
   pub within : In (stands n F) P 1
   pub without : In (stands n F) Q 1 → ⊥
 
--- a combination passes Algorithm 1 against some term of the second
+-- a form, such as a combination, passes Algorithm 1 against some term of the second
 unfoldable pub passes : Vocabulary → Policy → Form → Bool
 passes K Q u = any (λ q. subsumed K q (u .node) (u .successors)) Q
 
@@ -86,6 +86,24 @@ decideFrom K Q s (p ∷ P) = let rest = decideFrom K Q (suc s) P in orEscape s (
 unfoldable pub decide : Vocabulary → Policy → Policy → Decision
 decide K P Q = decideFrom K Q 1 P
 
--- 22 (SPECIFICATION 9.6): a possible term of the first, wherever it stands, has too many combinations
+-- a possible term of the first, wherever it stands, has too many combinations
 unfoldable pub tooMany : Vocabulary → Policy → Policy → Bool
 tooMany K P Q = any (λ p. possible K p && ltb mostCombinations (combinationCount Q (normalForm K p))) P
+
+-- ---- the short way, SPECIFICATION 7.7
+
+-- a term is impossible, or its normal form, the constraints whole, passes
+abbrev pub passesWhole : Vocabulary → Policy → Chain → Bool
+passesWhole K Q p = not (possible K p) || passes K Q (normalForm K p)
+
+-- every term of the first does, not necessarily by one term of the second for all
+unfoldable pub shortWay : Vocabulary → Policy → Policy → Bool
+shortWay K P Q = all (passesWhole K Q) P
+
+-- SPECIFICATION 9.6: contained by the short way, without splitting; else what the combinations decide
+unfoldable pub resolve : Vocabulary → Policy → Policy → Decision
+resolve K P Q = let split = decide K P Q in cond (shortWay K P Q) contained split
+
+-- 22 (SPECIFICATION 9.6): it is considered only where the short way fails
+unfoldable pub crowded : Vocabulary → Policy → Policy → Bool
+crowded K P Q = not (shortWay K P Q) && tooMany K P Q

@@ -10,6 +10,7 @@ use Rattle.meaning.specs.Limits.{outputSize, workSize}
 use Rattle.meaning.specs.Lists.{flatMap}
 use Rattle.meaning.specs.NormalForm.{normalForm}
 use Rattle.meaning.specs.Operations.{compliance, equality, modelCheck, possibility, readPolicy, readSecondPolicy, readVocabulary}
+use Rattle.meaning.specs.Operations.{refuses}
 use Rattle.meaning.specs.Policy.{policyOf}
 use Rattle.meaning.specs.Program.{bytes, program}
 use Rattle.meaning.specs.Splitting.{combinationCount}
@@ -114,6 +115,7 @@ pub data Example : Type 0 where
   possibleIs : List ℕ → List ℕ → PossibilityResult → Example
   complianceIs : List ℕ → List ℕ → List ℕ → VerdictResult → List ℕ → Example
   equalityIs : List ℕ → List ℕ → List ℕ → ComparisonResult → List ℕ → Example
+  equalityRefuses : List ℕ → List ℕ → List ℕ → ℕ → Example
   checkIs : List ℕ → List ℕ → List ℕ → List ℕ → CheckResult → Example
   combinationsAre : List ℕ → List ℕ → List ℕ → List ℕ → Example
   prints : List ℕ → List ℕ → List ℕ → List String → Example
@@ -136,6 +138,7 @@ Correct (secondIs v q a) = readSecondPolicy v q ≡ a
 Correct (possibleIs v p a) = possibility v p workSize ≡ result a
 Correct (complianceIs v p q a ws) = compliance v p q workSize outputSize ≡ record { answer = result a; words = ws }
 Correct (equalityIs v p q a ws) = equality v p q workSize outputSize ≡ record { answer = result a; words = ws }
+Correct (equalityRefuses v p q n) = equality v p q workSize outputSize ≡ refuses n
 Correct (checkIs v p q m a) = modelCheck v p q m workSize ≡ result a
 Correct (combinationsAre v p q n) = map (λ t. combinationCount (policyOf q) (normalForm (vocabularyOf v) t)) (policyOf p) ≡ n
 Correct (prints v p q text) = program (input v p q) ≡ lines text
@@ -212,6 +215,57 @@ nested n = six 1 0 0 0 0 0 (six 5 0 0 0 2 0 (nestedFrom n 2))
 abbrev reachedAgain : List ℕ
 reachedAgain = six 1 0 0 0 0 0 (six 5 0 0 0 2 2 (six 1 1 0 0 0 0 []))
 
+-- two classes, a role and 17 features, of which nothing is stated; a term with a value 0..1 of each feature has 131,072 combinations
+abbrev wide : List ℕ
+wide = four 2 1 17 0 []
+
+-- n records from record k on: 0..1 on feature f, on the next feature, and so on
+abbrev spansFrom : ℕ → ℕ → ℕ → List ℕ
+spansFrom zero k f = []
+spansFrom (suc zero) k f = six 4 f 0 1 0 0 []
+spansFrom (suc (suc n)) k f = six 4 f 0 1 0 (suc k) (spansFrom (suc n) (suc k) (suc f))
+
+-- 0..1 on each feature; role 1 reaching that; that or class c; class c or that
+abbrev manySpans : List ℕ
+manySpans = six 1 0 0 0 0 0 (six 5 0 0 0 2 0 (spansFrom 17 2 1))
+
+abbrev reachingMany : List ℕ
+reachingMany = six 1 0 0 0 0 0 (six 5 0 0 0 2 0 (six 3 1 0 0 3 0 (spansFrom 17 3 1)))
+
+abbrev manyOrClass : ℕ → List ℕ
+manyOrClass c = six 1 0 0 0 0 0 (six 5 0 0 0 2 19 (spansFrom 17 2 1 ++ six 5 0 0 0 20 0 (six 1 c 0 0 0 0 [])))
+
+abbrev classOrMany : ℕ → List ℕ
+classOrMany c = six 1 0 0 0 0 0 (six 5 0 0 0 2 3 (six 1 c 0 0 0 0 (six 5 0 0 0 4 0 (spansFrom 17 4 1))))
+
+-- R1.all, and the impossible concept
+abbrev reachingAll : List ℕ
+reachingAll = six 1 0 0 0 0 0 (six 5 0 0 0 2 0 (six 3 1 0 0 0 0 []))
+
+abbrev bottom : List ℕ
+bottom = six 1 0 0 0 0 0 (six 5 0 0 0 2 0 (six 2 0 0 0 0 0 []))
+
+-- the short way, with too many combinations to be tried
+abbrev shortcuts : List Example
+shortcuts =
+    complianceIs wide manySpans manySpans compliant []
+    -- a right side with no conjuncts passes at any depth
+    ∷ (complianceIs wide reachingMany reachingAll compliant []
+    ∷ (complianceIs wide reachingMany everybody compliant []
+    -- each term by another term of the consent
+    ∷ (complianceIs wide (manyOrClass 1) (classOrMany 1) compliant []
+    ∷ (equalityIs wide (manyOrClass 1) (classOrMany 1) equal []
+    -- it fails for the policy as one, and 22 looks at the term that passed whole, too
+    ∷ (prints wide (manyOrClass 2) (classOrMany 1) ("refused 22" ∷ [])
+    ∷ (prints wide manySpans bottom ("refused 22" ∷ [])
+    ∷ (prints wide manySpans nobody ("refused 22" ∷ [])
+    -- each direction of Equality by itself
+    ∷ (equalityIs wide everybody manySpans (differs 1 1 1 5) (five 0 1 0 0 0 [])
+    ∷ (equalityIs wide manySpans everybody (differs 2 1 1 5) (five 0 1 0 0 0 [])
+    ∷ (equalityRefuses wide (inClass 1) manySpans 22
+    ∷ (equalityRefuses wide manySpans (inClass 1) 22
+    ∷ [])))))))))))
+
 abbrev pub further : List Example
 further =
     vocabularyIs desk (result accepted)
@@ -235,4 +289,4 @@ further =
     ∷ (checkIs desk (span 0 9) (span 0 4) (five 1 1 0 0 0 (five 3 1 1 8 0 [])) yes
     ∷ (checkIs desk (span 0 4) (span 0 9) (five 1 1 0 0 0 (five 3 1 1 8 0 [])) no
     ∷ (checkIs desk (span 0 9) (span 0 4) (five 1 1 0 0 0 (five 3 1 1 8 2 (five 3 1 1 7 0 []))) no
-    ∷ [])))))))))))))))))
+    ∷ shortcuts)))))))))))))))))

@@ -8,7 +8,7 @@ use lib.Dec.{eqb, leb, ltb}
 use lib.ListN.{drop, length, replicate}
 use Rattle.meaning.specs.Answers.{Answer, CheckResult, ComparisonResult, PossibilityResult, ReadingResult, VerdictResult, accepted}
 use Rattle.meaning.specs.Answers.{compliant, differs, equal, firstPossible, no, nonePossible, outside, refused, result, yes}
-use Rattle.meaning.specs.Containment.{Decision, contained, decide, escapes, tooMany}
+use Rattle.meaning.specs.Containment.{Decision, contained, crowded, escapes, resolve}
 use Rattle.meaning.specs.Countermodel.{countermodel}
 use Rattle.meaning.specs.Limits.{workSize}
 use Rattle.meaning.specs.Model.{factsOf, modelRefusal}
@@ -82,8 +82,8 @@ reported K o tell (escapes s q u) rest = written o (tell s q) (countermodel K u)
 -- Compliance after 21, o the length of the output: 22, then the verdict, with 23 where there is a countermodel to report
 unfoldable pub complianceOf : Vocabulary → Policy → Policy → ℕ → Outcome VerdictResult
 complianceOf K P Q o =
-    let told = reported K o outside (decide K P Q) (says compliant) in
-    cond (tooMany K P Q) (refuses 22) told
+    let told = reported K o outside (resolve K P Q) (says compliant) in
+    cond (crowded K P Q) (refuses 22) told
 
 -- Compliance, SPECIFICATION 9.6
 unfoldable pub compliance : List ℕ → List ℕ → List ℕ → ℕ → ℕ → Outcome VerdictResult
@@ -94,9 +94,9 @@ compliance v p q w o =
 -- Equality after 21: 22 in both directions, then the first direction's difference, side 1, before the second's, side 2
 unfoldable pub equalityOf : Vocabulary → Policy → Policy → ℕ → Outcome ComparisonResult
 equalityOf K P Q o =
-    let reverse = reported K o (differs 2) (decide K Q P) (says equal) in
-    let told = reported K o (differs 1) (decide K P Q) reverse in
-    cond (tooMany K P Q || tooMany K Q P) (refuses 22) told
+    let reverse = reported K o (differs 2) (resolve K Q P) (says equal) in
+    let told = reported K o (differs 1) (resolve K P Q) reverse in
+    cond (crowded K P Q || crowded K Q P) (refuses 22) told
 
 -- Equality, SPECIFICATION 9.7: the refusals in Compliance's order
 unfoldable pub equality : List ℕ → List ℕ → List ℕ → ℕ → ℕ → Outcome ComparisonResult
