@@ -32,18 +32,6 @@ use Rattle.meaning.specs.declared.Verdict.the-variants as verdict
 
 -- ---- what is ready
 
-module _ {v p q w : List ℕ} {f : Functional} (r : PreparedPair v p q w f) where
-  pub ready-accepts : Accepting v p w f
-  ready-accepts = record { prepared = r .prepared; policy = r .first }
-
-  -- the other way round
-  pub ready-back : PreparedPair v q p w f
-  ready-back = record { prepared = r .prepared; full = r .full; first = r .second; second = r .first }
-
-  -- still
-  pub ready-still : {w′ : List ℕ} → Only InTables w w′ → PreparedPair v p q w′ f
-  ready-still o = record { prepared = prepared-kept o (r .prepared); full = omega arith; first = r .first; second = r .second }
-
 -- after `prepare`
 pub pair-ready : {v p q w w′ : List ℕ} {f : Functional} → AcceptedInput v p q → workSize ≤ length w → Only (Span 0 pairsEnd) w w′ → Prepared v w′ f → PreparedPair v p q w′ f
 pair-ready a full o g = record { prepared = g; full = omega arith; first = a .firstPolicy; second = a .secondPolicy }

@@ -1,13 +1,13 @@
 -- A policy: the first term to fail, the report, and one term of the loop.
 use Prim.Native.Nat.{_*_, _+_, _<_, _≤_, suc, zero, ℕ}
 use mathlib.Core.Bool.{Bool, _||_, cond, false, true}
-use mathlib.Core.List.{List, [], _∷_}
+use mathlib.Core.List.{List, [], _++_, _∷_}
 use mathlib.Core.Path.{_∙_, _≡_, ap, refl, subst, sym}
 use lib.ListN.{drop, length, take}
 use lib.Seq.{take-at}
 use native.Mathlib.Omega.{arith}
 use borrow.Author.Tests.{le-leb, lt-leb}
-use Rattle.decision.specs.Decisions.{Delivers, Failed, Failure, Reports, decision, exceeds}
+use Rattle.decision.specs.Decisions.{Countable, Delivers, Failed, Failure, Reports, Resolvable, StoppedPair, decision, exceeds}
 use Rattle.frames.proofs.Frames.{only-then}
 use Rattle.frames.proofs.Work.{outputs-none}
 use Rattle.frames.specs.Frames.{Only}
@@ -21,10 +21,11 @@ use Rattle.meaning.proofs.Containment.{witness}
 use Rattle.meaning.proofs.ModelWords.{model-length}
 use Rattle.meaning.proofs.Normal.{BoundedChain}
 use Rattle.meaning.proofs.Rules.{isTrue}
+use Rattle.meaning.proofs.ShortWay.{decide-behind, resolve-decide, short-agrees, short-uncrowded, split-crowded}
 use Rattle.meaning.proofs.Wellformed.{accepted-counts}
 use Rattle.meaning.specs.Accepted.{ChainOf}
 use Rattle.meaning.specs.Answers.{VerdictResult, outside, result}
-use Rattle.meaning.specs.Containment.{contained, decide, decideFrom, escapes, firstFailure, orEscape, passes, tooMany}
+use Rattle.meaning.specs.Containment.{contained, crowded, decide, decideFrom, escapes, firstFailure, orEscape, passes, resolve, tooMany}
 use Rattle.meaning.specs.Countermodel.{canonicalModel, countermodel, individuals}
 use Rattle.meaning.specs.Limits.{mostClasses}
 use Rattle.meaning.specs.Lists.{_∈_, any, firstFailing, found, here, nowhere, there}
@@ -37,7 +38,10 @@ use Rattle.meaning.specs.Splitting.{combinations}
 use Rattle.meaning.specs.Vocabulary.{Vocabulary, classCount, featureCount, roleCount, vocabularyOf, vocabularyRefusal}
 use Rattle.meaning.specs.declared.Verdict.{Verdict}
 use Rattle.policy.proofs.Terms.{Asking, asking-found, asking-on, asking-term}
-use Rattle.preparation.specs.Prepared.{Prepared}
+use Rattle.preparation.specs.Prepared.{Accepting, Prepared}
+use Rattle.short_way.proofs.Passing.{ready-accepts}
+use Rattle.short_way.specs.Stops.{Behind, LeftAt, Stops}
+use Rattle.short_way.specs.declared.Stop.{Stop}
 use Rattle.tabulation.specs.Tabulation.{Tabulated}
 use Rattle.meaning.specs.declared.Verdict.the-variants as verdict
 use Rattle.trial.specs.Trials as Tries
@@ -82,10 +86,26 @@ abbrev pub Undecided : List ℕ → List ℕ → List ℕ → ℕ → Policy →
 Undecided v p q s l =
     (decideFrom (vocabularyOf v) (policyOf q) s l ≡ decide (vocabularyOf v) (policyOf p) (policyOf q)) × (any (exceeds (vocabularyOf v) (policyOf q)) l ≡ false)
 
+drop-or : (a : Bool) {b : Bool} → (a || b) ≡ false → b ≡ false
+drop-or true h = cc
+drop-or false h = h
+
 module _ (v p q : List ℕ) where
-  pub undecided-starts : tooMany (vocabularyOf v) (policyOf p) (policyOf q) ≡ false → Undecided v p q 1 (policyOf p)
+  -- where those before them pass whole
+  undecided-behind : tooMany (vocabularyOf v) (policyOf p) (policyOf q) ≡ false → {s : ℕ} {l : Policy} → Behind v p q s l → Undecided v p q s l
   unfolding tooMany decide
-  undecided-starts h = (refl, h)
+  undecided-behind h {s} {l} b = (
+    ap (λ (j : ℕ). decideFrom (vocabularyOf v) (policyOf q) j l) (b .place) ∙ sym (decide-behind (vocabularyOf v) (policyOf q) 1 (b .before) l (b .passed))
+        ∙ ap (decideFrom (vocabularyOf v) (policyOf q) 1) (sym (b .split)),
+    go (b .before) (rw (b .split) at h),
+  )
+    where
+      go : (before : Policy) → any (exceeds (vocabularyOf v) (policyOf q)) (before ++ l) ≡ false → any (exceeds (vocabularyOf v) (policyOf q)) l ≡ false
+      go [] e = e
+      go (c ∷ before) e = go before (drop-or (exceeds (vocabularyOf v) (policyOf q) c) e)
+
+  pub undecided-starts : {s k : ℕ} → tooMany (vocabularyOf v) (policyOf p) (policyOf q) ≡ false → LeftAt v p q s k → Asking (Undecided v p q) v p s k
+  undecided-starts h l = record { walk = record { left = l .left; along = l .along; holds = (l .room, undecided-behind h (l .behind)) } }
 
   module _ (s : ℕ) (c : Chain) (l : Policy) (u : Undecided v p q s (c ∷ l)) where
     pub undecided-few : exceeds (vocabularyOf v) (policyOf q) c ≡ false
@@ -128,14 +148,14 @@ module _ (s q : ℕ) (words o : List ℕ) where
 
 module _ (K : Vocabulary) (P Q : Policy) (o : List ℕ) where
   abbrev told : Outcome VerdictResult
-  told = reported K (length o) outside (decide K P Q) (says Rattle.meaning.specs.Answers.compliant)
+  told = reported K (length o) outside (resolve K P Q) (says Rattle.meaning.specs.Answers.compliant)
 
   pub delivers-compliant : {o′ : List ℕ} → o′ ≡ o → contained ≡ decide K P Q → Delivers told o o′ verdict.Compliant
-  delivers-compliant h e = rw (sym e) (record { answer = refl; output = h ∙ outputs-none o })
+  delivers-compliant h e = rw (resolve-decide K P Q ∙ sym e) (record { answer = refl; output = h ∙ outputs-none o })
 
   pub delivers-report : {s q : ℕ} {u : Form} {o′ : List ℕ} {r : Verdict} → escapes s q u ≡ decide K P Q → Delivers (written (length o) (outside s q) (countermodel K u)) o o′ r →
       Delivers told o o′ r
-  delivers-report e d = rw (sym e) d
+  delivers-report e d = rw (resolve-decide K P Q ∙ sym e) d
 
 -- ---- what is known of an accepted vocabulary and of its terms
 
@@ -176,3 +196,26 @@ module _ {v p : List ℕ} (q : List ℕ) {s k : ℕ} (a : Asking (Undecided v p 
 
     pub term-passes : {j : ℕ} → r ≡ 0 → j ≡ nextOf p k → Asking (Undecided v p q) v p (s + 1) j
     term-passes z e = asking-on a n e (λ l u. undecided-on v p q s (termAt p k) l u (fails-none (vocabularyOf v) (policyOf q) (termAt p k) w″ t z failure))
+
+-- ---- from the stop on
+
+module _ {v p q w : List ℕ} {f : Functional} {stop : Stop} (a : StoppedPair v p q w f stop) where
+  pub crowds-short : stop .term ≡ 0 → false ≡ crowded (vocabularyOf v) (policyOf p) (policyOf q)
+  crowds-short z = sym (short-uncrowded (vocabularyOf v) (policyOf p) (policyOf q) (a .stops .succeeds z))
+
+  pub crowds-split : {b : Bool} → (stop .term ≡ 0 → ⊥) → b ≡ tooMany (vocabularyOf v) (policyOf p) (policyOf q) → b ≡ crowded (vocabularyOf v) (policyOf p) (policyOf q)
+  crowds-split n e = e ∙ sym (split-crowded (vocabularyOf v) (policyOf p) (policyOf q) (a .stops .fails n))
+
+  pub stopped-accepts : Accepting v p w f
+  stopped-accepts = ready-accepts (a .ready)
+
+module _ {v p q w : List ℕ} {f : Functional} {stop : Stop} (a : Resolvable v p q w f stop) where
+  pub resolves-short : (o : List ℕ) → stop .term ≡ 0 → Delivers (decision v p q (length o)) o o verdict.Compliant
+  resolves-short o z = delivers-compliant (vocabularyOf v) (policyOf p) (policyOf q) o refl (sym (short-agrees (vocabularyOf v) (policyOf p) (policyOf q) (a .stopped .stops .succeeds z)))
+
+  pub resolves-split : (stop .term ≡ 0 → ⊥) → Countable v p q w f stop
+  resolves-split n = record {
+    ready = a .stopped .ready;
+    left = a .stopped .stops .left;
+    few = sym (split-crowded (vocabularyOf v) (policyOf p) (policyOf q) (a .stopped .stops .fails n)) ∙ a .free;
+  }

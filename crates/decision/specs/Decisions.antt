@@ -1,5 +1,5 @@
 -- What a decision asks of its caller, and what it tells.
-use Prim.Native.Nat.{_≤_, suc, zero, ℕ}
+use Prim.Native.Nat.{suc, zero, ℕ}
 use mathlib.Core.Bool.{Bool, _&&_, false, not}
 use mathlib.Core.List.{List}
 use mathlib.Core.Path.{_≡_}
@@ -13,17 +13,19 @@ use Rattle.layout.specs.Tables.{Pieces, Tabled}
 use Rattle.layout.specs.declared.Tables.{Tables}
 use Rattle.meaning.specs.Accepted.{ChainOf}
 use Rattle.meaning.specs.Answers.{VerdictResult, compliant, outside, verdictAnswer}
-use Rattle.meaning.specs.Containment.{decide, firstFailure, tooMany}
+use Rattle.meaning.specs.Containment.{crowded, firstFailure, resolve, tooMany}
 use Rattle.meaning.specs.Countermodel.{countermodel}
-use Rattle.meaning.specs.Limits.{mostCombinations, workSize}
+use Rattle.meaning.specs.Limits.{mostCombinations}
 use Rattle.meaning.specs.Lists.{found, nowhere}
 use Rattle.meaning.specs.NormalForm.{Form, normalForm, possible}
 use Rattle.meaning.specs.Operations.{Outcome, outputAfter, reported, says, written}
-use Rattle.meaning.specs.Policy.{Chain, Policy, policyOf, policyRefusal}
+use Rattle.meaning.specs.Policy.{Chain, Policy, policyOf}
 use Rattle.meaning.specs.Splitting.{combinationCount}
 use Rattle.meaning.specs.Vocabulary.{Vocabulary, vocabularyOf}
 use Rattle.meaning.specs.declared.Verdict.{Verdict}
 use Rattle.preparation.specs.Prepared.{Accepting, Prepared}
+use Rattle.short_way.specs.Stops.{LeftAt, PreparedPair, Stops}
+use Rattle.short_way.specs.declared.Stop.{Stop}
 use Rattle.splitting.specs.Ends.{Ends}
 
 -- the answer is the outcome's, and the output holds the outcome's words
@@ -31,16 +33,20 @@ pub record Delivers (x : Outcome VerdictResult) (o o′ : List ℕ) (r : Verdict
   pub answer : verdictAnswer r ≡ x .answer
   pub output : o′ ≡ outputAfter (x .words) o
 
--- the vocabulary is prepared, and both policies are accepted
-pub record PreparedPair (v p q w : List ℕ) (f : Functional) : Type 0 where
-  pub prepared : Prepared v w f
-  pub full : workSize ≤ length w
-  pub first : policyRefusal v p ≡ 0
-  pub second : policyRefusal v q ≡ 0
-
--- the same, and no term of the first has too many combinations
-pub record Countable (v p q w : List ℕ) (f : Functional) : Type 0 where
+-- the pair is prepared, and the short way stopped there
+pub record StoppedPair (v p q w : List ℕ) (f : Functional) (stop : Stop) : Type 0 where
   pub ready : PreparedPair v p q w f
+  pub stops : Stops v p q stop
+
+-- the same, and there is no 22
+pub record Resolvable (v p q w : List ℕ) (f : Functional) (stop : Stop) : Type 0 where
+  pub stopped : StoppedPair v p q w f stop
+  pub free : crowded (vocabularyOf v) (policyOf p) (policyOf q) ≡ false
+
+-- the pair is prepared, the terms before the stop pass whole, and no term of the first has too many combinations
+pub record Countable (v p q w : List ℕ) (f : Functional) (stop : Stop) : Type 0 where
+  pub ready : PreparedPair v p q w f
+  pub left : LeftAt v p q (stop .place) (stop .term)
   pub few : tooMany (vocabularyOf v) (policyOf p) (policyOf q) ≡ false
 
 -- what is reported of the combination that the tables hold, by whatever vocabulary
@@ -50,9 +56,9 @@ Reports s c w t o o′ r =
 
 -- the decision's outcome, with an output of so many words
 abbrev pub decision : List ℕ → List ℕ → List ℕ → ℕ → Outcome VerdictResult
-decision v p q o = reported (vocabularyOf v) o outside (decide (vocabularyOf v) (policyOf p) (policyOf q)) (says compliant)
+decision v p q o = reported (vocabularyOf v) o outside (resolve (vocabularyOf v) (policyOf p) (policyOf q)) (says compliant)
 
--- 22 (SPECIFICATION 9.6): a term is possible and has too many combinations
+-- a term is possible and has too many combinations
 abbrev pub exceeds : Vocabulary → Policy → Chain → Bool
 exceeds K Q c = possible K c && ltb mostCombinations (combinationCount Q (normalForm K c))
 
@@ -64,9 +70,16 @@ Exceeds c e w f r = (v : List ℕ) → Prepared v w f → ChainOf v c → (Q : P
 abbrev pub Counts : List ℕ → List ℕ → List ℕ → Functional → Bool → Type 0
 Counts p e w f r = (v : List ℕ) → Accepting v p w f → (Q : Policy) → Ends Q e → r ≡ tooMany (vocabularyOf v) (policyOf p) Q
 
+-- whether there is a 22, by whatever vocabulary
+abbrev pub Crowds : List ℕ → List ℕ → List ℕ → Functional → Stop → Bool → Type 0
+Crowds p q w f stop r = (v : List ℕ) → StoppedPair v p q w f stop → r ≡ crowded (vocabularyOf v) (policyOf p) (policyOf q)
+
 -- the decision is delivered, by whatever vocabulary it can be made
-abbrev pub Decides : List ℕ → List ℕ → List ℕ → Functional → List ℕ → List ℕ → Verdict → Type 0
-Decides p q w f o o′ r = (v : List ℕ) → Countable v p q w f → Delivers (decision v p q (length o)) o o′ r
+abbrev pub Resolves : List ℕ → List ℕ → List ℕ → Functional → Stop → List ℕ → List ℕ → Verdict → Type 0
+Resolves p q w f stop o o′ r = (v : List ℕ) → Resolvable v p q w f stop → Delivers (decision v p q (length o)) o o′ r
+
+abbrev pub Decides : List ℕ → List ℕ → List ℕ → Functional → Stop → List ℕ → List ℕ → Verdict → Type 0
+Decides p q w f stop o o′ r = (v : List ℕ) → Countable v p q w f stop → Delivers (decision v p q (length o)) o o′ r
 
 -- the first combination of a term to fail, counted from 1, which the tables hold; 0 for none
 abbrev pub Failure : Vocabulary → Policy → Chain → List ℕ → Tables → ℕ → Type 0

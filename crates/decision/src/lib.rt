@@ -1,10 +1,14 @@
-// One policy against another: whether a term has too many combinations, and the first combination to fail.
+// One policy against another, from where the short way stops: whether a term has too many combinations, and the first combination
+// to fail.
 use functional::Functional;
 use layout::Tables;
 use meaning::Verdict;
 use meaning::limits::MOST_COMBINATIONS;
 use policy::first_term;
 use policy::next_of;
+use short_way::Stop;
+use splitting::ENDS;
+use splitting::collect;
 use splitting::combinations;
 use splitting::may_exceed;
 use tabulation::is_clean;
@@ -16,7 +20,8 @@ ghost use mathlib.Core.List.{List};
 ghost use mathlib.Core.Path.{_≡_};
 ghost use Prim.Native.Nat.{_≤_, ℕ};
 ghost use lib.ListN.{length};
-ghost use Rattle.decision.specs.Decisions.{Countable, Counts, Decides, Exceeds, Failed, Reports};
+ghost use Rattle.decision.specs.Decisions.{Countable, Counts, Crowds, Decides, Exceeds, Failed, Reports, Resolvable, Resolves};
+ghost use Rattle.decision.specs.Decisions.{StoppedPair};
 ghost use Rattle.frames.specs.Frames.{Only};
 ghost use Rattle.layout.specs.Places.{InTables, mostPairs};
 ghost use Rattle.layout.specs.Tables.{Standing};
@@ -49,7 +54,7 @@ fn is_too_many(p: &[u32], work: &mut [u32], f: Functional, ends: &[u64], k: u32)
 }
 
 // Whether some term of p is, wherever it stands.
-pub fn has_too_many(p: &[u32], work: &mut [u32], f: Functional, ends: &[u64]) -> bool
+fn has_too_many(p: &[u32], work: &mut [u32], f: Functional, ends: &[u64]) -> bool
     requires { ⌜ (workSize ≤ length (now work)) × ((v : List ℕ) × Accepting v (now p) (now work) f) ⌝ }
     ensures { λ r. ⌜ Counts (now (p .entry)) (now (ends .entry)) (now (work .entry)) f r ⌝ }
     ensures { λ _. ⌜ Only InTables (now (work .entry)) (now (work .exit)) ⌝ }
@@ -92,23 +97,24 @@ fn report(work: &[u32], t: Tables, s: u32, c: u32, out: &mut [u32]) -> Verdict
     Verdict::Outside(s, c, words)
 }
 
-// The first term of p with a combination that fails, and the first of those.
-pub fn decide(
+// From the stop on, the first term of p with a combination that fails, and the first of those: the terms before it pass whole.
+fn decide(
     p: &[u32],
     q: &[u32],
     work: &mut [u32],
     f: Functional,
     ends: &[u64],
+    stop: Stop,
     out: &mut [u32],
 ) -> Verdict
-    requires { ⌜ ((v : List ℕ) × Countable v (now p) (now q) (now work) f) × Ends (policyOf (now q)) (now ends) ⌝ }
-    ensures { λ r. ⌜ Decides (now (p .entry)) (now (q .entry)) (now (work .entry)) f
+    requires { ⌜ ((v : List ℕ) × Countable v (now p) (now q) (now work) f stop) × Ends (policyOf (now q)) (now ends) ⌝ }
+    ensures { λ r. ⌜ Decides (now (p .entry)) (now (q .entry)) (now (work .entry)) f stop
         (now (out .entry)) (now (out .exit)) r ⌝ }
     ensures { λ _. ⌜ Only InTables (now (work .entry)) (now (work .exit)) ⌝ }
     ensures { λ _. ⌜ length (now (out .exit)) ≡ length (now (out .entry)) ⌝ }
 {
-    let mut s: u32 = 1;
-    let mut k = first_term(p);
+    let mut s = stop.place;
+    let mut k = stop.term;
     while k != 0 {
         let t = tabulate(p, work, f, k);
         let c = failure_of(q, work, ends, t);
@@ -119,4 +125,41 @@ pub fn decide(
         k = next_of(p, k);
     }
     Verdict::Compliant
+}
+
+// Whether 22 is to be told of p in q: it is considered only where the short way fails, and then of every term.
+pub fn is_crowded(p: &[u32], q: &[u32], work: &mut [u32], f: Functional, stop: Stop) -> bool
+    requires { ⌜ ((v : List ℕ) × StoppedPair v (now p) (now q) (now work) f stop) ⌝ }
+    ensures { λ r. ⌜ Crowds (now (p .entry)) (now (q .entry)) (now (work .entry)) f stop r ⌝ }
+    ensures { λ _. ⌜ Only InTables (now (work .entry)) (now (work .exit)) ⌝ }
+{
+    if stop.term == 0 {
+        return false;
+    }
+    let mut space = [0; ENDS];
+    let n = collect(q, &mut space);
+    has_too_many(p, work, f, &space[..n])
+}
+
+// The verdict on p in q, where there is no 22: compliant by the short way, else what the combinations tell.
+pub fn resolve(
+    p: &[u32],
+    q: &[u32],
+    work: &mut [u32],
+    f: Functional,
+    stop: Stop,
+    out: &mut [u32],
+) -> Verdict
+    requires { ⌜ ((v : List ℕ) × Resolvable v (now p) (now q) (now work) f stop) ⌝ }
+    ensures { λ r. ⌜ Resolves (now (p .entry)) (now (q .entry)) (now (work .entry)) f stop
+        (now (out .entry)) (now (out .exit)) r ⌝ }
+    ensures { λ _. ⌜ Only InTables (now (work .entry)) (now (work .exit)) ⌝ }
+    ensures { λ _. ⌜ length (now (out .exit)) ≡ length (now (out .entry)) ⌝ }
+{
+    if stop.term == 0 {
+        return Verdict::Compliant;
+    }
+    let mut space = [0; ENDS];
+    let n = collect(q, &mut space);
+    decide(p, q, work, f, &space[..n], stop, out)
 }

@@ -362,7 +362,7 @@ fn try_pieces(
 }
 
 // Whether a term of q takes the constraints whole.
-fn is_taken_whole(q: &[u32], work: &[u32], t: Tables) -> bool
+pub fn is_taken_whole(q: &[u32], work: &[u32], t: Tables) -> bool
     requires { ⌜ Formed (now q) (now work) t ⌝ }
     ensures { λ r. ⌜ r ≡ any (λ c. holdsWhole (now (work .entry)) t c 1) (policyOf (now (q .entry))) ⌝ }
 {

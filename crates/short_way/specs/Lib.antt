@@ -1,0 +1,2 @@
+-- What the short way asks, and where it stops.
+pub mod Stops
