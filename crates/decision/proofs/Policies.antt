@@ -38,9 +38,8 @@ use Rattle.meaning.specs.Splitting.{combinations}
 use Rattle.meaning.specs.Vocabulary.{Vocabulary, classCount, featureCount, roleCount, vocabularyOf, vocabularyRefusal}
 use Rattle.meaning.specs.declared.Verdict.{Verdict}
 use Rattle.policy.proofs.Terms.{Asking, asking-found, asking-on, asking-term}
-use Rattle.preparation.specs.Prepared.{Accepting, Prepared}
-use Rattle.short_way.proofs.Passing.{ready-accepts}
-use Rattle.short_way.specs.Stops.{Behind, LeftAt, Stops}
+use Rattle.preparation.specs.Prepared.{Prepared}
+use Rattle.short_way.specs.Stops.{Behind, LeftAt}
 use Rattle.short_way.specs.declared.Stop.{Stop}
 use Rattle.tabulation.specs.Tabulation.{Tabulated}
 use Rattle.meaning.specs.declared.Verdict.the-variants as verdict
@@ -95,7 +94,7 @@ module _ (v p q : List ℕ) where
   undecided-behind : tooMany (vocabularyOf v) (policyOf p) (policyOf q) ≡ false → {s : ℕ} {l : Policy} → Behind v p q s l → Undecided v p q s l
   unfolding tooMany decide
   undecided-behind h {s} {l} b = (
-    ap (λ (j : ℕ). decideFrom (vocabularyOf v) (policyOf q) j l) (b .place) ∙ sym (decide-behind (vocabularyOf v) (policyOf q) 1 (b .before) l (b .passed))
+    ap (λ (j : ℕ). decideFrom (vocabularyOf v) (policyOf q) j l) (let e : s ≡ 1 + length (b .before) = omega (arith, b .place) in e) ∙ sym (decide-behind (vocabularyOf v) (policyOf q) 1 (b .before) l (b .passed))
         ∙ ap (decideFrom (vocabularyOf v) (policyOf q) 1) (sym (b .split)),
     go (b .before) (rw (b .split) at h),
   )
@@ -206,14 +205,11 @@ module _ {v p q w : List ℕ} {f : Functional} {stop : Stop} (a : StoppedPair v 
   pub crowds-split : {b : Bool} → (stop .term ≡ 0 → ⊥) → b ≡ tooMany (vocabularyOf v) (policyOf p) (policyOf q) → b ≡ crowded (vocabularyOf v) (policyOf p) (policyOf q)
   crowds-split n e = e ∙ sym (split-crowded (vocabularyOf v) (policyOf p) (policyOf q) (a .stops .fails n))
 
-  pub stopped-accepts : Accepting v p w f
-  stopped-accepts = ready-accepts (a .ready)
-
 module _ {v p q w : List ℕ} {f : Functional} {stop : Stop} (a : Resolvable v p q w f stop) where
   pub resolves-short : (o : List ℕ) → stop .term ≡ 0 → Delivers (decision v p q (length o)) o o verdict.Compliant
   resolves-short o z = delivers-compliant (vocabularyOf v) (policyOf p) (policyOf q) o refl (sym (short-agrees (vocabularyOf v) (policyOf p) (policyOf q) (a .stopped .stops .succeeds z)))
 
-  pub resolves-split : (stop .term ≡ 0 → ⊥) → Countable v p q w f stop
+  pub resolves-split : (stop .term ≡ 0 → ⊥) → Countable v p q w f (stop .place) (stop .term)
   resolves-split n = record {
     ready = a .stopped .ready;
     left = a .stopped .stops .left;

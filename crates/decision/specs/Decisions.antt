@@ -43,10 +43,10 @@ pub record Resolvable (v p q w : List ℕ) (f : Functional) (stop : Stop) : Type
   pub stopped : StoppedPair v p q w f stop
   pub free : crowded (vocabularyOf v) (policyOf p) (policyOf q) ≡ false
 
--- the pair is prepared, the terms before the stop pass whole, and no term of the first has too many combinations
-pub record Countable (v p q w : List ℕ) (f : Functional) (stop : Stop) : Type 0 where
+-- the pair is prepared, the terms before record k, at the place s, pass whole, and no term of the first has too many combinations
+pub record Countable (v p q w : List ℕ) (f : Functional) (s k : ℕ) : Type 0 where
   pub ready : PreparedPair v p q w f
-  pub left : LeftAt v p q (stop .place) (stop .term)
+  pub left : LeftAt v p q s k
   pub few : tooMany (vocabularyOf v) (policyOf p) (policyOf q) ≡ false
 
 -- what is reported of the combination that the tables hold, by whatever vocabulary
@@ -79,7 +79,7 @@ abbrev pub Resolves : List ℕ → List ℕ → List ℕ → Functional → Stop
 Resolves p q w f stop o o′ r = (v : List ℕ) → Resolvable v p q w f stop → Delivers (decision v p q (length o)) o o′ r
 
 abbrev pub Decides : List ℕ → List ℕ → List ℕ → Functional → Stop → List ℕ → List ℕ → Verdict → Type 0
-Decides p q w f stop o o′ r = (v : List ℕ) → Countable v p q w f stop → Delivers (decision v p q (length o)) o o′ r
+Decides p q w f stop o o′ r = (v : List ℕ) → Countable v p q w f (stop .place) (stop .term) → Delivers (decision v p q (length o)) o o′ r
 
 -- the first combination of a term to fail, counted from 1, which the tables hold; 0 for none
 abbrev pub Failure : Vocabulary → Policy → Chain → List ℕ → Tables → ℕ → Type 0

@@ -107,7 +107,7 @@ fn decide(
     stop: Stop,
     out: &mut [u32],
 ) -> Verdict
-    requires { ⌜ ((v : List ℕ) × Countable v (now p) (now q) (now work) f stop) × Ends (policyOf (now q)) (now ends) ⌝ }
+    requires { ⌜ ((v : List ℕ) × Countable v (now p) (now q) (now work) f (stop .place) (stop .term)) × Ends (policyOf (now q)) (now ends) ⌝ }
     ensures { λ r. ⌜ Decides (now (p .entry)) (now (q .entry)) (now (work .entry)) f stop
         (now (out .entry)) (now (out .exit)) r ⌝ }
     ensures { λ _. ⌜ Only InTables (now (work .entry)) (now (work .exit)) ⌝ }

@@ -15,34 +15,31 @@ use Rattle.frames.proofs.Frames.{only-none, only-then}
 use Rattle.frames.specs.Frames.{Only}
 use Rattle.layout.specs.Places.{InTables}
 use Rattle.meaning.specs.Records.{falling, lastOf}
-use Rattle.policy.proofs.Terms.{Asking, asking-ends, asking-falls, asking-room, asking-starts, asking-term}
+use Rattle.policy.proofs.Terms.{Asking, asking-ends, asking-falls, asking-room, asking-term}
 use Rattle.preparation.proofs.Laws.{prepared-kept}
 use Rattle.tabulation.proofs.Laws.{term-ready}
 use Rattle.decision.proofs.decide.Tie as tie
 
 abbrev Inv-loop : tie.InvT-loop
 Inv-loop p q work₀ f ends out₀ s₀ k₀ work out s k =
-    ((v : List ℕ) → Countable v p q work₀ f → Asking (Undecided v p q) v p s k) × Only InTables work₀ work × (out ≡ out₀)
+    ((v : List ℕ) → Countable v p q work₀ f s₀ k₀ → Asking (Undecided v p q) v p s k) × Only InTables work₀ work × (out ≡ out₀)
 
 abbrev μ-loop : tie.MeasureT-loop
 μ-loop p q work₀ f ends out₀ s₀ k₀ work out s k = falling (lastOf 6 p) k
 
-loop-holds : tie.Need-loop-holds Inv-loop μ-loop
-loop-holds c = (λ v a. asking-starts (a .ready .first) (c .first-term .ensures) (undecided-starts v _ _ (a .few)), only-none, refl)
-
 tabulate-requires : tie.Need-tabulate-requires Inv-loop μ-loop
 tabulate-requires c κs =
     let i = c .before .before .loop .inv in
-    let r = c .before .before .before .before .before .before .before .before .before .pre .0 in
+    let r = c .before .before .before .before .before .before .before .before .pre .0 in
     term-ready (r .1 .ready .prepared) (omega arith) (i .1) (i .0 (r .0) (r .1)) (c .before .loop-test .taken)
 
 failure-of-requires : tie.Need-failure-of-requires Inv-loop μ-loop
 failure-of-requires c κs =
     let i = c .before .before .before .before .before .before .loop .inv in
-    let r = c .before .before .before .before .before .before .before .before .before .before .before .before .before .pre .0 in
+    let r = c .before .before .before .before .before .before .before .before .before .before .before .before .pre .0 in
     let a = i .0 (r .0) (r .1) in
     let n = c .before .before .before .before .before .loop-test .taken in
-    λ h. term-triable (prepared-kept (i .1) (r .1 .ready .prepared)) (asking-term a n .named) (c .before .before .before .tabulate .ensures) h (r .1 .ready .second) (c .before .before .before .before .before .before .before .before .before .before .before .before .before .pre .1) (term-few _ a n)
+    λ h. term-triable (prepared-kept (i .1) (r .1 .ready .prepared)) (asking-term a n .named) (c .before .before .before .tabulate .ensures) h (r .1 .ready .second) (c .before .before .before .before .before .before .before .before .before .before .before .before .pre .1) (term-few _ a n)
 
 returns : tie.Need-returns Inv-loop μ-loop
 returns c =
@@ -77,17 +74,16 @@ decide-spec =
     (tie.spec
     Inv-loop
     μ-loop
-    (λ c κs. search needs)
-    loop-holds
+    (λ c. (λ v a. undecided-starts v _ _ (a .few) (a .left), only-none, refl))
     tabulate-requires
     failure-of-requires
     (λ c κs. term-standing (c .before .before .before .before .before .before .before .before .before .tabulate .ensures) (c .before .before .before .before .before .failure-of .ensures))
     (λ c. c .before .before .before .before .before .before .before .before .failure-of .ensures .only .size ∙ c .before .before .before .before .before .before .before .before .before .before .before .before .tabulate .ensures .only .size ∙ c .before .before .before .before .before .before .before .before .before .before .before .before .before .before .before .loop .inv .1 .size)
     (λ c. c .before .before .report .ensures .1 ∙ ap length (c .before .before .before .before .before .before .before .before .before .before .before .before .before .before .before .loop .inv .2))
     returns
-    (λ c. omega (arith, asking-room (c .before .before .before .before .before .before .before .before .before .before .loop .inv .0 (c .before .before .before .before .before .before .before .before .before .before .before .before .before .before .before .before .before .pre .0 .0) (c .before .before .before .before .before .before .before .before .before .before .before .before .before .before .before .before .before .pre .0 .1)) (c .before .before .before .before .before .before .before .before .before .loop-test .taken)))
+    (λ c. omega (arith, asking-room (c .before .before .before .before .before .before .before .before .before .before .loop .inv .0 (c .before .before .before .before .before .before .before .before .before .before .before .before .before .before .before .before .pre .0 .0) (c .before .before .before .before .before .before .before .before .before .before .before .before .before .before .before .before .pre .0 .1)) (c .before .before .before .before .before .before .before .before .before .loop-test .taken)))
     (λ c κs. search needs)
-    (λ c. asking-falls (c .before .before .before .before .before .before .before .before .before .before .before .loop .inv .0 (c .before .before .before .before .before .before .before .before .before .before .before .before .before .before .before .before .before .before .pre .0 .0) (c .before .before .before .before .before .before .before .before .before .before .before .before .before .before .before .before .before .before .pre .0 .1)) (c .before .before .before .before .before .before .before .before .before .before .loop-test .taken) (c .next-of .ensures))
+    (λ c. asking-falls (c .before .before .before .before .before .before .before .before .before .before .before .loop .inv .0 (c .before .before .before .before .before .before .before .before .before .before .before .before .before .before .before .before .before .pre .0 .0) (c .before .before .before .before .before .before .before .before .before .before .before .before .before .before .before .before .before .pre .0 .1)) (c .before .before .before .before .before .before .before .before .before .before .loop-test .taken) (c .next-of .ensures))
     loop-again
     (λ c. c .before .loop .inv .1 .size)
     (λ c. ap length (c .before .loop .inv .2))
