@@ -8,15 +8,15 @@ use lib.ListN.{length}
 use native.Mathlib.Omega.{arith}
 use Rattle.containment.specs.Verdicts.{CompliancePost, VerdictTested, settled}
 use Rattle.decision.proofs.Policies.{taken}
-use Rattle.decision.specs.Decisions.{Delivers, PreparedPair, decision}
+use Rattle.decision.specs.Decisions.{Delivers, decision}
 use Rattle.frames.proofs.Work.{Done, outputs-none}
 use Rattle.frames.specs.Frames.{Only, Span}
 use Rattle.functional.specs.declared.Functional.{Functional}
-use Rattle.layout.specs.Places.{InTables, pairsEnd}
+use Rattle.layout.specs.Places.{pairsEnd}
 use Rattle.meaning.proofs.Compliance.{compliance-told, no-escape}
 use Rattle.meaning.proofs.Interpretations.{tested-finite}
 use Rattle.meaning.specs.Answers.{VerdictResult, compliant, outside, result, verdictAnswer}
-use Rattle.meaning.specs.Containment.{Decision, Refutes, contained, decide, escapes, tooMany}
+use Rattle.meaning.specs.Containment.{Decision, Refutes, contained, crowded, escapes, resolve}
 use Rattle.meaning.specs.Countermodel.{countermodel}
 use Rattle.meaning.specs.Limits.{workSize}
 use Rattle.meaning.specs.Model.{Fact, factsOf, individualCount}
@@ -26,8 +26,8 @@ use Rattle.meaning.specs.Policy.{Policy, policyOf}
 use Rattle.meaning.specs.Promises.{CorrectVerdict, agreed, escaped, unsaidVerdict}
 use Rattle.meaning.specs.Vocabulary.{Vocabulary, vocabularyOf}
 use Rattle.meaning.specs.declared.Verdict.{Verdict}
-use Rattle.preparation.proofs.Laws.{prepared-kept}
-use Rattle.preparation.specs.Prepared.{Accepting, Prepared}
+use Rattle.preparation.specs.Prepared.{Prepared}
+use Rattle.short_way.specs.Stops.{PreparedPair}
 use Rattle.meaning.specs.declared.Verdict.the-variants as verdict
 
 -- ---- what is ready
@@ -39,11 +39,11 @@ pair-ready a full o g = record { prepared = g; full = omega arith; first = a .fi
 -- ---- 22 and the verdict
 
 module _ (v p q o : List ℕ) where
-  pub settles-22 : {b : Bool} → b ≡ tooMany (vocabularyOf v) (policyOf p) (policyOf q) → b ≡ true → Delivers (settled v p q (length o)) o o (verdict.Refused 22)
+  pub settles-22 : {b : Bool} → b ≡ crowded (vocabularyOf v) (policyOf p) (policyOf q) → b ≡ true → Delivers (settled v p q (length o)) o o (verdict.Refused 22)
   unfolding complianceOf
   settles-22 e h = rw (sym e ∙ h) (record { answer = refl; output = outputs-none o })
 
-  pub settles : {b : Bool} {o′ : List ℕ} {r : Verdict} → b ≡ tooMany (vocabularyOf v) (policyOf p) (policyOf q) → b ≡ false → Delivers (decision v p q (length o)) o o′ r →
+  pub settles : {b : Bool} {o′ : List ℕ} {r : Verdict} → b ≡ crowded (vocabularyOf v) (policyOf p) (policyOf q) → b ≡ false → Delivers (decision v p q (length o)) o o′ r →
       Delivers (settled v p q (length o)) o o′ r
   unfolding complianceOf
   settles e h d = rw (sym e ∙ h) d
@@ -53,7 +53,7 @@ module _ (v p q o : List ℕ) where
 module _ (K : Vocabulary) (P Q : Policy) (o : ℕ) where
   pub settled-late : comesLate (complianceOf K P Q o .answer) ≡ true
   unfolding complianceOf
-  settled-late = go (tooMany K P Q) (decide K P Q)
+  settled-late = go (crowded K P Q) (resolve K P Q)
     where
       fits : (b : Bool) (s q : ℕ) (words : List ℕ) → comesLate ((cond b (record { answer = result (outside s q (length words)); words = words }) (refuses 23)) .answer) ≡ true
       fits true s q words = refl

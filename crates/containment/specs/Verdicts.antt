@@ -3,7 +3,7 @@ use Prim.Native.Nat.{ℕ}
 use mathlib.Core.List.{List}
 use mathlib.Core.Path.{_≡_}
 use lib.ListN.{length, take}
-use Rattle.decision.specs.Decisions.{Delivers, PreparedPair}
+use Rattle.decision.specs.Decisions.{Delivers}
 use Rattle.functional.specs.declared.Functional.{Functional}
 use Rattle.meaning.specs.Answers.{VerdictResult, possibilityAnswer, result, verdictAnswer}
 use Rattle.meaning.specs.Containment.{ContainedTested, Refutes}
@@ -14,6 +14,7 @@ use Rattle.meaning.specs.Vocabulary.{vocabularyOf}
 use Rattle.meaning.specs.declared.Possibility.{Possibility}
 use Rattle.meaning.specs.declared.Verdict.{Verdict}
 use Rattle.preparation.specs.Prepared.{Accepting}
+use Rattle.short_way.specs.Stops.{PreparedPair}
 use Rattle.meaning.specs.declared.Verdict.the-variants as verdict
 
 -- ---- Possible

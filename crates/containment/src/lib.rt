@@ -1,6 +1,6 @@
 // The operations Possible and Compliance.
-use decision::decide;
-use decision::has_too_many;
+use decision::is_crowded;
+use decision::resolve;
 use frames::clear;
 use frames::work_refusal;
 use functional::Functional;
@@ -10,19 +10,18 @@ use meaning::limits::WORK_SIZE;
 use policy::first_term;
 use policy::next_of;
 use preparation::prepare;
-use splitting::ENDS;
-use splitting::collect;
+use short_way::find_stop;
 use tabulation::tabulate;
 ghost use mathlib.Core.List.{List};
 ghost use mathlib.Core.Path.{_≡_};
 ghost use Prim.Native.Nat.{_≤_, ℕ};
 ghost use lib.ListN.{length};
 ghost use Rattle.containment.specs.Verdicts.{CompliancePost, PossibleBy, PossiblePost, SettledBy};
-ghost use Rattle.decision.specs.Decisions.{PreparedPair};
 ghost use Rattle.frames.specs.Frames.{Only};
 ghost use Rattle.layout.specs.Places.{InTables};
 ghost use Rattle.meaning.specs.Limits.{workSize};
 ghost use Rattle.preparation.specs.Prepared.{Accepting};
+ghost use Rattle.short_way.specs.Stops.{PreparedPair};
 
 // The first term that is possible, counted from 1, impossible ones too.
 fn first_possible(p: &[u32], work: &mut [u32], f: Functional) -> Possibility
@@ -43,7 +42,7 @@ fn first_possible(p: &[u32], work: &mut [u32], f: Functional) -> Possibility
     Possibility::Impossible
 }
 
-// What Compliance answers after 21: 22 for every term of p before any verdict.
+// What Compliance answers after 21: the short way; where it fails 22, for every term of p before any verdict.
 fn settle(p: &[u32], q: &[u32], work: &mut [u32], f: Functional, out: &mut [u32]) -> Verdict
     requires { ⌜ ((v : List ℕ) × PreparedPair v (now p) (now q) (now work) f) ⌝ }
     ensures { λ r. ⌜ SettledBy (now (p .entry)) (now (q .entry)) (now (work .entry)) f
@@ -51,14 +50,11 @@ fn settle(p: &[u32], q: &[u32], work: &mut [u32], f: Functional, out: &mut [u32]
     ensures { λ _. ⌜ Only InTables (now (work .entry)) (now (work .exit)) ⌝ }
     ensures { λ _. ⌜ length (now (out .exit)) ≡ length (now (out .entry)) ⌝ }
 {
-    let mut space = [0; ENDS];
-    let n = collect(q, &mut space);
-    let ends = &space[..n];
-    let many = has_too_many(p, work, f, ends);
-    if many {
+    let stop = find_stop(p, q, work, f);
+    if is_crowded(p, q, work, f, stop) {
         return Verdict::Refused(22);
     }
-    decide(p, q, work, f, ends, out)
+    resolve(p, q, work, f, stop, out)
 }
 
 // Possible: the vocabulary's refusals, the policy's, 21, then the answer. Time grows with the vocabulary's records times its

@@ -39,7 +39,8 @@ use Rattle.meaning.specs.Vocabulary.{Vocabulary, classCount, featureCount, role
 use Rattle.meaning.specs.declared.Verdict.{Verdict}
 use Rattle.policy.proofs.Terms.{Asking, asking-found, asking-on, asking-term}
 use Rattle.preparation.specs.Prepared.{Prepared}
-use Rattle.short_way.specs.Stops.{Behind, LeftAt}
+use Rattle.short_way.proofs.Passing.{ready-still}
+use Rattle.short_way.specs.Stops.{Behind, LeftAt, PreparedPair, StopsBy}
 use Rattle.short_way.specs.declared.Stop.{Stop}
 use Rattle.tabulation.specs.Tabulation.{Tabulated}
 use Rattle.meaning.specs.declared.Verdict.the-variants as verdict
@@ -198,12 +199,21 @@ module _ {v p : List ℕ} (q : List ℕ) {s k : ℕ} (a : Asking (Undecided v p 
 
 -- ---- from the stop on
 
+pub pair-stopped : {v p q w w′ : List ℕ} {f : Functional} {stop : Stop} → PreparedPair v p q w f → Only InTables w w′ → StopsBy p q w f stop → StoppedPair v p q w′ f stop
+pair-stopped {v} r o h = record { ready = ready-still r o; stops = h v r }
+
 module _ {v p q w : List ℕ} {f : Functional} {stop : Stop} (a : StoppedPair v p q w f stop) where
   pub crowds-short : stop .term ≡ 0 → false ≡ crowded (vocabularyOf v) (policyOf p) (policyOf q)
   crowds-short z = sym (short-uncrowded (vocabularyOf v) (policyOf p) (policyOf q) (a .stops .succeeds z))
 
   pub crowds-split : {b : Bool} → (stop .term ≡ 0 → ⊥) → b ≡ tooMany (vocabularyOf v) (policyOf p) (policyOf q) → b ≡ crowded (vocabularyOf v) (policyOf p) (policyOf q)
   crowds-split n e = e ∙ sym (split-crowded (vocabularyOf v) (policyOf p) (policyOf q) (a .stops .fails n))
+
+  pub stopped-still : {w′ : List ℕ} → Only InTables w w′ → StoppedPair v p q w′ f stop
+  stopped-still o = record { ready = ready-still (a .ready) o; stops = a .stops }
+
+  pub stopped-free : {b : Bool} → b ≡ crowded (vocabularyOf v) (policyOf p) (policyOf q) → b ≡ false → Resolvable v p q w f stop
+  stopped-free e h = record { stopped = a; free = sym e ∙ h }
 
 module _ {v p q w : List ℕ} {f : Functional} {stop : Stop} (a : Resolvable v p q w f stop) where
   pub resolves-short : (o : List ℕ) → stop .term ≡ 0 → Delivers (decision v p q (length o)) o o verdict.Compliant
