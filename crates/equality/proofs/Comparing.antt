@@ -7,11 +7,11 @@ use mathlib.Core.Path.{_∙_, _≡_, ap, refl, subst, subst₂, sym}
 use lib.Dec.{leb}
 use lib.ListN.{length}
 use native.Mathlib.Omega.{arith}
-use Rattle.containment.proofs.Complying.{ready-back, ready-still}
-use Rattle.decision.proofs.Policies.{taken}
-use Rattle.decision.specs.Decisions.{Countable, Delivers, PreparedPair, decision}
+use Rattle.decision.proofs.Policies.{pair-stopped, stopped-free, stopped-still, taken}
+use Rattle.decision.specs.Decisions.{Delivers, Resolvable, StoppedPair, decision}
 use Rattle.equality.specs.Comparisons.{Comparable, Compares, ComparisonTested, EqualityPost, compared, difference, reverse}
 use Rattle.equality.specs.Comparisons.{sidedAnswer}
+use Rattle.frames.proofs.Frames.{only-then}
 use Rattle.frames.proofs.Work.{Done, outputs-none}
 use Rattle.frames.specs.Frames.{Only}
 use Rattle.functional.specs.declared.Functional.{Functional}
@@ -20,7 +20,7 @@ use Rattle.meaning.proofs.Compliance.{no-escape}
 use Rattle.meaning.proofs.Equality.{equality-compared}
 use Rattle.meaning.proofs.Interpretations.{tested-finite}
 use Rattle.meaning.specs.Answers.{ComparisonResult, comparisonAnswer, compliant, differs, equal, outside, refused, result, verdictAnswer}
-use Rattle.meaning.specs.Containment.{Decision, Refutes, contained, decide, escapes, tooMany}
+use Rattle.meaning.specs.Containment.{Decision, Refutes, contained, crowded, escapes, resolve}
 use Rattle.meaning.specs.Countermodel.{countermodel}
 use Rattle.meaning.specs.Model.{Fact, factsOf, individualCount}
 use Rattle.meaning.specs.Operations.{Outcome, comesLate, equality, equalityOf, inputRefusal, outputAfter, refuses, reported, says}
@@ -29,6 +29,9 @@ use Rattle.meaning.specs.Promises.{CorrectComparison, same, side1, side2, unsai
 use Rattle.meaning.specs.Vocabulary.{Vocabulary, vocabularyOf}
 use Rattle.meaning.specs.declared.Comparison.{Comparison}
 use Rattle.meaning.specs.declared.Verdict.{Verdict}
+use Rattle.short_way.proofs.Passing.{ready-back, ready-still}
+use Rattle.short_way.specs.Stops.{PreparedPair, StopsBy}
+use Rattle.short_way.specs.declared.Stop.{Stop}
 use Rattle.meaning.specs.declared.Comparison.the-variants as comparison
 use Rattle.meaning.specs.declared.Verdict.the-variants as verdict
 
@@ -91,7 +94,7 @@ module _ (K : Vocabulary) (o o′ : List ℕ) where
 
 module _ (v p q : List ℕ) where
   abbrev decided : Decision
-  decided = decide (vocabularyOf v) (policyOf p) (policyOf q)
+  decided = resolve (vocabularyOf v) (policyOf p) (policyOf q)
 
   module _ {o o′ : List ℕ} {y : Verdict} (a : Delivers (decision v p q (length o)) o o′ y) where
     is : {z : Verdict} → y ≡ z → Delivers (decision v p q (length o)) o o′ z
@@ -104,8 +107,8 @@ module _ (v p q : List ℕ) where
         let f = forth-on (vocabularyOf v) o o′ decided (is h) in
         let d = subst (λ (l : List ℕ). Delivers (decision v q p (length l)) l o″ r) (f .1) b in
         rw (f .0) (record {
-          answer = e ∙ ap (sidedAnswer 2) (d .answer) ∙ side-answer (vocabularyOf v) o o″ 2 (decide (vocabularyOf v) (policyOf q) (policyOf p));
-          output = d .output ∙ ap (λ (l : List ℕ). outputAfter l o) (side-words (vocabularyOf v) o o″ 2 (decide (vocabularyOf v) (policyOf q) (policyOf p)));
+          answer = e ∙ ap (sidedAnswer 2) (d .answer) ∙ side-answer (vocabularyOf v) o o″ 2 (resolve (vocabularyOf v) (policyOf q) (policyOf p));
+          output = d .output ∙ ap (λ (l : List ℕ). outputAfter l o) (side-words (vocabularyOf v) o o″ 2 (resolve (vocabularyOf v) (policyOf q) (policyOf p)));
         })
 
     pub differs-outside : {s c n : ℕ} → y ≡ verdict.Outside s c n → Compares (difference v p q (length o)) o o′ (comparison.Differs 1 s c n)
@@ -116,23 +119,33 @@ module _ (v p q : List ℕ) where
 
 -- ---- one direction, then the other
 
-module _ {v p q w : List ℕ} {f : Functional} (h : Comparable v p q w f) where
-  pub countable-forth : Countable v p q w f
-  countable-forth = record { ready = h .ready; few = h .forth }
+-- the short way stopped there in either direction
+pub record BothStopped (v p q w : List ℕ) (f : Functional) (forth back : Stop) : Type 0 where
+  pub first : StoppedPair v p q w f forth
+  pub second : StoppedPair v q p w f back
 
-  pub countable-back : {w′ : List ℕ} → Only InTables w w′ → Countable v q p w′ f
-  countable-back o = record { ready = ready-back (ready-still (h .ready) o); few = h .back }
+pub both-stopped : {v p q w w′ w″ : List ℕ} {f : Functional} {forth back : Stop} → PreparedPair v p q w f → Only InTables w w′ → Only InTables w′ w″ →
+    StopsBy p q w f forth → StopsBy q p w′ f back → BothStopped v p q w″ f forth back
+both-stopped r o o′ h i = record { first = pair-stopped r (only-then o o′) h; second = pair-stopped (ready-back (ready-still r o)) o′ i }
+
+module _ {v p q w : List ℕ} {f : Functional} {forth back : Stop} where
+  pub both-still : {w′ : List ℕ} → BothStopped v p q w f forth back → Only InTables w w′ → BothStopped v p q w′ f forth back
+  both-still b o = record { first = stopped-still (b .first) o; second = stopped-still (b .second) o }
+
+  -- the second direction, after the first
+  pub back-still : {w′ : List ℕ} → Comparable v p q w f forth back → Only InTables w w′ → Resolvable v q p w′ f back
+  back-still h o = record { stopped = stopped-still (h .second .stopped) o; free = h .second .free }
 
 -- ---- 22 looks at both directions
 
-module _ (v p q o : List ℕ) {a b : Bool} (e : a ≡ tooMany (vocabularyOf v) (policyOf p) (policyOf q)) (f : b ≡ tooMany (vocabularyOf v) (policyOf q) (policyOf p)) where
+module _ (v p q o : List ℕ) {a b : Bool} (e : a ≡ crowded (vocabularyOf v) (policyOf p) (policyOf q)) (f : b ≡ crowded (vocabularyOf v) (policyOf q) (policyOf p)) where
   pub compares-22 : (a || b) ≡ true → Compares (compared v p q (length o)) o o (comparison.Refused 22)
   unfolding equalityOf
   compares-22 h = rw (sym e, sym f, h) (record { answer = refl; output = outputs-none o })
 
   module _ (h : (a || b) ≡ false) where
-    pub compares-none : {w : List ℕ} {x : Functional} → PreparedPair v p q w x → Comparable v p q w x
-    compares-none r = record { ready = r; forth = sym e ∙ go a b h .0; back = sym f ∙ go a b h .1 }
+    pub compares-none : {w : List ℕ} {x : Functional} {forth back : Stop} → BothStopped v p q w x forth back → Comparable v p q w x forth back
+    compares-none r = record { first = stopped-free (r .first) e (go a b h .0); second = stopped-free (r .second) f (go a b h .1) }
       where
         go : (a b : Bool) → (a || b) ≡ false → (a ≡ false) × (b ≡ false)
         go true b h = absurd (let z : _≡_ {A = ℕ} 0 1 = cc in omega arith)
@@ -147,7 +160,7 @@ module _ (v p q o : List ℕ) {a b : Bool} (e : a ≡ tooMany (vocabularyOf v) (
 module _ (K : Vocabulary) (P Q : Policy) (o : ℕ) where
   pub compared-late : comesLate (equalityOf K P Q o .answer) ≡ true
   unfolding equalityOf
-  compared-late = go (tooMany K P Q || tooMany K Q P) (decide K P Q) (decide K Q P)
+  compared-late = go (crowded K P Q || crowded K Q P) (resolve K P Q) (resolve K Q P)
     where
       fits : (b : Bool) (side s q : ℕ) (words : List ℕ) → comesLate ((cond b (record { answer = result (differs side s q (length words)); words = words }) (refuses 23)) .answer) ≡ true
       fits true side s q words = refl

@@ -1,21 +1,21 @@
 -- What Equality answers after 21, and what its answers say of interpretations.
 use Prim.Native.Nat.{ℕ}
-use mathlib.Core.Bool.{false}
 use mathlib.Core.List.{List}
 use mathlib.Core.Logic.{_⊎_}
 use mathlib.Core.Path.{_≡_}
 use lib.ListN.{length, take}
-use Rattle.decision.specs.Decisions.{PreparedPair}
+use Rattle.decision.specs.Decisions.{Resolvable}
 use Rattle.functional.specs.declared.Functional.{Functional}
 use Rattle.meaning.specs.Answers.{Answer, ComparisonResult, VerdictResult, comparisonAnswer, compliant, differs, equal, outside, refused}
 use Rattle.meaning.specs.Answers.{result}
-use Rattle.meaning.specs.Containment.{IndistinctTested, Refutes, decide, tooMany}
+use Rattle.meaning.specs.Containment.{IndistinctTested, Refutes, resolve}
 use Rattle.meaning.specs.Model.{factsOf, individualCount}
 use Rattle.meaning.specs.Operations.{Outcome, equality, equalityOf, outputAfter, reported, says, workAfter}
 use Rattle.meaning.specs.Policy.{policyOf}
 use Rattle.meaning.specs.Vocabulary.{vocabularyOf}
 use Rattle.meaning.specs.declared.Comparison.{Comparison}
-use Rattle.splitting.specs.Ends.{Ends}
+use Rattle.short_way.specs.Stops.{PreparedPair}
+use Rattle.short_way.specs.declared.Stop.{Stop}
 use Rattle.meaning.specs.declared.Comparison.the-variants as comparison
 
 -- what a verdict of one direction says there
@@ -31,27 +31,22 @@ pub record Compares (x : Outcome ComparisonResult) (o o′ : List ℕ) (r : Comp
 
 -- the first direction's difference before the second's (SPECIFICATION 9.7), with an output of so many words, and after 21
 abbrev pub reverse : List ℕ → List ℕ → List ℕ → ℕ → Outcome ComparisonResult
-reverse v p q o = reported (vocabularyOf v) o (differs 2) (decide (vocabularyOf v) (policyOf q) (policyOf p)) (says equal)
+reverse v p q o = reported (vocabularyOf v) o (differs 2) (resolve (vocabularyOf v) (policyOf q) (policyOf p)) (says equal)
 
 abbrev pub difference : List ℕ → List ℕ → List ℕ → ℕ → Outcome ComparisonResult
-difference v p q o = reported (vocabularyOf v) o (differs 1) (decide (vocabularyOf v) (policyOf p) (policyOf q)) (reverse v p q o)
+difference v p q o = reported (vocabularyOf v) o (differs 1) (resolve (vocabularyOf v) (policyOf p) (policyOf q)) (reverse v p q o)
 
 abbrev pub compared : List ℕ → List ℕ → List ℕ → ℕ → Outcome ComparisonResult
 compared v p q o = equalityOf (vocabularyOf v) (policyOf p) (policyOf q) o
 
--- the ends of both policies
-abbrev pub BothEnds : List ℕ → List ℕ → List ℕ → List ℕ → Type 0
-BothEnds p q first second = Ends (policyOf p) first × Ends (policyOf q) second
-
--- the vocabulary is ready, and there is no 22 in either direction
-pub record Comparable (v p q w : List ℕ) (f : Functional) : Type 0 where
-  pub ready : PreparedPair v p q w f
-  pub forth : tooMany (vocabularyOf v) (policyOf p) (policyOf q) ≡ false
-  pub back : tooMany (vocabularyOf v) (policyOf q) (policyOf p) ≡ false
+-- the short way stopped there in either direction, and there is no 22 in either
+pub record Comparable (v p q w : List ℕ) (f : Functional) (forth back : Stop) : Type 0 where
+  pub first : Resolvable v p q w f forth
+  pub second : Resolvable v q p w f back
 
 -- what both directions tell, by whatever vocabulary
-abbrev pub DifferenceBy : List ℕ → List ℕ → List ℕ → Functional → List ℕ → List ℕ → Comparison → Type 0
-DifferenceBy p q w f o o′ r = (v : List ℕ) → Comparable v p q w f → Compares (difference v p q (length o)) o o′ r
+abbrev pub DifferenceBy : List ℕ → List ℕ → List ℕ → Functional → Stop → Stop → List ℕ → List ℕ → Comparison → Type 0
+DifferenceBy p q w f forth back o o′ r = (v : List ℕ) → Comparable v p q w f forth back → Compares (difference v p q (length o)) o o′ r
 
 abbrev pub ComparedBy : List ℕ → List ℕ → List ℕ → Functional → List ℕ → List ℕ → Comparison → Type 0
 ComparedBy p q w f o o′ r = (v : List ℕ) → PreparedPair v p q w f → Compares (compared v p q (length o)) o o′ r

@@ -1,6 +1,6 @@
 // The operation Equality.
-use decision::decide;
-use decision::has_too_many;
+use decision::is_crowded;
+use decision::resolve;
 use frames::clear;
 use frames::work_refusal;
 use functional::Functional;
@@ -8,17 +8,17 @@ use meaning::Comparison;
 use meaning::Verdict;
 use meaning::limits::WORK_SIZE;
 use preparation::prepare;
-use splitting::ENDS;
-use splitting::collect;
+use short_way::Stop;
+use short_way::find_stop;
 ghost use mathlib.Core.List.{List};
 ghost use mathlib.Core.Path.{_≡_};
 ghost use Prim.Native.Nat.{ℕ};
 ghost use lib.ListN.{length};
-ghost use Rattle.decision.specs.Decisions.{PreparedPair};
-ghost use Rattle.equality.specs.Comparisons.{BothEnds, Comparable, ComparedBy, DifferenceBy, EqualityPost, sidedAnswer};
+ghost use Rattle.equality.specs.Comparisons.{Comparable, ComparedBy, DifferenceBy, EqualityPost, sidedAnswer};
 ghost use Rattle.frames.specs.Frames.{Only};
 ghost use Rattle.layout.specs.Places.{InTables};
 ghost use Rattle.meaning.specs.Answers.{comparisonAnswer, verdictAnswer};
+ghost use Rattle.short_way.specs.Stops.{PreparedPair};
 
 // The verdict of one direction as an answer of Equality.
 fn sided(side: u32, verdict: Verdict) -> Comparison
@@ -37,26 +37,25 @@ fn differ(
     q: &[u32],
     work: &mut [u32],
     f: Functional,
-    first: &[u64],
-    second: &[u64],
+    forth: Stop,
+    back: Stop,
     out: &mut [u32],
 ) -> Comparison
-    requires { ⌜ ((v : List ℕ) × Comparable v (now p) (now q) (now work) f) ⌝ }
-    requires { ⌜ BothEnds (now p) (now q) (now first) (now second) ⌝ }
-    ensures { λ r. ⌜ DifferenceBy (now (p .entry)) (now (q .entry)) (now (work .entry)) f
+    requires { ⌜ ((v : List ℕ) × Comparable v (now p) (now q) (now work) f forth back) ⌝ }
+    ensures { λ r. ⌜ DifferenceBy (now (p .entry)) (now (q .entry)) (now (work .entry)) f forth back
         (now (out .entry)) (now (out .exit)) r ⌝ }
     ensures { λ _. ⌜ Only InTables (now (work .entry)) (now (work .exit)) ⌝ }
     ensures { λ _. ⌜ length (now (out .exit)) ≡ length (now (out .entry)) ⌝ }
 {
-    let forth = decide(p, q, work, f, second, out);
-    match forth {
-        Verdict::Compliant => sided(2, decide(q, p, work, f, first, out)),
+    let verdict = resolve(p, q, work, f, forth, out);
+    match verdict {
+        Verdict::Compliant => sided(2, resolve(q, p, work, f, back, out)),
         Verdict::Outside(s, c, n) => Comparison::Differs(1, s, c, n),
         Verdict::Refused(n) => Comparison::Refused(n),
     }
 }
 
-// What Equality answers after 21: 22 for both directions before any verdict.
+// What Equality answers after 21: the short way in both directions; then 22 for each that fails, both before any verdict.
 fn compare(p: &[u32], q: &[u32], work: &mut [u32], f: Functional, out: &mut [u32]) -> Comparison
     requires { ⌜ ((v : List ℕ) × PreparedPair v (now p) (now q) (now work) f) ⌝ }
     ensures { λ r. ⌜ ComparedBy (now (p .entry)) (now (q .entry)) (now (work .entry)) f
@@ -64,18 +63,14 @@ fn compare(p: &[u32], q: &[u32], work: &mut [u32], f: Functional, out: &mut [u32
     ensures { λ _. ⌜ Only InTables (now (work .entry)) (now (work .exit)) ⌝ }
     ensures { λ _. ⌜ length (now (out .exit)) ≡ length (now (out .entry)) ⌝ }
 {
-    let mut room = [0; ENDS];
-    let n = collect(p, &mut room);
-    let first = &room[..n];
-    let mut space = [0; ENDS];
-    let m = collect(q, &mut space);
-    let second = &space[..m];
-    let forth = has_too_many(p, work, f, second);
-    let back = has_too_many(q, work, f, first);
-    if forth | back {
+    let forth = find_stop(p, q, work, f);
+    let back = find_stop(q, p, work, f);
+    let many = is_crowded(p, q, work, f, forth);
+    let more = is_crowded(q, p, work, f, back);
+    if many | more {
         return Comparison::Refused(22);
     }
-    differ(p, q, work, f, first, second, out)
+    differ(p, q, work, f, forth, back, out)
 }
 
 // Equality: the same refusals in the same order, 22 for both directions; then the first direction's difference, the second's, or
