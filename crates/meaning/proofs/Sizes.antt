@@ -2,7 +2,7 @@
 -- that roles and features are those of the term.
 use Prim.Native.Nat.{_*_, _+_, _≤_, suc, zero, ℕ}
 use mathlib.Core.Bool.{Bool, _&&_}
-use mathlib.Core.List.{List, [], _++_, _∷_}
+use mathlib.Core.List.{List, [], _++_, _∷_, append-nil}
 use mathlib.Core.Path.{_≡_, refl, subst, sym}
 use lib.Dec.{eqb}
 use lib.ListN.{length, length-append, length-map}
@@ -14,7 +14,7 @@ use Rattle.meaning.proofs.Pairs.{pairs-in}
 use Rattle.meaning.proofs.Picks.{Parts, Picked, PickedForm, no-parts, none-picked, parts, picked}
 use Rattle.meaning.proofs.Refusals.{cond-all}
 use Rattle.meaning.proofs.Rules.{all-append, all-at, all-map, all-of, head, tail}
-use Rattle.meaning.specs.Accepted.{NamedChain, count}
+use Rattle.meaning.specs.Accepted.{NamedChain, count, intervalCount}
 use Rattle.meaning.specs.Countermodel.{canonicalModel, classesAbove, edges, individuals, insertPair, pairBefore, pairs}
 use Rattle.meaning.specs.Countermodel.{recordsBelow, recordsOf, samePair, size}
 use Rattle.meaning.specs.Intervals.{Constraint, valueOf}
@@ -24,6 +24,7 @@ use Rattle.meaning.specs.NormalForm.{Form, Node, Successors, add, bare, 
 use Rattle.meaning.specs.NormalForm.{successor, withClass, withConstraint, withSuccessor}
 use Rattle.meaning.specs.Policy.{Chain, Policy, class, end, impossible, interval, some}
 use Rattle.meaning.specs.Records.{Name}
+use Rattle.meaning.specs.Splitting.{constraintsBelow, constraintsOf}
 use Rattle.meaning.specs.Stated.{isBelow, isFunctionalFeature, isFunctionalRole, ranges}
 use Rattle.meaning.specs.Vocabulary.{Vocabulary}
 
@@ -75,6 +76,39 @@ add-weight K (interval f lo hi next) t =
 pub normal-weight : (K : Vocabulary) (c : Chain) → formWeight (normalForm K c) ≤ count c
 unfolding normalForm
 normal-weight K c = omega (arith, add-weight K c (bare []))
+
+-- ---- nor has it more constraints than its term has intervals
+
+-- how many constraints a form has
+abbrev held : Form → ℕ
+held t = length (constraintsOf t)
+
+place-held : (one : Bool) (r : ℕ) (fresh : Form) (grow : Form → Form) (n : ℕ) → held fresh ≡ 0 → ((t : Form) → held (grow t) ≤ held t + n) →
+    (under : Successors) → length (constraintsBelow (placeSuccessor one r fresh grow under)) ≤ length (constraintsBelow under) + n
+place-held one r fresh grow n z g none = simp append-nil (omega (arith, g fresh))
+place-held one r fresh grow n z g (successor q m under next) =
+    let t : Form = record { node = m; successors = under } in
+    let h = place-held one r fresh grow n z g next in
+    cond-all (λ (s : Successors). length (constraintsBelow s) ≤ length (constraintsBelow (successor q m under next)) + n) (one && eqb r q)
+    (simp length-append (omega (arith, simp length-append at (g t)))) (simp length-append (omega arith))
+
+add-held : (K : Vocabulary) (c : Chain) (t : Form) → held (add K c t) ≤ held t + intervalCount c
+add-held K end t = omega arith
+add-held K (class a next) t = add-held K next (withClass a t)
+add-held K (impossible next) t = add-held K next t
+add-held K (some r child next) t =
+    let a = place-held (isFunctionalRole K r) r (bare (ranges K r)) (add K child) (intervalCount child) refl (add-held K child) (t .successors) in
+    let b = simp length-append at (add-held K next (withSuccessor K r (add K child) t)) in
+    simp length-append (omega arith)
+add-held K (interval f lo hi next) t =
+    let s : Constraint = record { feature = f; lo = lo; hi = hi } in
+    let a = length-placeConstraint-≤ (isFunctionalFeature K f) s (t .node .constraints) in
+    let b = simp length-append at (add-held K next (withConstraint K s t)) in
+    simp length-append (omega arith)
+
+pub normal-intervals : (K : Vocabulary) (c : Chain) → length (constraintsOf (normalForm K c)) ≤ intervalCount c
+unfolding normalForm
+normal-intervals K c = omega (arith, add-held K c (bare []))
 
 -- ---- its roles are among 1 to R, its features among 1 to F
 

@@ -47,7 +47,7 @@ depth (impossible next) = max 1 (depth next)
 depth (some r child next) = max (suc (depth child)) (depth next)
 depth (interval f lo hi next) = max 1 (depth next)
 
--- how many records a chain is made of, and how many terms and conjuncts a policy
+-- how many records a chain is made of
 abbrev pub count : Chain → ℕ
 count end = 0
 count (class a next) = suc (count next)
@@ -55,6 +55,15 @@ count (impossible next) = suc (count next)
 count (some r child next) = suc (count child + count next)
 count (interval f lo hi next) = suc (count next)
 
+-- how many of them are intervals
+abbrev pub intervalCount : Chain → ℕ
+intervalCount end = 0
+intervalCount (class a next) = intervalCount next
+intervalCount (impossible next) = intervalCount next
+intervalCount (some r child next) = intervalCount child + intervalCount next
+intervalCount (interval f lo hi next) = suc (intervalCount next)
+
+-- how many terms and conjuncts a policy has
 abbrev pub total : Policy → ℕ
 total [] = 0
 total (c ∷ P) = suc (count c + total P)

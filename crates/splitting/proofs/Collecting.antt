@@ -25,7 +25,7 @@ module _ (q : List ℕ) (k : ℕ) (c : Chain) where
   keys-first : keysOf (conjunctAt q k child c) ≡ keysOf (conjunctOf q k) ++ keysOf c
   keys-first = conjunct-kinds (λ here all. keysOf all ≡ keysOf here ++ keysOf c) q k child c (λ a. refl) refl (λ r. rw append-nil) (λ f lo hi. refl)
 
-  count-first : count (conjunctAt q k child c) ≡ count (conjunctOf q k) + count c
+  pub count-first : count (conjunctAt q k child c) ≡ count (conjunctOf q k) + count c
   count-first =
       conjunct-kinds (λ here all. count all ≡ count here + count c) q k child c (λ a. omega arith) (omega arith) (λ r. omega arith) (λ f lo hi. omega arith)
 

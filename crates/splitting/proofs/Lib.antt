@@ -1,6 +1,7 @@
 -- The laws that the functions' proofs cite.
 pub mod Keys
 pub mod Collecting
+pub mod Tallying
 pub mod Policies
 pub mod Nearest
 pub mod Pieces

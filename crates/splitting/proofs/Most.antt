@@ -4,14 +4,12 @@ use mathlib.Core.Bool.{Bool, cond, false, true}
 use mathlib.Core.List.{List, [], _∷_}
 use mathlib.Core.Logic.{_⊎_, inl, inr}
 use mathlib.Core.Path.{_≡_, refl}
-use native.Mathlib.Nat.{div-mul-le-self, mul-le-mul, mul-le-mul-right}
-use native.Mathlib.Numerals.{add-one}
+use native.Mathlib.Nat.{div-mul-le-self, mul-comm, mul-le-mul, mul-le-mul-right}
 use native.Mathlib.Omega.{arith}
 use lib.Dec.{eqb, leb, ltb}
 use lib.ListN.{length}
 use Rattle.keys.proofs.Ranking.{rising-tail}
 use Rattle.keys.specs.Keys.{keyOf}
-use Rattle.layout.specs.Tables.{constraintAt}
 use Rattle.meaning.proofs.Count.{count-pieces}
 use Rattle.meaning.proofs.Points.{above, insert-all, insert-here, insert-sorted, insert-there, inserts-all, points-sorted}
 use Rattle.meaning.proofs.Rules.{all-at, all-mono, all-of, any-cases, any-none}
@@ -19,9 +17,8 @@ use Rattle.meaning.specs.Intervals.{Constraint, isWithin}
 use Rattle.meaning.specs.Limits.{mostCombinations}
 use Rattle.meaning.specs.Lists.{_∈_, cons, filter, here, nil, there}
 use Rattle.meaning.specs.Policy.{Policy}
-use Rattle.meaning.specs.Splitting.{Sorted, insert, pieces, points, wide, wideNeighbours}
+use Rattle.meaning.specs.Splitting.{Sorted, insert, pieces, points, product, wide, wideNeighbours}
 use Rattle.splitting.proofs.Pieces.{filtered}
-use Rattle.splitting.proofs.Ways.{ways, ways-product}
 use Rattle.splitting.specs.Ends.{Ends, endsOn}
 use Rattle.splitting.specs.Constraints.{Few}
 
@@ -98,16 +95,21 @@ pieces-within Q e s n = omega (arith, count-pieces Q s, neighbours-most (points 
 pub room-fits : (a d : ℕ) → a ≤ mostCombinations / d → a * d ≤ mostCombinations
 room-fits a d h = omega (arith, mul-le-mul-right d h, div-mul-le-self mostCombinations d)
 
--- the first i constraints have at most a combinations, whatever they are
+-- i constraints, or fewer, have at most a combinations, whatever they are
 abbrev pub Within : List ℕ → ℕ → ℕ → Type 0
-Within e i a = (Q : Policy) → Ends Q e → (w : List ℕ) → ways Q w i ≤ a
+Within e i a = (Q : Policy) → Ends Q e → (l : List Constraint) → length l ≤ i → product Q l ≤ a
+
+pub within-none : (e : List ℕ) → Within e 0 1
+within-none e Q n [] h = omega arith
+within-none e Q n (s ∷ l) h = absurd (omega arith)
 
 pub within-more : (e : List ℕ) (i a most : ℕ) → 2 * length e + 3 ≤ most → Within e i a → Within e (i + 1) (a * most)
-within-more e i a most b h Q n w =
-    let k = pieces-within Q e (constraintAt w i) n in
-    rw add-one (mul-le-mul (h Q n w) (omega arith))
+within-more e i a most b h Q n [] k =
+    let c : 1 ≤ most = omega arith in
+    mul-le-mul (h Q n [] (omega arith)) c
+within-more e i a most b h Q n (s ∷ l) k =
+    let c : length (pieces Q s) ≤ most = omega (arith, pieces-within Q e s n) in
+    rw (mul-comm a most) (mul-le-mul c (h Q n l (omega arith)))
 
-pub within-few : (e : List ℕ) (i n a : ℕ) → i ≤ n → n ≤ i → a ≤ mostCombinations → Within e i a → Few e n
-within-few e i n a p q b h Q m w =
-    let z : i ≡ n = omega arith in
-    rw (← z) (omega (arith, h Q m w, ways-product Q w i))
+pub within-few : (e : List ℕ) (i n a : ℕ) → n ≤ i → a ≤ mostCombinations → Within e i a → Few e n
+within-few e i n a q b h Q m l k = omega (arith, h Q m l (omega arith))

@@ -31,9 +31,9 @@ pub record Splittable (w : List ℕ) (n : ℕ) : Type 0 where
 abbrev pub pieceCount : Policy → List ℕ → ℕ → ℕ
 pieceCount Q w m = length (pieces Q (constraintAt w m))
 
--- the first n have at most 65,536 combinations, whatever they are, for whatever policy the pairs are the ends of
+-- n constraints, or fewer, have at most 65,536 combinations, whatever they are, for whatever policy the pairs are the ends of
 abbrev pub Few : List ℕ → ℕ → Type 0
-Few e n = (Q : Policy) → Ends Q e → (w : List ℕ) → product Q (firstConstraints w n) ≤ mostCombinations
+Few e n = (Q : Policy) → Ends Q e → (l : List Constraint) → length l ≤ n → product Q l ≤ mostCombinations
 
 -- r is how many combinations the first n have, 65,537 where they are more, for whatever policy the pairs are the ends of
 abbrev pub Multiplied : List ℕ → List ℕ → ℕ → ℕ → Type 0

@@ -24,11 +24,13 @@ ghost use lib.ListN.{length};
 ghost use Rattle.keys.specs.Keys.{Gathered, keyOf};
 ghost use Rattle.layout.specs.Tables.{intervalOf};
 ghost use Rattle.meaning.specs.Intervals.{NonEmpty};
-ghost use Rattle.meaning.specs.Policy.{Policy, policyOf};
+ghost use Rattle.meaning.specs.Accepted.{intervalCount};
+ghost use Rattle.meaning.specs.Policy.{Policy, policyOf, termAt};
 ghost use Rattle.meaning.specs.Splitting.{pieces};
 ghost use Rattle.policy.specs.Terms.{conjunctOf, conjunctsAt};
 ghost use Rattle.splitting.specs.Ends.{Chained, Collectable, Collected, Ends, NextEnd, NextUpper, Single, keysOf};
 ghost use Rattle.splitting.specs.Constraints.{Few, Multiplied, Splittable, Started};
+ghost use Rattle.splitting.specs.Intervals.{ChainCounted, Countable, OneCounted};
 
 // The keys of a constraint's two ends.
 fn add_ends(ends: &mut [u64], n: usize, f: FeatureNo, lo: u32, hi: u32) -> usize
@@ -130,6 +132,44 @@ pub fn count(ends: &[u64], f: FeatureNo, lo: u32, hi: u32) -> usize
         c += 1;
     }
     c
+}
+
+// How many intervals record k has: its own, or those of its child chain, with a level less.
+fn intervals_at(p: &[u32], left: u32, k: u32) -> usize
+    requires { ⌜ OneCounted (now p) left k ⌝ }
+    ensures { λ r. ⌜ r ≡ intervalCount (conjunctOf (now (p .entry)) k) ⌝ }
+{
+    let kind = kind_of(p, k);
+    if kind == 3 {
+        return intervals_from(p, left - 1, child_of(p, k));
+    }
+    if kind == 4 {
+        return 1;
+    }
+    0
+}
+
+// How many intervals the chain from record first on has. left counts the levels of conjuncts that may still stand. It ends as
+// collect_from does.
+fn intervals_from(p: &[u32], left: u32, first: u32) -> usize
+    requires { ⌜ ChainCounted (now p) left first ⌝ }
+    ensures { λ r. ⌜ r ≡ intervalCount (conjunctsAt (now (p .entry)) first) ⌝ }
+{
+    let mut n: usize = 0;
+    let mut k = first;
+    while k != 0 {
+        n += intervals_at(p, left, k);
+        k = next_of(p, k);
+    }
+    n
+}
+
+// How many intervals the term at record k has: its normal form has no more constraints.
+pub fn count_intervals(p: &[u32], k: u32) -> usize
+    requires { ⌜ Countable (now p) k ⌝ }
+    ensures { λ r. ⌜ r ≡ intervalCount (termAt (now (p .entry)) k) ⌝ }
+{
+    intervals_from(p, MOST_DEPTH, child_of(p, k))
 }
 
 // Whether n constraints may have over 65,536 combinations, by how many ends there are alone: a constraint has at most two pieces for

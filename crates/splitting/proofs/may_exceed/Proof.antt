@@ -1,10 +1,10 @@
--- `may_exceed`: after i turns `all` is at most 65,536, and the first i constraints, whatever they are, have no more combinations.
+-- `may_exceed`: after i turns `all` is at most 65,536, and i constraints, whatever they are, have no more combinations.
 use borrow.Author.Needs.{needs}
 use Prim.Native.Nat.{_-_, _≤_, ℕ}
 use mathlib.Core.Path.{_≡_}
 use native.Mathlib.Omega.{arith}
 use Rattle.meaning.specs.Limits.{mostCombinations}
-use Rattle.splitting.proofs.Most.{Within, room-fits, within-few, within-more}
+use Rattle.splitting.proofs.Most.{Within, room-fits, within-few, within-more, within-none}
 use Rattle.splitting.proofs.may_exceed.Statement.{statement}
 use Rattle.splitting.proofs.may_exceed.Tie as tie
 
@@ -23,7 +23,7 @@ loop-again c =
 returns-2 : tie.Need-returns-2 Inv-loop μ-loop
 returns-2 c =
     let l = c .before .loop in
-    λ e. within-few (c .before .before .args .ends .now) (l .i) _ (l .all) (l .inv .0) (c .loop-test .left) (l .inv .1) (l .inv .2)
+    λ e. within-few (c .before .before .args .ends .now) (l .i) _ (l .all) (c .loop-test .left) (l .inv .1) (l .inv .2)
 
 pub may-exceed-spec : {M : Type 1} → statement M
 may-exceed-spec =
@@ -34,7 +34,7 @@ may-exceed-spec =
     (λ c. search needs)
     (λ c. search needs)
     (λ c. search needs)
-    (λ c. (omega arith, omega arith, λ Q m w. omega arith))
+    (λ c. (omega arith, omega arith, within-none _))
     (λ c e. absurd (let z : _≡_ {A = ℕ} 0 1 = cc in omega arith))
     (λ c. omega (arith, room-fits _ _ (c .if1 .left)))
     (λ c. search needs)
