@@ -1,4 +1,4 @@
--- Laws of Compliance as an operation: what is ready, 22 and the verdict, and demand 2.
+-- Laws of Compliance as an operation: what is ready, that all of it comes after 21, and demand 2.
 use Prim.Native.Nat.{_≤_, ℕ}
 use mathlib.Core.Bool.{Bool, cond, false, true}
 use mathlib.Core.List.{List}
@@ -6,10 +6,10 @@ use mathlib.Core.Path.{_∙_, _≡_, ap, refl, subst₂, sym}
 use lib.Dec.{leb}
 use lib.ListN.{length}
 use native.Mathlib.Omega.{arith}
-use Rattle.containment.specs.Verdicts.{CompliancePost, VerdictTested, settled}
+use Rattle.containment.specs.Verdicts.{CompliancePost, VerdictTested}
 use Rattle.decision.proofs.Policies.{taken}
-use Rattle.decision.specs.Decisions.{Delivers, decision}
-use Rattle.frames.proofs.Work.{Done, outputs-none}
+use Rattle.decision.specs.Decisions.{settled}
+use Rattle.frames.proofs.Work.{Done}
 use Rattle.frames.specs.Frames.{Only, Span}
 use Rattle.functional.specs.declared.Functional.{Functional}
 use Rattle.layout.specs.Places.{pairsEnd}
@@ -35,18 +35,6 @@ use Rattle.meaning.specs.declared.Verdict.the-variants as verdict
 -- after `prepare`
 pub pair-ready : {v p q w w′ : List ℕ} {f : Functional} → AcceptedInput v p q → workSize ≤ length w → Only (Span 0 pairsEnd) w w′ → Prepared v w′ f → PreparedPair v p q w′ f
 pair-ready a full o g = record { prepared = g; full = omega arith; first = a .firstPolicy; second = a .secondPolicy }
-
--- ---- 22 and the verdict
-
-module _ (v p q o : List ℕ) where
-  pub settles-22 : {b : Bool} → b ≡ crowded (vocabularyOf v) (policyOf p) (policyOf q) → b ≡ true → Delivers (settled v p q (length o)) o o (verdict.Refused 22)
-  unfolding complianceOf
-  settles-22 e h = rw (sym e ∙ h) (record { answer = refl; output = outputs-none o })
-
-  pub settles : {b : Bool} {o′ : List ℕ} {r : Verdict} → b ≡ crowded (vocabularyOf v) (policyOf p) (policyOf q) → b ≡ false → Delivers (decision v p q (length o)) o o′ r →
-      Delivers (settled v p q (length o)) o o′ r
-  unfolding complianceOf
-  settles e h d = rw (sym e ∙ h) d
 
 -- ---- all of it comes after 21
 

@@ -3,12 +3,12 @@ use Prim.Native.Nat.{ℕ}
 use mathlib.Core.List.{List}
 use mathlib.Core.Path.{_≡_}
 use lib.ListN.{length, take}
-use Rattle.decision.specs.Decisions.{Delivers}
+use Rattle.decision.specs.Decisions.{Delivers, settled}
 use Rattle.functional.specs.declared.Functional.{Functional}
-use Rattle.meaning.specs.Answers.{VerdictResult, possibilityAnswer, result, verdictAnswer}
+use Rattle.meaning.specs.Answers.{possibilityAnswer, result, verdictAnswer}
 use Rattle.meaning.specs.Containment.{ContainedTested, Refutes}
 use Rattle.meaning.specs.Model.{factsOf, individualCount}
-use Rattle.meaning.specs.Operations.{Outcome, compliance, complianceOf, outputAfter, possibility, possibleFrom, workAfter}
+use Rattle.meaning.specs.Operations.{compliance, outputAfter, possibility, possibleFrom, workAfter}
 use Rattle.meaning.specs.Policy.{policyOf}
 use Rattle.meaning.specs.Vocabulary.{vocabularyOf}
 use Rattle.meaning.specs.declared.Possibility.{Possibility}
@@ -29,10 +29,6 @@ pub record PossiblePost (v p w w′ : List ℕ) (r : Possibility) : Type 0 where
   pub work : w′ ≡ workAfter (possibilityAnswer r) w
 
 -- ---- Compliance
-
--- Compliance after 21, with an output of so many words
-abbrev pub settled : List ℕ → List ℕ → List ℕ → ℕ → Outcome VerdictResult
-settled v p q o = complianceOf (vocabularyOf v) (policyOf p) (policyOf q) o
 
 -- Compliance's outcome after 21 is delivered, by whatever vocabulary is prepared
 abbrev pub SettledBy : List ℕ → List ℕ → List ℕ → Functional → List ℕ → List ℕ → Verdict → Type 0

@@ -1,6 +1,5 @@
 // The operations Possible and Compliance.
-use decision::is_crowded;
-use decision::resolve;
+use decision::settle_from;
 use frames::clear;
 use frames::work_refusal;
 use functional::Functional;
@@ -42,7 +41,7 @@ fn first_possible(p: &[u32], work: &mut [u32], f: Functional) -> Possibility
     Possibility::Impossible
 }
 
-// What Compliance answers after 21: the short way; where it fails 22, for every term of p before any verdict.
+// What Compliance answers after 21: the short way, and what is left from where it stops.
 fn settle(p: &[u32], q: &[u32], work: &mut [u32], f: Functional, out: &mut [u32]) -> Verdict
     requires { ⌜ ((v : List ℕ) × PreparedPair v (now p) (now q) (now work) f) ⌝ }
     ensures { λ r. ⌜ SettledBy (now (p .entry)) (now (q .entry)) (now (work .entry)) f
@@ -51,10 +50,7 @@ fn settle(p: &[u32], q: &[u32], work: &mut [u32], f: Functional, out: &mut [u32]
     ensures { λ _. ⌜ length (now (out .exit)) ≡ length (now (out .entry)) ⌝ }
 {
     let stop = find_stop(p, q, work, f);
-    if is_crowded(p, q, work, f, stop) {
-        return Verdict::Refused(22);
-    }
-    resolve(p, q, work, f, stop, out)
+    settle_from(p, q, work, f, stop, out)
 }
 
 // Possible: the vocabulary's refusals, the policy's, 21, then the answer. Time grows with the vocabulary's records times its

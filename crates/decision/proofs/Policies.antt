@@ -7,7 +7,7 @@ use lib.ListN.{drop, length, take}
 use lib.Seq.{take-at}
 use native.Mathlib.Omega.{arith}
 use borrow.Author.Tests.{le-leb, lt-leb}
-use Rattle.decision.specs.Decisions.{Countable, Delivers, Failed, Failure, Reports, Resolvable, StoppedPair, decision, exceeds}
+use Rattle.decision.specs.Decisions.{Countable, Delivers, Failed, Failure, Reports, StoppedPair, decision, exceeds, settled}
 use Rattle.frames.proofs.Frames.{only-then}
 use Rattle.frames.proofs.Work.{outputs-none}
 use Rattle.frames.specs.Frames.{Only}
@@ -31,7 +31,7 @@ use Rattle.meaning.specs.Limits.{mostClasses}
 use Rattle.meaning.specs.Lists.{_∈_, any, firstFailing, found, here, nowhere, there}
 use Rattle.meaning.specs.Normal.{Bounded, Normal}
 use Rattle.meaning.specs.NormalForm.{Form, normalForm, possible}
-use Rattle.meaning.specs.Operations.{Outcome, outputAfter, reported, says, written}
+use Rattle.meaning.specs.Operations.{Outcome, complianceOf, outputAfter, reported, says, written}
 use Rattle.meaning.specs.Policy.{Chain, Policy, nextOf, policyOf, termAt}
 use Rattle.meaning.specs.Records.{Name}
 use Rattle.meaning.specs.Splitting.{combinations}
@@ -203,25 +203,28 @@ pub pair-stopped : {v p q w w′ : List ℕ} {f : Functional} {stop : Stop} → 
 pair-stopped {v} r o h = record { ready = ready-still r o; stops = h v r }
 
 module _ {v p q w : List ℕ} {f : Functional} {stop : Stop} (a : StoppedPair v p q w f stop) where
-  pub crowds-short : stop .term ≡ 0 → false ≡ crowded (vocabularyOf v) (policyOf p) (policyOf q)
-  crowds-short z = sym (short-uncrowded (vocabularyOf v) (policyOf p) (policyOf q) (a .stops .succeeds z))
+  abbrev K : Vocabulary
+  K = vocabularyOf v
 
-  pub crowds-split : {b : Bool} → (stop .term ≡ 0 → ⊥) → b ≡ tooMany (vocabularyOf v) (policyOf p) (policyOf q) → b ≡ crowded (vocabularyOf v) (policyOf p) (policyOf q)
-  crowds-split n e = e ∙ sym (split-crowded (vocabularyOf v) (policyOf p) (policyOf q) (a .stops .fails n))
+  pub settles-short : (o : List ℕ) → stop .term ≡ 0 → Delivers (settled v p q (length o)) o o verdict.Compliant
+  unfolding complianceOf
+  settles-short o z =
+      let e = a .stops .succeeds z in
+      rw (short-uncrowded K (policyOf p) (policyOf q) e)
+      (delivers-compliant K (policyOf p) (policyOf q) o refl (sym (short-agrees K (policyOf p) (policyOf q) e)))
 
-  pub stopped-still : {w′ : List ℕ} → Only InTables w w′ → StoppedPair v p q w′ f stop
-  stopped-still o = record { ready = ready-still (a .ready) o; stops = a .stops }
+  module _ (n : stop .term ≡ 0 → ⊥) {b : Bool} (e : b ≡ tooMany (vocabularyOf v) (policyOf p) (policyOf q)) where
+    pub stopped-crowded : b ≡ crowded (vocabularyOf v) (policyOf p) (policyOf q)
+    stopped-crowded = e ∙ sym (split-crowded K (policyOf p) (policyOf q) (a .stops .fails n))
 
-  pub stopped-free : {b : Bool} → b ≡ crowded (vocabularyOf v) (policyOf p) (policyOf q) → b ≡ false → Resolvable v p q w f stop
-  stopped-free e h = record { stopped = a; free = sym e ∙ h }
+    pub settles-22 : (o : List ℕ) → b ≡ true → Delivers (settled v p q (length o)) o o (verdict.Refused 22)
+    unfolding complianceOf
+    settles-22 o h = rw (sym stopped-crowded ∙ h) (record { answer = refl; output = outputs-none o })
 
-module _ {v p q w : List ℕ} {f : Functional} {stop : Stop} (a : Resolvable v p q w f stop) where
-  pub resolves-short : (o : List ℕ) → stop .term ≡ 0 → Delivers (decision v p q (length o)) o o verdict.Compliant
-  resolves-short o z = delivers-compliant (vocabularyOf v) (policyOf p) (policyOf q) o refl (sym (short-agrees (vocabularyOf v) (policyOf p) (policyOf q) (a .stopped .stops .succeeds z)))
+    module _ (h : b ≡ false) where
+      pub stopped-countable : {w′ : List ℕ} → Only InTables w w′ → Countable v p q w′ f (stop .place) (stop .term)
+      stopped-countable o = record { ready = ready-still (a .ready) o; left = a .stops .left; few = sym e ∙ h }
 
-  pub resolves-split : (stop .term ≡ 0 → ⊥) → Countable v p q w f (stop .place) (stop .term)
-  resolves-split n = record {
-    ready = a .stopped .ready;
-    left = a .stopped .stops .left;
-    few = sym (split-crowded (vocabularyOf v) (policyOf p) (policyOf q) (a .stopped .stops .fails n)) ∙ a .free;
-  }
+      pub settles-split : (o : List ℕ) {o′ : List ℕ} {r : Verdict} → Delivers (decision v p q (length o)) o o′ r → Delivers (settled v p q (length o)) o o′ r
+      unfolding complianceOf
+      settles-split o d = rw (sym stopped-crowded ∙ h) d

@@ -16,19 +16,20 @@ use Rattle.layout.specs.Places.{InTables}
 use Rattle.layout.specs.Tables.{Pieces}
 use Rattle.layout.specs.declared.Tables.{Tables}
 use Rattle.meaning.proofs.Rules.{order}
-use Rattle.meaning.specs.Accepted.{ChainOf}
+use Rattle.meaning.proofs.Sizes.{normal-intervals}
+use Rattle.meaning.specs.Accepted.{ChainOf, intervalCount}
 use Rattle.meaning.specs.Containment.{firstFailure, tooMany}
 use Rattle.meaning.specs.Limits.{mostCombinations, mostRecords}
 use Rattle.meaning.specs.Lists.{any}
 use Rattle.meaning.specs.NormalForm.{hasBottom, normalForm, possible}
 use Rattle.meaning.specs.Policy.{Chain, Policy, policyOf, policyRefusal}
-use Rattle.meaning.specs.Splitting.{combinationCount, product}
+use Rattle.meaning.specs.Splitting.{combinationCount, constraintsOf, product}
 use Rattle.meaning.specs.Vocabulary.{Vocabulary, vocabularyOf}
 use Rattle.preparation.proofs.Laws.{prepared-kept}
 use Rattle.preparation.specs.Prepared.{Prepared}
 use Rattle.splitting.proofs.Callers.{full-clean, full-nonEmpty, product-at}
 use Rattle.splitting.specs.Ends.{Ends}
-use Rattle.splitting.specs.Constraints.{Splittable, firstConstraints}
+use Rattle.splitting.specs.Constraints.{Few, Splittable, firstConstraints}
 use Rattle.tabulation.specs.Clean.{DecidesClean, cleanForm}
 use Rattle.tabulation.specs.Tabulation.{Shaped, Tabulated}
 use Rattle.trial.specs.Trials.{Triable, Tried}
@@ -82,6 +83,19 @@ clean-is K c h = go (not (hasBottom c)) h
     go true h = h
     go false h = cc
 
+-- few combinations do not exceed, whether the term is possible or not
+few-exceeds : (K : Vocabulary) (Q : Policy) (c : Chain) → combinationCount Q (normalForm K c) ≤ mostCombinations → false ≡ exceeds K Q c
+few-exceeds K Q c l = rw (le-ltb mostCombinations _ l) (go (possible K c))
+  where
+    go : (b : Bool) → false ≡ (b && false)
+    go true = refl
+    go false = refl
+
+-- nor do few intervals: the normal form has no more constraints
+pub intervals-within : (K : Vocabulary) (c : Chain) {e : List ℕ} {n : ℕ} → n ≡ intervalCount c → Few e n → (Q : Policy) → Ends Q e → false ≡ exceeds K Q c
+unfolding combinationCount
+intervals-within K c i f Q h = few-exceeds K Q c (f Q h (constraintsOf (normalForm K c)) (omega (arith, normal-intervals K c)))
+
 module _ {c : Chain} {f : Functional} {w w′ : List ℕ} {t : Tables} (d : Shaped c f w w′ t) where
   pub shape-splittable : t .impossible ≡ false → Splittable w′ (t .constraints)
   shape-splittable h = record { few = d .standing .constraints; long = d .standing .long; full = full-nonEmpty w′ (t .constraints) (d .nonEmpty h) }
@@ -90,21 +104,13 @@ module _ {c : Chain} {f : Functional} {w w′ : List ℕ} {t : Tables} (d : Shap
     pub shape-impossible : t .impossible ≡ true → false ≡ exceeds (vocabularyOf v) Q c
     shape-impossible h = rw (d .never v g o h)
 
-    pub shape-within : product Q (firstConstraints w′ (t .constraints)) ≤ mostCombinations → false ≡ exceeds (vocabularyOf v) Q c
-    shape-within l =
-        let b = subst (λ (m : ℕ). m ≤ mostCombinations) (product-at (d .tabled v g o) Q) l in
-        rw (le-ltb mostCombinations _ b) (go (possible (vocabularyOf v) c))
-      where
-        go : (b : Bool) → false ≡ (b && false)
-        go true = refl
-        go false = refl
-
     module _ {n : ℕ} (e : n ≡ min (product Q (firstConstraints w′ (t .constraints))) (suc mostCombinations)) where
       counted : ltb mostCombinations n ≡ ltb mostCombinations (combinationCount Q (normalForm (vocabularyOf v) c))
       counted = capped n _ (e ∙ ap (λ (m : ℕ). min m (suc mostCombinations)) (product-at (d .tabled v g o) Q))
 
       pub shape-few : n ≤ mostCombinations → false ≡ exceeds (vocabularyOf v) Q c
-      shape-few l = shape-within (omega arith)
+      shape-few l =
+          few-exceeds (vocabularyOf v) Q c (subst (λ (m : ℕ). m ≤ mostCombinations) (product-at (d .tabled v g o) Q) (omega arith))
 
       pub shape-many : {b : Bool} → t .impossible ≡ false → mostCombinations < n → DecidesClean w′ t b → b ≡ exceeds (vocabularyOf v) Q c
       shape-many h l q =

@@ -13,12 +13,12 @@ use Rattle.layout.specs.Tables.{Pieces, Tabled}
 use Rattle.layout.specs.declared.Tables.{Tables}
 use Rattle.meaning.specs.Accepted.{ChainOf}
 use Rattle.meaning.specs.Answers.{VerdictResult, compliant, outside, verdictAnswer}
-use Rattle.meaning.specs.Containment.{crowded, firstFailure, resolve, tooMany}
+use Rattle.meaning.specs.Containment.{firstFailure, resolve, tooMany}
 use Rattle.meaning.specs.Countermodel.{countermodel}
 use Rattle.meaning.specs.Limits.{mostCombinations}
 use Rattle.meaning.specs.Lists.{found, nowhere}
 use Rattle.meaning.specs.NormalForm.{Form, normalForm, possible}
-use Rattle.meaning.specs.Operations.{Outcome, outputAfter, reported, says, written}
+use Rattle.meaning.specs.Operations.{Outcome, complianceOf, outputAfter, reported, says, written}
 use Rattle.meaning.specs.Policy.{Chain, Policy, policyOf}
 use Rattle.meaning.specs.Splitting.{combinationCount}
 use Rattle.meaning.specs.Vocabulary.{Vocabulary, vocabularyOf}
@@ -37,11 +37,6 @@ pub record Delivers (x : Outcome VerdictResult) (o o′ : List ℕ) (r : Verdict
 pub record StoppedPair (v p q w : List ℕ) (f : Functional) (stop : Stop) : Type 0 where
   pub ready : PreparedPair v p q w f
   pub stops : Stops v p q stop
-
--- the same, and there is no 22
-pub record Resolvable (v p q w : List ℕ) (f : Functional) (stop : Stop) : Type 0 where
-  pub stopped : StoppedPair v p q w f stop
-  pub free : crowded (vocabularyOf v) (policyOf p) (policyOf q) ≡ false
 
 -- the pair is prepared, the terms before record k, at the place s, pass whole, and no term of the first has too many combinations
 pub record Countable (v p q w : List ℕ) (f : Functional) (s k : ℕ) : Type 0 where
@@ -70,16 +65,17 @@ Exceeds c e w f r = (v : List ℕ) → Prepared v w f → ChainOf v c → (Q : P
 abbrev pub Counts : List ℕ → List ℕ → List ℕ → Functional → Bool → Type 0
 Counts p e w f r = (v : List ℕ) → Accepting v p w f → (Q : Policy) → Ends Q e → r ≡ tooMany (vocabularyOf v) (policyOf p) Q
 
--- whether there is a 22, by whatever vocabulary
-abbrev pub Crowds : List ℕ → List ℕ → List ℕ → Functional → Stop → Bool → Type 0
-Crowds p q w f stop r = (v : List ℕ) → StoppedPair v p q w f stop → r ≡ crowded (vocabularyOf v) (policyOf p) (policyOf q)
-
 -- the decision is delivered, by whatever vocabulary it can be made
-abbrev pub Resolves : List ℕ → List ℕ → List ℕ → Functional → Stop → List ℕ → List ℕ → Verdict → Type 0
-Resolves p q w f stop o o′ r = (v : List ℕ) → Resolvable v p q w f stop → Delivers (decision v p q (length o)) o o′ r
-
 abbrev pub Decides : List ℕ → List ℕ → List ℕ → Functional → Stop → List ℕ → List ℕ → Verdict → Type 0
 Decides p q w f stop o o′ r = (v : List ℕ) → Countable v p q w f (stop .place) (stop .term) → Delivers (decision v p q (length o)) o o′ r
+
+-- Compliance after 21, with an output of so many words
+abbrev pub settled : List ℕ → List ℕ → List ℕ → ℕ → Outcome VerdictResult
+settled v p q o = complianceOf (vocabularyOf v) (policyOf p) (policyOf q) o
+
+-- that is delivered, by whatever vocabulary
+abbrev pub SettlesFrom : List ℕ → List ℕ → List ℕ → Functional → Stop → List ℕ → List ℕ → Verdict → Type 0
+SettlesFrom p q w f stop o o′ r = (v : List ℕ) → StoppedPair v p q w f stop → Delivers (settled v p q (length o)) o o′ r
 
 -- the first combination of a term to fail, counted from 1, which the tables hold; 0 for none
 abbrev pub Failure : Vocabulary → Policy → Chain → List ℕ → Tables → ℕ → Type 0

@@ -10,6 +10,7 @@ use short_way::Stop;
 use splitting::ENDS;
 use splitting::collect;
 use splitting::combinations;
+use splitting::count_intervals;
 use splitting::may_exceed;
 use tabulation::is_clean;
 use tabulation::shape;
@@ -20,12 +21,12 @@ ghost use mathlib.Core.List.{List};
 ghost use mathlib.Core.Path.{_≡_};
 ghost use Prim.Native.Nat.{_≤_, ℕ};
 ghost use lib.ListN.{length};
-ghost use Rattle.decision.specs.Decisions.{Countable, Counts, Crowds, Decides, Exceeds, Failed, Reports, Resolvable, Resolves};
-ghost use Rattle.decision.specs.Decisions.{StoppedPair};
+ghost use Rattle.decision.specs.Decisions.{Countable, Counts, Decides, Exceeds, Failed, Reports, SettlesFrom, StoppedPair};
 ghost use Rattle.frames.specs.Frames.{Only};
 ghost use Rattle.layout.specs.Places.{InTables, mostPairs};
 ghost use Rattle.layout.specs.Tables.{Standing};
-ghost use Rattle.meaning.specs.Limits.{workSize};
+ghost use Rattle.meaning.specs.Accepted.{depth};
+ghost use Rattle.meaning.specs.Limits.{mostDepth, workSize};
 ghost use Rattle.meaning.specs.Policy.{policyOf, termAt};
 ghost use Rattle.normal_form.specs.Tables.{Fit};
 ghost use Rattle.pairs.specs.Pairs.{pairCount};
@@ -33,18 +34,18 @@ ghost use Rattle.preparation.specs.Prepared.{Accepting};
 ghost use Rattle.splitting.specs.Ends.{Ends};
 ghost use Rattle.trial.specs.Trials.{Triable};
 
-// Whether the term at record k is possible and has too many combinations. Mostly a glance at the number of ends tells that it
-// has not; few have, so the look at the pairs comes last.
+// Whether the term at record k is possible and has too many combinations. Mostly a glance at the numbers of ends and of intervals tells
+// that it has not; few have, so the look at the pairs comes last.
 fn is_too_many(p: &[u32], work: &mut [u32], f: Functional, ends: &[u64], k: u32) -> bool
-    requires { ⌜ Fit (now p) (now work) k × (pairCount (now work) ≤ mostPairs) ⌝ }
+    requires { ⌜ Fit (now p) (now work) k × (pairCount (now work) ≤ mostPairs) × (depth (termAt (now p) k) ≤ mostDepth) ⌝ }
     ensures { λ r. ⌜ Exceeds (termAt (now (p .entry)) k) (now (ends .entry)) (now (work .entry)) f r ⌝ }
     ensures { λ _. ⌜ Only InTables (now (work .entry)) (now (work .exit)) ⌝ }
 {
-    let t = shape(p, work, f, k);
-    if t.impossible {
+    if !may_exceed(ends, count_intervals(p, k)) {
         return false;
     }
-    if !may_exceed(ends, t.constraints) {
+    let t = shape(p, work, f, k);
+    if t.impossible {
         return false;
     }
     if combinations(ends, work, t.constraints) <= MOST_COMBINATIONS {
@@ -54,7 +55,7 @@ fn is_too_many(p: &[u32], work: &mut [u32], f: Functional, ends: &[u64], k: u32)
 }
 
 // Whether some term of p is, wherever it stands.
-fn has_too_many(p: &[u32], work: &mut [u32], f: Functional, ends: &[u64]) -> bool
+pub fn has_too_many(p: &[u32], work: &mut [u32], f: Functional, ends: &[u64]) -> bool
     requires { ⌜ (workSize ≤ length (now work)) × ((v : List ℕ) × Accepting v (now p) (now work) f) ⌝ }
     ensures { λ r. ⌜ Counts (now (p .entry)) (now (ends .entry)) (now (work .entry)) f r ⌝ }
     ensures { λ _. ⌜ Only InTables (now (work .entry)) (now (work .exit)) ⌝ }
@@ -98,7 +99,7 @@ fn report(work: &[u32], t: Tables, s: u32, c: u32, out: &mut [u32]) -> Verdict
 }
 
 // From the stop on, the first term of p with a combination that fails, and the first of those: the terms before it pass whole.
-fn decide(
+pub fn decide(
     p: &[u32],
     q: &[u32],
     work: &mut [u32],
@@ -127,22 +128,9 @@ fn decide(
     Verdict::Compliant
 }
 
-// Whether 22 is to be told of p in q: it is considered only where the short way fails, and then of every term.
-pub fn is_crowded(p: &[u32], q: &[u32], work: &mut [u32], f: Functional, stop: Stop) -> bool
-    requires { ⌜ ((v : List ℕ) × StoppedPair v (now p) (now q) (now work) f stop) ⌝ }
-    ensures { λ r. ⌜ Crowds (now (p .entry)) (now (q .entry)) (now (work .entry)) f stop r ⌝ }
-    ensures { λ _. ⌜ Only InTables (now (work .entry)) (now (work .exit)) ⌝ }
-{
-    if stop.term == 0 {
-        return false;
-    }
-    let mut space = [0; ENDS];
-    let n = collect(q, &mut space);
-    has_too_many(p, work, f, &space[..n])
-}
-
-// The verdict on p in q, where there is no 22: compliant by the short way, else what the combinations tell.
-pub fn resolve(
+// What Compliance answers after 21, from where the short way of p in q stopped: compliant where it succeeds; else 22, for every term
+// before any verdict, and then the verdict.
+pub fn settle_from(
     p: &[u32],
     q: &[u32],
     work: &mut [u32],
@@ -150,8 +138,8 @@ pub fn resolve(
     stop: Stop,
     out: &mut [u32],
 ) -> Verdict
-    requires { ⌜ ((v : List ℕ) × Resolvable v (now p) (now q) (now work) f stop) ⌝ }
-    ensures { λ r. ⌜ Resolves (now (p .entry)) (now (q .entry)) (now (work .entry)) f stop
+    requires { ⌜ ((v : List ℕ) × StoppedPair v (now p) (now q) (now work) f stop) ⌝ }
+    ensures { λ r. ⌜ SettlesFrom (now (p .entry)) (now (q .entry)) (now (work .entry)) f stop
         (now (out .entry)) (now (out .exit)) r ⌝ }
     ensures { λ _. ⌜ Only InTables (now (work .entry)) (now (work .exit)) ⌝ }
     ensures { λ _. ⌜ length (now (out .exit)) ≡ length (now (out .entry)) ⌝ }
@@ -161,5 +149,10 @@ pub fn resolve(
     }
     let mut space = [0; ENDS];
     let n = collect(q, &mut space);
-    decide(p, q, work, f, &space[..n], stop, out)
+    let ends = &space[..n];
+    let many = has_too_many(p, work, f, ends);
+    if many {
+        return Verdict::Refused(22);
+    }
+    decide(p, q, work, f, ends, stop, out)
 }

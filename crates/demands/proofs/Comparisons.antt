@@ -9,15 +9,16 @@ use lib.ListN.{length}
 use native.Mathlib.Omega.{arith}
 use borrow.Author.Tests.{le-leb, le-ltb}
 use Rattle.containment.specs.Verdicts.{CompliancePost}
+use Rattle.demands.proofs.Limits.{both-limits-uncrowded}
 use Rattle.demands.proofs.Slices.{differs-output}
 use Rattle.demands.proofs.Verdicts.{compliant-only, compliant-where}
-use Rattle.demands.specs.Enough.{Answers, BothWithinLimits, Comparable, Compares, Long}
+use Rattle.demands.specs.Enough.{Answers, BothUncrowded, BothWithinLimits, Comparable, Compares, Long, LongEither}
 use Rattle.demands.specs.Sides.{NamesASide}
 use Rattle.equality.specs.Comparisons.{EqualityPost}
-use Rattle.meaning.proofs.Apart.{indistinct-not-told-apart, refutes-apart, within-equal-iff}
+use Rattle.meaning.proofs.Apart.{indistinct-not-told-apart, refutes-apart, uncrowded-equal-iff}
 use Rattle.meaning.proofs.Equality.{equal-right, indistinct-right}
 use Rattle.meaning.specs.Answers.{ComparisonResult, comparisonAnswer, differs, equal, refused, result}
-use Rattle.meaning.specs.Containment.{Decision, Indistinct, ToldApart, contained, decide, escapes}
+use Rattle.meaning.specs.Containment.{Decision, Indistinct, ToldApart, contained, escapes, resolve}
 use Rattle.meaning.specs.Countermodel.{countermodel}
 use Rattle.meaning.specs.Limits.{workSize}
 use Rattle.meaning.specs.Operations.{Outcome, equality, equalityOf, refuses, reported, says}
@@ -43,17 +44,21 @@ module _ {v p q w w′ o o′ : List ℕ} {r : Comparison} (c : EqualityPost v p
   pub equal-where : Compares r → Indistinct (vocabularyOf v) (policyOf p) (policyOf q) → r ≡ comparison.Equal
   equal-where t h = is-equal r (c .answer ∙ indistinct-right v p q (length w) (length o) h (λ x. t (x .0, c .answer ∙ x .1)))
 
+  -- where 22 is not given, whatever the output's length, "equal" exactly when no interpretation tells the two apart
+  pub equal-iff-uncrowded : BothUncrowded v p q (length w) → (r ≡ comparison.Equal) ↔ (ToldApart (vocabularyOf v) (policyOf p) (policyOf q) → ⊥)
+  equal-iff-uncrowded a =
+      let h = uncrowded-equal-iff v p q (length w) (length o) (a .accepted) (a .full) (a .forth) (a .back) in
+      (λ e. h .0 (sym (c .answer) ∙ ap comparisonAnswer e), λ none. is-equal r (c .answer ∙ h .1 none))
+
   -- demand 3: "equal" exactly when no interpretation, finite or countable, tells the two apart, whatever the output's length
   pub equal-iff : BothWithinLimits v p q (length w) → (r ≡ comparison.Equal) ↔ (ToldApart (vocabularyOf v) (policyOf p) (policyOf q) → ⊥)
-  equal-iff a =
-      let h = within-equal-iff v p q (length w) (length o) (a .accepted) (a .full) (a .few) (a .fewer) in
-      (λ e. h .0 (sym (c .answer) ∙ ap comparisonAnswer e), λ none. is-equal r (c .answer ∙ h .1 none))
+  equal-iff a = equal-iff-uncrowded (both-limits-uncrowded a)
 
   -- "equal" exactly when the two policies have the same individuals in every interpretation
   pub equal-iff-indistinct : BothWithinLimits v p q (length w) → (r ≡ comparison.Equal) ↔ Indistinct (vocabularyOf v) (policyOf p) (policyOf q)
   equal-iff-indistinct a = (equal-only, λ h. equal-iff a .1 (λ x. indistinct-not-told-apart h x))
 
--- where all is within the limits it answers
+-- where 22 is not given and the output is long enough it answers
 module _ (v p q : List ℕ) (w o : ℕ) (a : Comparable v p q w o) where
   told-long : (K : Vocabulary) (side : ℕ) (d : Decision) (rest : Outcome ComparisonResult) (R : Type 0) → Long K o d R → (R → IsRefusal (rest .answer) → ⊥) →
       IsRefusal (reported K o (differs side) d rest .answer) → ⊥
@@ -67,10 +72,10 @@ module _ (v p q : List ℕ) (w o : ℕ) (a : Comparable v p q w o) where
   answered : IsRefusal (equality v p q w o .answer) → ⊥
   unfolding equality equalityOf
   answered r =
-      told-long (vocabularyOf v) 1 (decide (vocabularyOf v) (policyOf p) (policyOf q)) _ _ (a .long) (λ l.
-      told-long (vocabularyOf v) 2 (decide (vocabularyOf v) (policyOf q) (policyOf p)) (says equal) _ l
+      told-long (vocabularyOf v) 1 (resolve (vocabularyOf v) (policyOf p) (policyOf q)) _ _ (a .long) (λ l.
+      told-long (vocabularyOf v) 2 (resolve (vocabularyOf v) (policyOf q) (policyOf p)) (says equal) _ l
       (λ u x. absurd (let z : _≡_ {A = ℕ} 0 1 = cc in omega arith)))
-      (rw (a .within .accepted, le-ltb w workSize (a .within .full), a .within .few, a .within .fewer) at r)
+      (rw (a .within .accepted, le-ltb w workSize (a .within .full), a .within .forth, a .within .back) at r)
 
 pub equality-answers : {v p q w w′ o o′ : List ℕ} {r : Comparison} → EqualityPost v p q w w′ o o′ r → Comparable v p q (length w) (length o) → Compares r
 equality-answers {v} {p} {q} {w} {o = o} c a x = answered v p q (length w) (length o) a (x .0, sym (c .answer) ∙ x .1)
@@ -91,11 +96,16 @@ equal-or-differs {r = comparison.Differs side s k n} c t = inr (record {
 })
 equal-or-differs {r = comparison.Refused n} c t = absurd (t (n, refl))
 
--- demand 3: else, where the output is long enough, it names a side and writes a finite interpretation that tells them apart
-pub differs-where : {v p q w w′ o o′ : List ℕ} {r : Comparison} → EqualityPost v p q w w′ o o′ r → Comparable v p q (length w) (length o) →
-    ToldApart (vocabularyOf v) (policyOf p) (policyOf q) → NamesASide v p q o′ r
-differs-where c a x =
-    ⊎-elim (λ e. absurd (indistinct-not-told-apart (equal-only c e) x)) (λ h. h) (equal-or-differs c (equality-answers c a))
+module _ {v p q w w′ o o′ : List ℕ} {r : Comparison} (c : EqualityPost v p q w w′ o o′ r) where
+  -- where 22 is not given, the output is long enough and an interpretation tells the two apart, it names a side and writes a finite one
+  -- that does
+  pub differs-where-uncrowded : Comparable v p q (length w) (length o) → ToldApart (vocabularyOf v) (policyOf p) (policyOf q) → NamesASide v p q o′ r
+  differs-where-uncrowded a x =
+      ⊎-elim (λ e. absurd (indistinct-not-told-apart (equal-only c e) x)) (λ h. h) (equal-or-differs c (equality-answers c a))
+
+  -- demand 3: else, where the output is long enough, it names a side and writes a finite interpretation that tells them apart
+  pub differs-where : BothWithinLimits v p q (length w) → LongEither v p q (length o) → ToldApart (vocabularyOf v) (policyOf p) (policyOf q) → NamesASide v p q o′ r
+  differs-where a l = differs-where-uncrowded (record { within = both-limits-uncrowded a; long = l })
 
 -- the interpretation that is written tells the two apart
 pub names-told-apart : {v p q o : List ℕ} {r : Comparison} → NamesASide v p q o r → ToldApart (vocabularyOf v) (policyOf p) (policyOf q)

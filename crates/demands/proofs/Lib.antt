@@ -3,7 +3,9 @@ pub mod Orders
 pub mod Refusals
 pub mod Afterwards
 pub mod Slices
+pub mod Limits
 pub mod Verdicts
 pub mod Comparisons
+pub mod ShortWay
 pub mod Checks
 pub mod Owl

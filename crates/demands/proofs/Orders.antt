@@ -11,7 +11,7 @@ use Rattle.demands.specs.Refusals.{FirstRefusal, complianceOrder, equali
 use Rattle.demands.specs.Refusals.{secondPolicyOrder, shortRefusal, vocabularyOrder}
 use Rattle.meaning.proofs.Refusals.{cond-all}
 use Rattle.meaning.specs.Answers.{Answer, CheckResult, accepted, compliant, differs, equal, no, outside, refused, result, yes}
-use Rattle.meaning.specs.Containment.{Decision, contained, decide, escapes, tooMany}
+use Rattle.meaning.specs.Containment.{Decision, contained, crowded, escapes, resolve}
 use Rattle.meaning.specs.Countermodel.{countermodel}
 use Rattle.meaning.specs.Lists.{All, cons, nil}
 use Rattle.meaning.specs.Model.{factsOf, modelRefusal}
@@ -98,16 +98,16 @@ pub compliance-follows : (v p q : List ℕ) (w o : ℕ) → Follows (complianceO
 unfolding compliance complianceOf
 compliance-follows v p q w o =
     let K = vocabularyOf v in
-    follows-work v p q w _ (follows-many (tooMany K (policyOf p) (policyOf q)) _
-    (follows-short K o outside (decide K (policyOf p) (policyOf q)) (says compliant) (answering (cons refl nil))))
+    follows-work v p q w _ (follows-many (crowded K (policyOf p) (policyOf q)) _
+    (follows-short K o outside (resolve K (policyOf p) (policyOf q)) (says compliant) (answering (cons refl nil))))
 
 pub equality-follows : (v p q : List ℕ) (w o : ℕ) → Follows (equalityOrder v p q w o) (equality v p q w o .answer)
 unfolding equality equalityOf
 equality-follows v p q w o =
     let K = vocabularyOf v in
-    follows-work v p q w _ (follows-many (tooMany K (policyOf p) (policyOf q) || tooMany K (policyOf q) (policyOf p)) _
-    (follows-short K o (differs 1) (decide K (policyOf p) (policyOf q)) _
-    (follows-short K o (differs 2) (decide K (policyOf q) (policyOf p)) (says equal) (answering (cons refl nil)))))
+    follows-work v p q w _ (follows-many (crowded K (policyOf p) (policyOf q) || crowded K (policyOf q) (policyOf p)) _
+    (follows-short K o (differs 1) (resolve K (policyOf p) (policyOf q)) _
+    (follows-short K o (differs 2) (resolve K (policyOf q) (policyOf p)) (says equal) (answering (cons refl nil)))))
 
 pub vocabulary-follows : (v : List ℕ) → Follows (vocabularyOrder v) (readVocabulary v)
 unfolding readVocabulary

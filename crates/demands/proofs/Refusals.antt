@@ -34,7 +34,7 @@ possibility-refused (possibility.Possible s) e = absurd (let z : _≡_ {A = ℕ}
 possibility-refused possibility.Impossible e = absurd (let z : _≡_ {A = ℕ} 0 1 = cc in omega arith)
 possibility-refused (possibility.Refused m) e = cc
 
-verdict-refused : (r : Verdict) {n : ℕ} → verdictAnswer r ≡ refused n → r ≡ verdict.Refused n
+pub verdict-refused : (r : Verdict) {n : ℕ} → verdictAnswer r ≡ refused n → r ≡ verdict.Refused n
 verdict-refused verdict.Compliant e = absurd (let z : _≡_ {A = ℕ} 0 1 = cc in omega arith)
 verdict-refused (verdict.Outside s c k) e = absurd (let z : _≡_ {A = ℕ} 0 1 = cc in omega arith)
 verdict-refused (verdict.Refused m) e = cc

@@ -9,11 +9,12 @@ use lib.ListN.{length}
 use native.Mathlib.Omega.{arith}
 use borrow.Author.Tests.{le-leb, le-ltb}
 use Rattle.containment.specs.Verdicts.{CompliancePost}
-use Rattle.demands.specs.Enough.{Answerable, Answers, Long, WithinLimits}
-use Rattle.meaning.proofs.Apart.{compliant-iff-not-apart, within-compliant-iff}
+use Rattle.demands.proofs.Limits.{limits-uncrowded}
+use Rattle.demands.specs.Enough.{Answerable, Answers, Long, Uncrowded, WithinLimits}
+use Rattle.meaning.proofs.Apart.{compliant-iff-not-apart, uncrowded-compliant-iff}
 use Rattle.meaning.proofs.Compliance.{compliant-right, contained-right}
 use Rattle.meaning.specs.Answers.{compliant, outside, refused, result, verdictAnswer}
-use Rattle.meaning.specs.Containment.{Apart, Contained, Decision, contained, decide, escapes}
+use Rattle.meaning.specs.Containment.{Apart, Contained, Decision, contained, escapes, resolve}
 use Rattle.meaning.specs.Countermodel.{countermodel}
 use Rattle.meaning.specs.Limits.{workSize}
 use Rattle.meaning.specs.Operations.{compliance, complianceOf, refuses, reported, says}
@@ -23,7 +24,7 @@ use Rattle.meaning.specs.Vocabulary.{Vocabulary, vocabularyOf}
 use Rattle.meaning.specs.declared.Verdict.{Verdict}
 use Rattle.meaning.specs.declared.Verdict.the-variants as verdict
 
-is-compliant : (r : Verdict) → verdictAnswer r ≡ result compliant → r ≡ verdict.Compliant
+pub is-compliant : (r : Verdict) → verdictAnswer r ≡ result compliant → r ≡ verdict.Compliant
 is-compliant verdict.Compliant e = refl
 is-compliant (verdict.Outside s q n) e = absurd (let z : _≡_ {A = ℕ} 0 1 = cc in omega arith)
 is-compliant (verdict.Refused n) e = absurd (let z : _≡_ {A = ℕ} 0 1 = cc in omega arith)
@@ -47,14 +48,18 @@ module _ {v p q w w′ o o′ : List ℕ} {r : Verdict} (c : CompliancePost v p 
       let h = compliant-iff-not-apart v p q (length w) (length o) (λ x. t (x .0, c .answer ∙ x .1)) in
       (λ e. h .0 (sym (c .answer) ∙ ap verdictAnswer e), λ none. is-compliant r (c .answer ∙ h .1 none))
 
-  -- within the limits, whatever the output's length, "compliant" if and only if no interpretation has an individual in the policy and
-  -- outside the consent
-  pub compliant-iff-within : WithinLimits v p q (length w) → (r ≡ verdict.Compliant) ↔ (Apart (vocabularyOf v) (policyOf p) (policyOf q) → ⊥)
-  compliant-iff-within a =
-      let h = within-compliant-iff v p q (length w) (length o) (a .accepted) (a .full) (a .few) in
+  -- where 22 is not given, whatever the output's length, "compliant" if and only if no interpretation has an individual in the policy
+  -- and outside the consent
+  pub compliant-iff-uncrowded : Uncrowded v p q (length w) → (r ≡ verdict.Compliant) ↔ (Apart (vocabularyOf v) (policyOf p) (policyOf q) → ⊥)
+  compliant-iff-uncrowded a =
+      let h = uncrowded-compliant-iff v p q (length w) (length o) (a .accepted) (a .full) (a .free) in
       (λ e. h .0 (sym (c .answer) ∙ ap verdictAnswer e), λ none. is-compliant r (c .answer ∙ h .1 none))
 
--- where all is within the limits a verdict is given
+  -- so it is within the limits
+  pub compliant-iff-within : WithinLimits v p q (length w) → (r ≡ verdict.Compliant) ↔ (Apart (vocabularyOf v) (policyOf p) (policyOf q) → ⊥)
+  compliant-iff-within a = compliant-iff-uncrowded (limits-uncrowded a)
+
+-- where 22 is not given and the output is long enough a verdict is given
 module _ (v p q : List ℕ) (w o : ℕ) (a : Answerable v p q w o) where
   told-long : (K : Vocabulary) (d : Decision) → Long K o d (Unit {0}) → IsRefusal (reported K o outside d (says compliant) .answer) → ⊥
   told-long K contained l r = let e = r .1 in absurd (let z : _≡_ {A = ℕ} 0 1 = cc in omega arith)
@@ -67,8 +72,8 @@ module _ (v p q : List ℕ) (w o : ℕ) (a : Answerable v p q w o) where
   answered : IsRefusal (compliance v p q w o .answer) → ⊥
   unfolding compliance complianceOf
   answered r =
-      told-long (vocabularyOf v) (decide (vocabularyOf v) (policyOf p) (policyOf q)) (a .long)
-      (rw (a .within .accepted, le-ltb w workSize (a .within .full), a .within .few) at r)
+      told-long (vocabularyOf v) (resolve (vocabularyOf v) (policyOf p) (policyOf q)) (a .long)
+      (rw (a .within .accepted, le-ltb w workSize (a .within .full), a .within .free) at r)
 
 pub compliance-answers : {v p q w w′ o o′ : List ℕ} {r : Verdict} → CompliancePost v p q w w′ o o′ r → Answerable v p q (length w) (length o) → Answers r
 compliance-answers {v} {p} {q} {w} {o = o} c a x = answered v p q (length w) (length o) a (x .0, sym (c .answer) ∙ x .1)

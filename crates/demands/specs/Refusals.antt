@@ -5,7 +5,7 @@ use mathlib.Core.List.{List, [], _∷_}
 use mathlib.Core.Path.{_≡_}
 use lib.Dec.{leb}
 use lib.ListN.{length}
-use Rattle.meaning.specs.Containment.{Decision, contained, decide, escapes, tooMany}
+use Rattle.meaning.specs.Containment.{Decision, contained, crowded, escapes, resolve}
 use Rattle.meaning.specs.Countermodel.{countermodel}
 use Rattle.meaning.specs.Limits.{mostAxioms}
 use Rattle.meaning.specs.Model.{modelRefusal}
@@ -42,7 +42,7 @@ possibleOrder v p w = vocabularyRefusal v ∷ policyRefusal v p ∷ workRefusal 
 abbrev pub inputOrder : List ℕ → List ℕ → List ℕ → ℕ → List ℕ → List ℕ
 inputOrder v p q w l = vocabularyRefusal v ∷ policyRefusal v p ∷ secondRefusal (policyRefusal v q) ∷ workRefusal w ∷ l
 
--- 22: a possible term has too many combinations
+-- 22: the short way fails, and a possible term has too many combinations
 abbrev pub manyRefusal : Bool → ℕ
 manyRefusal b = cond b 22 0
 
@@ -51,18 +51,18 @@ abbrev pub shortRefusal : Vocabulary → ℕ → Decision → ℕ → ℕ
 shortRefusal K o contained rest = rest
 shortRefusal K o (escapes s q u) rest = cond (leb (length (countermodel K u)) o) 0 23
 
--- SPECIFICATION 9.6: then 22, then 23
+-- SPECIFICATION 9.6: then 22, considered where the short way fails, then 23
 abbrev pub complianceOrder : List ℕ → List ℕ → List ℕ → ℕ → ℕ → List ℕ
 complianceOrder v p q w o =
     let K = vocabularyOf v in
-    inputOrder v p q w (manyRefusal (tooMany K (policyOf p) (policyOf q)) ∷ shortRefusal K o (decide K (policyOf p) (policyOf q)) 0 ∷ [])
+    inputOrder v p q w (manyRefusal (crowded K (policyOf p) (policyOf q)) ∷ shortRefusal K o (resolve K (policyOf p) (policyOf q)) 0 ∷ [])
 
--- SPECIFICATION 9.7: then 22 in both directions, then 23 for the difference that is reported
+-- SPECIFICATION 9.7: then 22, considered in each direction where its own short way fails, then 23 for the difference that is reported
 abbrev pub equalityOrder : List ℕ → List ℕ → List ℕ → ℕ → ℕ → List ℕ
 equalityOrder v p q w o =
     let K = vocabularyOf v in
-    inputOrder v p q w (manyRefusal (tooMany K (policyOf p) (policyOf q) || tooMany K (policyOf q) (policyOf p)) ∷
-    shortRefusal K o (decide K (policyOf p) (policyOf q)) (shortRefusal K o (decide K (policyOf q) (policyOf p)) 0) ∷ [])
+    inputOrder v p q w (manyRefusal (crowded K (policyOf p) (policyOf q) || crowded K (policyOf q) (policyOf p)) ∷
+    shortRefusal K o (resolve K (policyOf p) (policyOf q)) (shortRefusal K o (resolve K (policyOf q) (policyOf p)) 0) ∷ [])
 
 -- SPECIFICATION 9.8: the vocabulary, the policies, the model's 31, 32, 33, and 21 last
 abbrev pub modelCheckOrder : List ℕ → List ℕ → List ℕ → List ℕ → ℕ → List ℕ

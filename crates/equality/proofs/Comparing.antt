@@ -7,10 +7,10 @@ use mathlib.Core.Path.{_∙_, _≡_, ap, refl, subst, subst₂, sym}
 use lib.Dec.{leb}
 use lib.ListN.{length}
 use native.Mathlib.Omega.{arith}
-use Rattle.decision.proofs.Policies.{pair-stopped, stopped-free, stopped-still, taken}
-use Rattle.decision.specs.Decisions.{Delivers, Resolvable, StoppedPair, decision}
-use Rattle.equality.specs.Comparisons.{Comparable, Compares, ComparisonTested, EqualityPost, compared, difference, reverse}
-use Rattle.equality.specs.Comparisons.{sidedAnswer}
+use Rattle.decision.proofs.Policies.{pair-stopped, stopped-countable, stopped-crowded, taken}
+use Rattle.decision.specs.Decisions.{Countable, Delivers, StoppedPair, decision, settled}
+use Rattle.equality.specs.Comparisons.{BothFail, BothStopped, Comparable, Compares, ComparisonTested, EqualityPost}
+use Rattle.equality.specs.Comparisons.{compared, difference, reverse, sidedAnswer}
 use Rattle.frames.proofs.Frames.{only-then}
 use Rattle.frames.proofs.Work.{Done, outputs-none}
 use Rattle.frames.specs.Frames.{Only}
@@ -19,11 +19,12 @@ use Rattle.layout.specs.Places.{InTables}
 use Rattle.meaning.proofs.Compliance.{no-escape}
 use Rattle.meaning.proofs.Equality.{equality-compared}
 use Rattle.meaning.proofs.Interpretations.{tested-finite}
+use Rattle.meaning.proofs.ShortWay.{resolve-decide, short-agrees, short-uncrowded}
 use Rattle.meaning.specs.Answers.{ComparisonResult, comparisonAnswer, compliant, differs, equal, outside, refused, result, verdictAnswer}
-use Rattle.meaning.specs.Containment.{Decision, Refutes, contained, crowded, escapes, resolve}
+use Rattle.meaning.specs.Containment.{Decision, Refutes, contained, crowded, escapes, resolve, tooMany}
 use Rattle.meaning.specs.Countermodel.{countermodel}
 use Rattle.meaning.specs.Model.{Fact, factsOf, individualCount}
-use Rattle.meaning.specs.Operations.{Outcome, comesLate, equality, equalityOf, inputRefusal, outputAfter, refuses, reported, says}
+use Rattle.meaning.specs.Operations.{Outcome, comesLate, complianceOf, equality, equalityOf, inputRefusal, outputAfter, refuses, reported, says}
 use Rattle.meaning.specs.Policy.{Policy, policyOf}
 use Rattle.meaning.specs.Promises.{CorrectComparison, same, side1, side2, unsaidComparison}
 use Rattle.meaning.specs.Vocabulary.{Vocabulary, vocabularyOf}
@@ -117,35 +118,75 @@ module _ (v p q : List ℕ) where
     pub differs-refused : {n : ℕ} → y ≡ verdict.Refused n → Compares (difference v p q (length o)) o o′ (comparison.Refused n)
     differs-refused h = forth-refused (vocabularyOf v) o o′ (reverse v p q (length o)) decided (is h)
 
--- ---- one direction, then the other
+-- ---- from the stops on
 
--- the short way stopped there in either direction
-pub record BothStopped (v p q w : List ℕ) (f : Functional) (forth back : Stop) : Type 0 where
-  pub first : StoppedPair v p q w f forth
-  pub second : StoppedPair v q p w f back
+module _ {v p q : List ℕ} {f : Functional} {forth back : Stop} where
+  pub both-stopped : {w w′ w″ : List ℕ} → PreparedPair v p q w f → Only InTables w w′ → Only InTables w′ w″ → StopsBy p q w f forth → StopsBy q p w′ f back →
+      BothStopped v p q w″ f forth back
+  both-stopped r o o′ h i = record { first = pair-stopped r (only-then o o′) h; second = pair-stopped (ready-back (ready-still r o)) o′ i }
 
-pub both-stopped : {v p q w w′ w″ : List ℕ} {f : Functional} {forth back : Stop} → PreparedPair v p q w f → Only InTables w w′ → Only InTables w′ w″ →
-    StopsBy p q w f forth → StopsBy q p w′ f back → BothStopped v p q w″ f forth back
-both-stopped r o o′ h i = record { first = pair-stopped r (only-then o o′) h; second = pair-stopped (ready-back (ready-still r o)) o′ i }
+  module _ {w : List ℕ} where
+    -- the second direction, while the first is worked on
+    pub second-still : {w′ : List ℕ} → BothStopped v p q w f forth back → Only InTables w w′ → StoppedPair v q p w′ f back
+    second-still b o = record { ready = ready-still (b .second .ready) o; stops = b .second .stops }
 
-module _ {v p q w : List ℕ} {f : Functional} {forth back : Stop} where
-  pub both-still : {w′ : List ℕ} → BothStopped v p q w f forth back → Only InTables w w′ → BothStopped v p q w′ f forth back
-  both-still b o = record { first = stopped-still (b .first) o; second = stopped-still (b .second) o }
+    pub back-countable : {w′ : List ℕ} → Comparable v p q w f forth back → Only InTables w w′ → Countable v q p w′ f (back .place) (back .term)
+    back-countable h o = record { ready = ready-still (h .second .ready) o; left = h .second .left; few = h .second .few }
 
-  -- the second direction, after the first
-  pub back-still : {w′ : List ℕ} → Comparable v p q w f forth back → Only InTables w w′ → Resolvable v q p w′ f back
-  back-still h o = record { stopped = stopped-still (h .second .stopped) o; free = h .second .free }
+-- ---- where one direction's short way succeeds
+
+or-false : (b : Bool) → (b || false) ≡ b
+or-false true = refl
+or-false false = refl
+
+module _ (K : Vocabulary) {o o′ : List ℕ} {r : Verdict} {x : Comparison} where
+  sided-settled : (side : ℕ) (b : Bool) (d : Decision) → Delivers (cond b (refuses 22) (told K o o′ outside d (says compliant))) o o′ r →
+      comparisonAnswer x ≡ sidedAnswer side (verdictAnswer r) → Compares (cond b (refuses 22) (told K o o′ (differs side) d (says equal))) o o′ x
+  sided-settled side true d h e = record { answer = e ∙ ap (sidedAnswer side) (h .answer); output = h .output }
+  sided-settled side false d h e = record {
+    answer = e ∙ ap (sidedAnswer side) (h .answer) ∙ side-answer K o o′ side d;
+    output = h .output ∙ ap (λ (l : List ℕ). outputAfter l o) (side-words K o o′ side d);
+  }
+
+module _ {v p q w : List ℕ} {f : Functional} {forth back : Stop} (s : BothStopped v p q w f forth back) {o o′ : List ℕ} {r : Verdict} {x : Comparison} where
+  -- the first direction's: the answer is the second's
+  pub compares-second : forth .term ≡ 0 → Delivers (settled v q p (length o)) o o′ r → comparisonAnswer x ≡ sidedAnswer 2 (verdictAnswer r) →
+      Compares (compared v p q (length o)) o o′ x
+  unfolding complianceOf equalityOf
+  compares-second z h e =
+      let t = s .first .stops .succeeds z in
+      rw (short-uncrowded (vocabularyOf v) (policyOf p) (policyOf q) t, resolve-decide (vocabularyOf v) (policyOf p) (policyOf q) ∙ short-agrees (vocabularyOf v) (policyOf p) (policyOf q) t)
+      (sided-settled (vocabularyOf v) 2 (crowded (vocabularyOf v) (policyOf q) (policyOf p)) (resolve (vocabularyOf v) (policyOf q) (policyOf p)) h e)
+
+  -- the second direction's: the answer is the first's
+  pub compares-first : back .term ≡ 0 → Delivers (settled v p q (length o)) o o′ r → comparisonAnswer x ≡ sidedAnswer 1 (verdictAnswer r) →
+      Compares (compared v p q (length o)) o o′ x
+  unfolding complianceOf equalityOf
+  compares-first z h e =
+      let t = s .second .stops .succeeds z in
+      rw (short-uncrowded (vocabularyOf v) (policyOf q) (policyOf p) t, resolve-decide (vocabularyOf v) (policyOf q) (policyOf p) ∙ short-agrees (vocabularyOf v) (policyOf q) (policyOf p) t, or-false (crowded (vocabularyOf v) (policyOf p) (policyOf q)))
+      (sided-settled (vocabularyOf v) 1 (crowded (vocabularyOf v) (policyOf p) (policyOf q)) (resolve (vocabularyOf v) (policyOf p) (policyOf q)) h e)
 
 -- ---- 22 looks at both directions
 
-module _ (v p q o : List ℕ) {a b : Bool} (e : a ≡ crowded (vocabularyOf v) (policyOf p) (policyOf q)) (f : b ≡ crowded (vocabularyOf v) (policyOf q) (policyOf p)) where
+module _ {v p q : List ℕ} (o : List ℕ) {w : List ℕ} {f : Functional} {forth back : Stop} (s : BothStopped v p q w f forth back) (n : BothFail forth back)
+    {a b : Bool} (e : a ≡ tooMany (vocabularyOf v) (policyOf p) (policyOf q)) (g : b ≡ tooMany (vocabularyOf v) (policyOf q) (policyOf p)) where
+  many : a ≡ crowded (vocabularyOf v) (policyOf p) (policyOf q)
+  many = stopped-crowded (s .first) (n .first) e
+
+  more : b ≡ crowded (vocabularyOf v) (policyOf q) (policyOf p)
+  more = stopped-crowded (s .second) (n .second) g
+
   pub compares-22 : (a || b) ≡ true → Compares (compared v p q (length o)) o o (comparison.Refused 22)
   unfolding equalityOf
-  compares-22 h = rw (sym e, sym f, h) (record { answer = refl; output = outputs-none o })
+  compares-22 h = rw (sym many, sym more, h) (record { answer = refl; output = outputs-none o })
 
   module _ (h : (a || b) ≡ false) where
-    pub compares-none : {w : List ℕ} {x : Functional} {forth back : Stop} → BothStopped v p q w x forth back → Comparable v p q w x forth back
-    compares-none r = record { first = stopped-free (r .first) e (go a b h .0); second = stopped-free (r .second) f (go a b h .1) }
+    pub compares-none : {w′ : List ℕ} → Only InTables w w′ → Comparable v p q w′ f forth back
+    compares-none k = record {
+      first = stopped-countable (s .first) (n .first) e (go a b h .0) k;
+      second = stopped-countable (s .second) (n .second) g (go a b h .1) k;
+    }
       where
         go : (a b : Bool) → (a || b) ≡ false → (a ≡ false) × (b ≡ false)
         go true b h = absurd (let z : _≡_ {A = ℕ} 0 1 = cc in omega arith)
@@ -153,7 +194,7 @@ module _ (v p q o : List ℕ) {a b : Bool} (e : a ≡ crowded (vocabularyOf v) (
 
     pub compares-both : {o′ : List ℕ} {r : Comparison} → Compares (difference v p q (length o)) o o′ r → Compares (compared v p q (length o)) o o′ r
     unfolding equalityOf
-    compares-both d = rw (sym e, sym f, h) d
+    compares-both d = rw (sym many, sym more, h) d
 
 -- ---- all of it comes after 21
 

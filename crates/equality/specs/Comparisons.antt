@@ -4,7 +4,7 @@ use mathlib.Core.List.{List}
 use mathlib.Core.Logic.{_⊎_}
 use mathlib.Core.Path.{_≡_}
 use lib.ListN.{length, take}
-use Rattle.decision.specs.Decisions.{Resolvable}
+use Rattle.decision.specs.Decisions.{Countable, StoppedPair}
 use Rattle.functional.specs.declared.Functional.{Functional}
 use Rattle.meaning.specs.Answers.{Answer, ComparisonResult, VerdictResult, comparisonAnswer, compliant, differs, equal, outside, refused}
 use Rattle.meaning.specs.Answers.{result}
@@ -16,6 +16,7 @@ use Rattle.meaning.specs.Vocabulary.{vocabularyOf}
 use Rattle.meaning.specs.declared.Comparison.{Comparison}
 use Rattle.short_way.specs.Stops.{PreparedPair}
 use Rattle.short_way.specs.declared.Stop.{Stop}
+use Rattle.splitting.specs.Ends.{Ends}
 use Rattle.meaning.specs.declared.Comparison.the-variants as comparison
 
 -- what a verdict of one direction says there
@@ -39,14 +40,32 @@ difference v p q o = reported (vocabularyOf v) o (differs 1) (resolve (vocabular
 abbrev pub compared : List ℕ → List ℕ → List ℕ → ℕ → Outcome ComparisonResult
 compared v p q o = equalityOf (vocabularyOf v) (policyOf p) (policyOf q) o
 
--- the short way stopped there in either direction, and there is no 22 in either
+-- the ends of both policies
+abbrev pub BothEnds : List ℕ → List ℕ → List ℕ → List ℕ → Type 0
+BothEnds p q first second = Ends (policyOf p) first × Ends (policyOf q) second
+
+-- both directions can be decided from the stops on
 pub record Comparable (v p q w : List ℕ) (f : Functional) (forth back : Stop) : Type 0 where
-  pub first : Resolvable v p q w f forth
-  pub second : Resolvable v q p w f back
+  pub first : Countable v p q w f (forth .place) (forth .term)
+  pub second : Countable v q p w f (back .place) (back .term)
 
 -- what both directions tell, by whatever vocabulary
 abbrev pub DifferenceBy : List ℕ → List ℕ → List ℕ → Functional → Stop → Stop → List ℕ → List ℕ → Comparison → Type 0
 DifferenceBy p q w f forth back o o′ r = (v : List ℕ) → Comparable v p q w f forth back → Compares (difference v p q (length o)) o o′ r
+
+-- the short way stopped there in either direction
+pub record BothStopped (v p q w : List ℕ) (f : Functional) (forth back : Stop) : Type 0 where
+  pub first : StoppedPair v p q w f forth
+  pub second : StoppedPair v q p w f back
+
+-- it fails in both
+pub record BothFail (forth back : Stop) : Type 0 where
+  pub first : forth .term ≡ 0 → ⊥
+  pub second : back .term ≡ 0 → ⊥
+
+-- what Equality tells after 21, from the stops on, by whatever vocabulary, and from the beginning
+abbrev pub ComparedFrom : List ℕ → List ℕ → List ℕ → Functional → Stop → Stop → List ℕ → List ℕ → Comparison → Type 0
+ComparedFrom p q w f forth back o o′ r = (v : List ℕ) → BothStopped v p q w f forth back → Compares (compared v p q (length o)) o o′ r
 
 abbrev pub ComparedBy : List ℕ → List ℕ → List ℕ → Functional → List ℕ → List ℕ → Comparison → Type 0
 ComparedBy p q w f o o′ r = (v : List ℕ) → PreparedPair v p q w f → Compares (compared v p q (length o)) o o′ r

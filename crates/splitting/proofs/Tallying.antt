@@ -12,7 +12,7 @@ use Rattle.meaning.specs.Policy.{Chain, childOf, class, conjunctAt, end, imposs
 use Rattle.policy.proofs.Conjuncts.{Going, child-level, conjunct-kinds, depth-first, going-conjunct, going-ends, going-found, going-on, going-starts}
 use Rattle.policy.specs.Terms.{conjunctOf, conjunctsAt}
 use Rattle.splitting.proofs.Collecting.{count-first}
-use Rattle.splitting.specs.Intervals.{ChainCounted, Countable, OneCounted}
+use Rattle.splitting.specs.Intervals.{ChainCounted, OneCounted, TermCounted}
 
 intervals-few : (c : Chain) → intervalCount c ≤ count c
 intervals-few end = omega arith
@@ -99,5 +99,5 @@ module _ {p : List ℕ} {left first n k : ℕ} (g : Going (Uncounted p left firs
 
 -- ---- a term
 
-pub term-counted : {p : List ℕ} {k j : ℕ} → Countable p k → j ≡ childOf p k → ChainCounted p mostDepth j
+pub term-counted : {p : List ℕ} {k j : ℕ} → TermCounted p k → j ≡ childOf p k → ChainCounted p mostDepth j
 term-counted a e = rw e (record { reads = a .reads; shallow = a .shallow; few = a .few })

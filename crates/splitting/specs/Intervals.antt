@@ -19,7 +19,7 @@ pub record OneCounted (p : List ℕ) (left k : ℕ) : Type 0 where
   pub few : count (conjunctOf p k) ≤ mostRecords
 
 -- so are those of the term at record k
-pub record Countable (p : List ℕ) (k : ℕ) : Type 0 where
+pub record TermCounted (p : List ℕ) (k : ℕ) : Type 0 where
   pub reads : Reads p (childOf p k) (termAt p k)
   pub shallow : depth (termAt p k) ≤ mostDepth
   pub few : count (termAt p k) ≤ mostRecords

@@ -30,7 +30,7 @@ ghost use Rattle.meaning.specs.Splitting.{pieces};
 ghost use Rattle.policy.specs.Terms.{conjunctOf, conjunctsAt};
 ghost use Rattle.splitting.specs.Ends.{Chained, Collectable, Collected, Ends, NextEnd, NextUpper, Single, keysOf};
 ghost use Rattle.splitting.specs.Constraints.{Few, Multiplied, Splittable, Started};
-ghost use Rattle.splitting.specs.Intervals.{ChainCounted, Countable, OneCounted};
+ghost use Rattle.splitting.specs.Intervals.{ChainCounted, OneCounted, TermCounted};
 
 // The keys of a constraint's two ends.
 fn add_ends(ends: &mut [u64], n: usize, f: FeatureNo, lo: u32, hi: u32) -> usize
@@ -166,7 +166,7 @@ fn intervals_from(p: &[u32], left: u32, first: u32) -> usize
 
 // How many intervals the term at record k has: its normal form has no more constraints.
 pub fn count_intervals(p: &[u32], k: u32) -> usize
-    requires { ⌜ Countable (now p) k ⌝ }
+    requires { ⌜ TermCounted (now p) k ⌝ }
     ensures { λ r. ⌜ r ≡ intervalCount (termAt (now (p .entry)) k) ⌝ }
 {
     intervals_from(p, MOST_DEPTH, child_of(p, k))

@@ -3,7 +3,7 @@ use native.Mathlib.Omega.{arith}
 use borrow.Author.Needs.{needs}
 use Rattle.containment.proofs.Complying.{compliance-post, pair-ready, settled-late}
 use Rattle.containment.proofs.compliance.Statement.{statement}
-use Rattle.containment.specs.Verdicts.{settled}
+use Rattle.decision.specs.Decisions.{settled}
 use Rattle.frames.proofs.Work.{done-answered, done-before, done-full, done-refused, in-order}
 use Rattle.meaning.proofs.Refusals.{accepted-input, input-early}
 use Rattle.preparation.proofs.Laws.{worked}

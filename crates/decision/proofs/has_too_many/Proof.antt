@@ -29,7 +29,10 @@ is-too-many-requires c κs =
     let i = c .before .before .loop .inv in
     let q = c .before .before .before .before .before .before .before .pre in
     let a = q .1 .1 in
-    term-ready (a .prepared) (omega (arith, q .0)) (i .1) (i .0 (q .1 .0) a .1) (c .before .loop-test .taken)
+    let x = i .0 (q .1 .0) a .1 in
+    let n = c .before .loop-test .taken in
+    let t = term-ready (a .prepared) (omega (arith, q .0)) (i .1) x n in
+    (t .0, t .1, asking-term x n .shallow)
 
 -- the term at record k, by the vocabulary v
 returns : tie.Need-returns Inv-loop μ-loop
