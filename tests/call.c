@@ -67,6 +67,20 @@ int main(void) {
     expect("model check, no", gimbuka_model_check(v, LENGTH(v), q, LENGTH(q), p, LENGTH(p), out, words, work, LENGTH(work), &number) == 2);
     expect("the work slice", is_clear());
 
+    /* a value 0..1 of each of 17 features has 131,072 combinations: the short way spares them, and where it fails there is 22 */
+    static const uint32_t wide[] = {1, 0, 17, 0}, nobody[] = {0, 0, 0, 0, 0, 0};
+    uint32_t many[6 * 19] = {1, 0, 0, 0, 0, 0, 5, 0, 0, 0, 2, 0};
+    for (uint32_t record = 2; record < 19; record++) {
+        const uint32_t span[] = {4, record - 1, 0, 1, 0, record < 18 ? record + 1 : 0};
+        memcpy(many + 6 * record, span, sizeof span);
+    }
+    expect("compliance, the short way", gimbuka_compliance(wide, LENGTH(wide), many, LENGTH(many), many, LENGTH(many), work, LENGTH(work),
+                                                           out, 0, &number, &combination, &words) == 1 && is_clear());
+    expect("equality, the short way", gimbuka_equality(wide, LENGTH(wide), many, LENGTH(many), many, LENGTH(many), work, LENGTH(work), out, 0,
+                                                       &number, &term, &combination, &words) == 1 && is_clear());
+    expect("too many combinations", gimbuka_compliance(wide, LENGTH(wide), many, LENGTH(many), nobody, LENGTH(nobody), work, LENGTH(work),
+                                                       out, LENGTH(out), &number, &combination, &words) == 0 && number == 22 && is_clear());
+
     /* 21 comes after the refusals of the tables */
     expect("possible, policy before work", gimbuka_possible(v, LENGTH(v), p, 6, work, 0, &number) == 0 && number == 5);
     expect("compliance, second policy before work", gimbuka_compliance(v, LENGTH(v), p, LENGTH(p), q, 6, work, 0, out, LENGTH(out), &number,

@@ -81,6 +81,9 @@ def features(n):
     return vocabulary(1, 0, n), policy([span(0, 1, f) for f in range(1, n + 1)]), policy()
 
 
+MANY = [span(0, 1, f) for f in range(1, 18)]
+WIDE = vocabulary(2, 1, 17)
+
 ANY = policy([])
 NONE = policy()
 R1_1, R1_2 = policy([role(1, ('class', 1))]), policy([role(1, ('class', 2))])
@@ -101,6 +104,11 @@ CASES = {
     'all_individuals': (DESK, ANY, NONE),
     'features_16': features(16),
     'features_17': features(17),
+    'features_17_in_the_same': (WIDE, policy(MANY), policy(MANY)),
+    'features_17_behind_a_role': (WIDE, policy([role(1, *MANY)]), policy([role(1)])),
+    'features_17_each_by_another': (WIDE, policy(MANY, [('class', 1)]), policy([('class', 1)], MANY)),
+    'features_17_and_one_that_fails': (WIDE, policy(MANY, [('class', 2)]), policy([('class', 1)], MANY)),
+    'features_17_in_the_impossible': (WIDE, policy(MANY), policy([('never',)])),
     'classes_256': (vocabulary(256, 0, 0), policy([('class', 256)]), policy([('class', 255)])),
     'classes_257': (vocabulary(257, 0, 0), policy([('class', 256)]), policy([('class', 255)])),
     'depth_16': (LOOSE, policy(nested(16)), policy(nested(16))),

@@ -49,6 +49,7 @@ STAGES = [
         'retest': (4.5, 4, 'Algorithm 1 on a combination'),
         'trial': (4, 5, 'whole, else by combinations'),
         'countermodel': (5, 5, 'the words of a no'),
+        'short_way': (3, 6, 'term by term, until one is not taken'),
         'decision': (4, 6, '22; the first combination to fail'),
     }),
     ('5  Model check', '#f6e6ee', {

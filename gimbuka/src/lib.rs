@@ -237,6 +237,7 @@ pub fn possible(v: &[u32], p: &[u32], work: &mut [u32]) -> Result<Possibility, R
 /// # Errors
 ///
 /// Those of [`read_policy`] for `p` and of [`read_second_policy`] for `q`, then 21, 22, and 23 where the answer is not "compliant".
+/// 22 is looked for only where some possible term of `p` is inside no single term of `q`, its intervals whole.
 pub fn compliance(
     v: &[u32],
     p: &[u32],
@@ -274,7 +275,7 @@ pub fn compliance(
 ///
 /// # Errors
 ///
-/// Those of [`compliance`]; 22 looks at both policies, and 23 comes where the answer is not "equal".
+/// Those of [`compliance`]; 22 looks at both directions, each by itself, and 23 comes where the answer is not "equal".
 pub fn equality(
     v: &[u32],
     p: &[u32],

@@ -104,6 +104,12 @@ impl Tally {
     }
 }
 
+/// What an answer is counted as where it needs the short way, since a term has over 65,536 combinations.
+#[must_use]
+pub fn by_the_short_way(answer: &str) -> String {
+    format!("{answer} by the short way, beyond 65,536 combinations")
+}
+
 /// Judges what no seed makes, then the seeds, on every core. What fails is told with its name, and of several the first, so that
 /// a run tells the same every time.
 pub fn sweep<T: Sync, E: Send>(

@@ -172,14 +172,8 @@ pub struct Uncovered {
 #[must_use]
 pub fn first_uncovered(split: &Split, second: &[Term]) -> Option<Uncovered> {
     let dials = Dials::of(split);
-    let mut conditions = Vec::new();
-    for term in second {
-        match dials.inside(&split.root, term) {
-            Condition::Always => return None,
-            Condition::Never => {}
-            open => conditions.push(open),
-        }
-    }
+    let conditions = second.iter().map(|term| dials.inside(&split.root, term));
+    let conditions = conditions.filter(|condition| *condition != Condition::Never).collect();
     let mut search =
         Search { sizes: &dials.sizes, conditions, chosen: vec![0; dials.sizes.len()], latest: 0 };
     match search.covered_from(0) {

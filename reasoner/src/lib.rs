@@ -18,13 +18,15 @@ pub mod random;
 pub mod split;
 pub mod text;
 pub mod vocabulary;
+pub mod whole;
 
 pub use owl::read_owl;
-pub use program::{bytes_of_parts, program};
+pub use program::{bytes_of_parts, parts_of_bytes, program};
 
 use countermodel::Countermodel;
 use model::Interpretation;
-use policy::{Place, Policy};
+use normal::Individual;
+use policy::{Place, Policy, Term};
 use split::{Ends, Split};
 use vocabulary::{Rules, Vocabulary};
 
@@ -127,11 +129,12 @@ fn first_possible(v: &[u32], p: &[u32], work: &mut [u32]) -> Result<Possibility,
     let policy = Policy::read(&vocabulary, p, Place::First)?;
     clear(work)?;
     let rules = Rules::of(&vocabulary);
-    let found = policy.terms.iter().position(|term| normal::normalise(&rules, term).is_some());
-    Ok(found.map_or(Possibility::Impossible, |at| Possibility::Possible(at as u32 + 1)))
+    let first = possible_terms(&rules, &policy).next();
+    Ok(first.map_or(Possibility::Impossible, |(s, _)| Possibility::Possible(s)))
 }
 
-/// Compliance: vocabulary, first policy, second, 21, 22, and 23 if not compliant.
+/// Compliance: vocabulary, first policy, second, 21, 22 if the short way fails, and 23 if not
+/// compliant.
 #[must_use]
 pub fn compliance(v: &[u32], p: &[u32], q: &[u32], work: &mut [u32], out: &mut [u32]) -> Verdict {
     decide(v, p, q, work, out).unwrap_or_else(Verdict::Refused)
@@ -195,6 +198,19 @@ fn check(v: &[u32], p: &[u32], q: &[u32], m: &[u32], work: &mut [u32]) -> Result
     Ok(if yes { Checked::Yes } else { Checked::No })
 }
 
+/// Has a possible term of the first policy over 65,536 combinations? Then only the short way can say
+/// "compliant". Tables that are refused have none.
+#[must_use]
+pub fn is_crowded(v: &[u32], p: &[u32], q: &[u32]) -> bool {
+    let Ok(Question { vocabulary, first, second }) = Question::read(v, p, q) else {
+        return false;
+    };
+    let rules = Rules::of(&vocabulary);
+    let ends = Ends::of(&second, vocabulary.features);
+    let mut terms = possible_terms(&rules, &first);
+    terms.any(|(_, root)| ends.are_too_many(&root))
+}
+
 /// 21, or the first 16,384 work words are made 0 and later ones left.
 fn clear(work: &mut [u32]) -> Result<(), u32> {
     work.get_mut(..FULL_WORK).ok_or(21u32)?.fill(0);
@@ -217,36 +233,50 @@ impl Question {
     }
 }
 
-/// One direction of a comparison: the left policy's terms, normalised and split against
-/// the right policy's ends; an impossible one is none.
+/// The possible terms of a policy, each with its number s, in normal form.
+fn possible_terms<'a>(
+    rules: &'a Rules,
+    policy: &'a Policy,
+) -> impl Iterator<Item = (u32, Individual)> + 'a {
+    let normalised = |(term, s): (&'a Term, u32)| Some((s, normal::normalise(rules, term)?));
+    policy.terms.iter().zip(1..).filter_map(normalised)
+}
+
+/// One direction of a comparison: the left policy's possible terms that do not pass whole, each with
+/// its number s, split against the right policy's ends. Where there is none the short way succeeds.
 struct Direction<'a> {
-    left: Vec<Option<Split>>,
+    open: Vec<(u32, Split)>,
     right: &'a Policy,
 }
 
 impl<'a> Direction<'a> {
-    /// Normalises and splits; 22 "wherever it stands".
+    /// Normalises, and splits where the short way fails; 22 is then looked for "in those that pass
+    /// whole too".
     fn of(
         vocabulary: &Vocabulary,
         rules: &Rules,
         left: &Policy,
         right: &'a Policy,
     ) -> Result<Self, u32> {
+        let (whole, open): (Vec<_>, Vec<_>) = possible_terms(rules, left)
+            .partition(|(_, root)| whole::passes_whole(root, &right.terms));
+        if open.is_empty() {
+            return Ok(Self { open: Vec::new(), right });
+        }
         let ends = Ends::of(right, vocabulary.features);
-        let split = |term: &policy::Term| match normal::normalise(rules, term) {
-            None => Ok(None),
-            Some(root) => Split::of(root, &ends).map(Some).ok_or(22u32),
-        };
-        let left = left.terms.iter().map(split).collect::<Result<_, _>>()?;
-        Ok(Self { left, right })
+        let mut all = whole.iter().chain(&open);
+        if all.any(|(_, root)| ends.are_too_many(root)) {
+            return Err(22);
+        }
+        let open = open.into_iter().map(|(s, root)| (s, Split::of(root, &ends))).collect();
+        Ok(Self { open, right })
     }
 
     /// The first term and combination to fail, "in that order".
     fn first_difference(&self) -> Option<Difference<'_>> {
-        self.left.iter().zip(1..).find_map(|(split, s)| {
-            let split = split.as_ref()?;
+        self.open.iter().find_map(|(s, split)| {
             let uncovered = cover::first_uncovered(split, &self.right.terms)?;
-            Some(Difference { split, s, q: uncovered.combination, choice: uncovered.choice })
+            Some(Difference { split, s: *s, q: uncovered.combination, choice: uncovered.choice })
         })
     }
 }

@@ -6,8 +6,10 @@ use std::fmt::Write as _;
 const MOST_BYTES: usize = 65_536;
 const OUTPUT: usize = 16_384;
 
-/// "Input over 65,536 bytes, cut short or followed by more" is none.
-pub(crate) fn parts(bytes: &[u8]) -> Option<[Vec<u32>; 3]> {
+/// The three parts of the program's bytes. "Input over 65,536 bytes, cut short or followed by more"
+/// has none.
+#[must_use]
+pub fn parts_of_bytes(bytes: &[u8]) -> Option<[Vec<u32>; 3]> {
     if bytes.len() > MOST_BYTES {
         return None;
     }
@@ -34,7 +36,7 @@ fn word(rest: &mut &[u8]) -> Option<u32> {
 /// an output of 16,384 words."
 #[must_use]
 pub fn program(bytes: &[u8]) -> Vec<u8> {
-    let Some([v, p, q]) = parts(bytes) else {
+    let Some([v, p, q]) = parts_of_bytes(bytes) else {
         return b"refused 40\n".to_vec();
     };
     let mut out = vec![0; OUTPUT];

@@ -4,7 +4,7 @@ use crate::classes::FeatureNo;
 use crate::normal::{Individual, Span};
 use crate::policy::{Conjunct, Policy};
 
-/// SPECIFICATION 9.6, 22: some possible term of the first policy has over 65,536 combinations.
+/// SPECIFICATION 9.6, 22: where the short way fails, no possible term has more combinations.
 pub const MOST_COMBINATIONS: u64 = 65_536;
 
 /// For each feature the ends of its constraints "anywhere in the second policy as given", sorted.
@@ -62,6 +62,18 @@ impl Ends {
         count
     }
 
+    /// Has a normal form over 65,536 combinations?
+    #[must_use]
+    pub fn are_too_many(&self, root: &Individual) -> bool {
+        let mut combinations = 1u64;
+        root.visit(&mut |individual| {
+            for &span in &individual.spans {
+                combinations = combinations.saturating_mul(self.count(span));
+            }
+        });
+        combinations > MOST_COMBINATIONS
+    }
+
     /// The upper ends of the pieces: "each member of X and each non-empty gap between neighbours
     /// in X, rising".
     #[must_use]
@@ -86,21 +98,13 @@ pub struct Split {
 }
 
 impl Split {
-    /// Splits a normal form; none if it has over 65,536 combinations.
+    /// Splits a normal form.
     #[must_use]
-    pub fn of(root: Individual, ends: &Ends) -> Option<Self> {
-        let mut combinations = 1u64;
-        let mut spans = Vec::new();
+    pub fn of(root: Individual, ends: &Ends) -> Self {
+        let mut pieces = Vec::new();
         root.visit(&mut |individual| {
-            for &span in &individual.spans {
-                combinations = combinations.saturating_mul(ends.count(span));
-                spans.push(span);
-            }
+            pieces.extend(individual.spans.iter().map(|&span| ends.pieces(span)));
         });
-        if combinations > MOST_COMBINATIONS {
-            return None;
-        }
-        let pieces = spans.into_iter().map(|span| ends.pieces(span)).collect();
-        Some(Self { root, pieces })
+        Self { root, pieces }
     }
 }

@@ -4,9 +4,11 @@ mod common;
 
 use common::{c, desk_vocabulary, f, names, r, words, work};
 use reasoner::classes::FeatureNo;
-use reasoner::normal::Span;
-use reasoner::policy::{Policy, Term};
+use reasoner::normal::{normalise, Span};
+use reasoner::policy::{Conjunct, Policy, Term};
 use reasoner::split::Ends;
+use reasoner::vocabulary::{Rules, Vocabulary};
+use reasoner::whole::passes_whole;
 use reasoner::*;
 
 fn decide(v: &[u32], p: &[Term], q: &[Term]) -> (Verdict, Vec<u32>) {
@@ -134,10 +136,15 @@ fn no_simple_policy_and_the_empty_term() {
     assert_eq!(out[..6], [0, 1, 0, 0, 0, 9]);
 }
 
+/// So many features, each 0..1.
+fn spans(count: u32) -> Term {
+    (1..=count).map(|feature| f(feature, 0, 1)).collect()
+}
+
 #[test]
 fn sixteen_features_and_seventeen() {
     let v = names(1, 0, 17);
-    let spans = |count: u32| vec![(1..=count).map(|feature| f(feature, 0, 1)).collect::<Term>()];
+    let spans = |count| [spans(count)];
     let (verdict, out) = decide(&v, &spans(16), &[]);
     assert_eq!(verdict, Verdict::Outside(1, 1, 85));
     assert_eq!(out[5..10], [3, 1, 1, 0, 2]);
@@ -145,6 +152,50 @@ fn sixteen_features_and_seventeen() {
     let zeros: Vec<Term> = (1..=16).map(|feature| vec![f(feature, 0, 0)]).collect();
     assert_eq!(decide(&v, &spans(16), &zeros).0, Verdict::Outside(1, 65_536, 85));
     assert_eq!(decide(&v, &spans(17), &[]).0, Verdict::Refused(22));
+}
+
+#[test]
+fn seventeen_features_by_the_short_way() {
+    let v = names(2, 1, 17);
+    let verdict = |p: &[Term], q: &[Term]| decide(&v, p, q).0;
+    assert_eq!(verdict(&[spans(17)], &[spans(17)]), Verdict::Compliant);
+    let behind = |inner| [vec![r(1, inner)]];
+    assert_eq!(verdict(&behind(spans(17)), &behind(vec![])), Verdict::Compliant);
+    // A term for each.
+    let either = [vec![c(1)], spans(17)];
+    assert_eq!(verdict(&[spans(17), vec![c(1)]], &either), Verdict::Compliant);
+    // One term does not pass whole.
+    assert_eq!(verdict(&[spans(17), vec![c(2)]], &[spans(17)]), Verdict::Refused(22));
+    // The first direction differs, and yet the second is counted.
+    let (one, many) = (words(&[vec![c(1)]]), words(&[spans(17)]));
+    assert_eq!(verdict(&[vec![c(1)]], &[spans(17)]), Verdict::Outside(1, 1, 10));
+    let compared = equality(&v, &one, &many, &mut work(), &mut [0; 100]);
+    assert_eq!(compared, Comparison::Refused(22));
+}
+
+#[test]
+fn what_passes_whole() {
+    let read = Vocabulary::read(&desk_vocabulary(true)).unwrap();
+    let passes = |term: &Term, second: &[Term]| {
+        passes_whole(&normalise(&Rules::of(&read), term).unwrap(), second)
+    };
+    // With 4.6 the term does not, and with 1..30 in place of 1..60 it does.
+    let uses = |class, lo, hi| vec![r(1, vec![c(class)]), f(1, lo, hi)];
+    assert!(!passes(&uses(2, 1, 60), &[uses(1, 0, 30)]));
+    assert!(passes(&uses(2, 1, 30), &[uses(1, 0, 30)]));
+    // Two halves take the whole only together.
+    let halves = [vec![f(1, 0, 4)], vec![f(1, 5, 9)]];
+    assert!(!passes(&vec![f(1, 0, 9)], &halves));
+    assert!(passes(&vec![f(1, 5, 8)], &halves));
+    // What the normal form has, the range among it, and the second policy as it is given.
+    assert!(passes(&vec![f(1, 0, 7), f(1, 5, 9)], &halves));
+    assert!(passes(&vec![r(3, vec![])], &[vec![r(3, vec![c(1)])]]));
+    assert!(passes(&vec![f(1, 3, 4)], &[vec![f(1, 0, 4), f(1, 3, 9)]]));
+    // No conjuncts, at any depth; the impossible concept and lo above hi.
+    let nested = vec![r(1, vec![r(2, vec![c(3)])])];
+    assert!(passes(&nested, &[vec![]]) && passes(&nested, &[vec![r(1, vec![r(2, vec![])])]]));
+    assert!(!passes(&nested, &[]) && !passes(&nested, &[vec![r(1, vec![Conjunct::Nothing])]]));
+    assert!(!passes(&vec![f(1, 3, 3)], &[vec![f(1, 4, 3)], vec![f(1, 3, 2)]]));
 }
 
 #[test]

@@ -2,40 +2,76 @@
 
 mod common;
 
-use common::literal;
+use common::literal::{self, Way};
 use reasoner::random::{damage, limits, Case, Family, Rng};
 use reasoner::*;
+use std::fmt::Debug;
+
+/// What an operation answers, and what it leaves in the slices.
+#[derive(PartialEq)]
+struct Told<A> {
+    answer: A,
+    work: Vec<u32>,
+    out: Vec<u32>,
+}
+
+/// The slices as they are lent, made once for a case.
+struct Lent {
+    work: Vec<u32>,
+    out: Vec<u32>,
+}
+
+impl Lent {
+    fn of(case: &Case) -> Self {
+        Self { work: case.work(), out: case.out() }
+    }
+
+    fn to<A>(&self, operation: impl FnOnce(&mut [u32], &mut [u32]) -> A) -> Told<A> {
+        let (mut work, mut out) = (self.work.clone(), self.out.clone());
+        let answer = operation(&mut work, &mut out);
+        Told { answer, work, out }
+    }
+
+    /// The library's verdict and the literal one.
+    fn verdicts(&self, way: Way, Case { v, p, q, .. }: &Case) -> [Told<Verdict>; 2] {
+        [
+            self.to(|work, out| compliance(v, p, q, work, out)),
+            self.to(|work, out| literal::compliance(way, v, p, q, work, out)),
+        ]
+    }
+
+    /// The library's comparison and the literal one.
+    fn comparisons(&self, way: Way, Case { v, p, q, .. }: &Case) -> [Told<Comparison>; 2] {
+        [
+            self.to(|work, out| equality(v, p, q, work, out)),
+            self.to(|work, out| literal::equality(way, v, p, q, work, out)),
+        ]
+    }
+}
+
+/// Both tell the same.
+fn hold<A: PartialEq + Debug>([ours, literal]: [Told<A>; 2], say: impl Fn() -> String) {
+    assert_eq!(ours.answer, literal.answer, "{}", say());
+    assert!(ours == literal, "{}", say());
+}
 
 /// Compares all operations on one case; the literal one lists every combination, so cases with
-/// very many are counted only.
+/// very many to try are read only.
 fn agree(case: &Case, most: u128, what: &str) {
     let Case { v, p, q, m, .. } = case;
     let say = || format!("{what}\n{case}");
     assert_eq!(read_vocabulary(v), literal::read_vocabulary(v), "{}", say());
     assert_eq!(read_policy(v, p), literal::read_policy(v, p, 4), "{}", say());
     assert_eq!(read_second_policy(v, q), literal::read_policy(v, q, 14), "{}", say());
-    let (lent_work, lent_out) = (case.work(), case.out());
-    let (mut work, mut slow_work) = (lent_work.clone(), lent_work.clone());
-    assert_eq!(possible(v, p, &mut work), literal::possible(v, p, &mut slow_work), "{}", say());
-    assert!(work == slow_work, "{}", say());
-    let (mut work, mut slow_work) = (lent_work.clone(), lent_work.clone());
-    let checked = model_check(v, p, q, m, &mut work);
-    assert_eq!(checked, literal::model_check(v, p, q, m, &mut slow_work), "{}", say());
-    assert!(work == slow_work, "{}", say());
-    let combinations = literal::work_of(v, p, q);
-    if combinations > most && combinations <= 65_536 {
-        return;
+    let lent = Lent::of(case);
+    let possible = lent.to(|work, _| possible(v, p, work));
+    hold([possible, lent.to(|work, _| literal::possible(v, p, work))], say);
+    let checked = lent.to(|work, _| model_check(v, p, q, m, work));
+    hold([checked, lent.to(|work, _| literal::model_check(v, p, q, m, work))], say);
+    if literal::work_of(Way::Short, v, p, q) <= most {
+        hold(lent.verdicts(Way::Short, case), say);
+        hold(lent.comparisons(Way::Short, case), say);
     }
-    let (mut work, mut slow_work) = (lent_work.clone(), lent_work.clone());
-    let (mut out, mut slow_out) = (lent_out.clone(), lent_out.clone());
-    let verdict = compliance(v, p, q, &mut work, &mut out);
-    assert_eq!(verdict, literal::compliance(v, p, q, &mut slow_work, &mut slow_out), "{}", say());
-    assert!(work == slow_work && out == slow_out, "{}", say());
-    let (mut work, mut slow_work) = (lent_work.clone(), lent_work.clone());
-    let (mut out, mut slow_out) = (lent_out.clone(), lent_out.clone());
-    let compared = equality(v, p, q, &mut work, &mut out);
-    assert_eq!(compared, literal::equality(v, p, q, &mut slow_work, &mut slow_out), "{}", say());
-    assert!(work == slow_work && out == slow_out, "{}", say());
 }
 
 fn run(family: Family, seeds: std::ops::Range<u64>) {
@@ -80,6 +116,11 @@ fn hierarchy() {
 }
 
 #[test]
+fn crowded() {
+    run(Family::Crowded, 0..1_500);
+}
+
+#[test]
 fn damaged() {
     run(Family::Damaged, 0..4_000);
     run(Family::Faulty, 0..1_000);
@@ -94,7 +135,7 @@ fn the_program() {
     for seed in 0..3_000 {
         let case = Case::generate(families[seed as usize % 5], seed);
         let bytes = damage::program_bytes(&mut Rng::new(seed), &case);
-        if literal::work_of(&case.v, &case.p, &case.q) > 5_000 {
+        if literal::work_of(Way::Short, &case.v, &case.p, &case.q) > 5_000 {
             continue;
         }
         let printed = literal::program(&bytes);
@@ -117,6 +158,75 @@ fn limit_cases_that_the_literal_one_can_do() {
             agree(&case, 65_536, name);
         }
     }
+}
+
+/// What trying the combinations alone tells where the short way tells, and how often.
+#[derive(Debug, Default)]
+struct Compared {
+    /// The same, with two combinations or more to try.
+    same: u32,
+    /// 22, where the short way has these.
+    compliant: u32,
+    equal: u32,
+    different: u32,
+    /// 22, which the short way does not spare.
+    refused: u32,
+}
+
+impl Compared {
+    fn compare(&mut self, case: &Case, what: &str) {
+        let Case { v, p, q, .. } = case;
+        let combinations = literal::work_of(Way::Split, v, p, q);
+        if combinations > 5_000 {
+            return;
+        }
+        let spared = combinations > 1 && literal::work_of(Way::Short, v, p, q) == 0;
+        let say = || format!("{what}\n{case}");
+        let lent = Lent::of(case);
+        let [short, split] = lent.verdicts(Way::Split, case);
+        match (&split.answer, &short.answer) {
+            (Verdict::Refused(22), Verdict::Refused(22)) => self.refused += 1,
+            (Verdict::Refused(22), Verdict::Compliant) => self.compliant += 1,
+            (answer, _) => {
+                self.same += u32::from(spared && *answer == Verdict::Compliant);
+                hold([short, split], say);
+            }
+        }
+        let [short, split] = lent.comparisons(Way::Split, case);
+        match (&split.answer, &short.answer) {
+            (Comparison::Refused(22), Comparison::Refused(22)) => self.refused += 1,
+            (Comparison::Refused(22), Comparison::Equal) => self.equal += 1,
+            // 23 is told of a difference.
+            (Comparison::Refused(22), Comparison::Differs(..) | Comparison::Refused(23)) => {
+                self.different += 1;
+            }
+            (answer, _) => {
+                self.same += u32::from(spared && *answer == Comparison::Equal);
+                hold([short, split], say);
+            }
+        }
+    }
+}
+
+#[test]
+fn the_short_way_changes_nothing_but_22() {
+    let mut seen = Compared::default();
+    let families = [
+        Family::Tiny,
+        Family::Small,
+        Family::Merges,
+        Family::Coverage,
+        Family::Boxes,
+        Family::Crowded,
+    ];
+    for family in families {
+        for seed in 50_000..51_000 {
+            seen.compare(&Case::generate(family, seed), &format!("{family:?} {seed}"));
+        }
+    }
+    let Compared { same, compliant, equal, different, refused } = seen;
+    assert!(same > 500 && refused > 150, "{seen:?}");
+    assert!(compliant > 100 && equal > 50 && different > 40, "{seen:?}");
 }
 
 /// For a long run by hand: `cargo test --release --test literal -- --ignored`. The cases at a limit

@@ -32,12 +32,13 @@ fn decide(case: &Case) -> (Verdict, Vec<u32>) {
     (verdict, out)
 }
 
-const FAMILIES: [Family; 6] = [
+const FAMILIES: [Family; 7] = [
     Family::Small,
     Family::Merges,
     Family::Coverage,
     Family::Boxes,
     Family::Hierarchy,
+    Family::Crowded,
     Family::Medium,
 ];
 

@@ -6,7 +6,7 @@ use common::{c, desk_vocabulary, r, words};
 use reasoner::random::damage::{base, faults, put_both, Fault};
 use reasoner::random::{limits, Case, Family};
 use reasoner::*;
-use std::collections::BTreeSet;
+use std::collections::{BTreeMap, BTreeSet};
 
 /// The refusals of an operation in its order; walk faults are one stage.
 const VOCABULARY: &[u32] = &[1, 2, 3];
@@ -206,10 +206,8 @@ fn what_results_leave_in_the_slices() {
 
 #[test]
 fn limits_answer_as_the_paper_says() {
-    let of = |name: &str| {
-        let found = limits::cases().into_iter().find(|(own, _)| *own == name);
-        found.unwrap_or_else(|| panic!("no case {name}")).1
-    };
+    let cases: BTreeMap<&str, Case> = limits::cases().into_iter().collect();
+    let of = |name: &str| cases.get(name).unwrap_or_else(|| panic!("no case {name}"));
     let verdict = |name: &str| {
         let case = of(name);
         compliance(&case.v, &case.p, &case.q, &mut case.work(), &mut case.out())
@@ -238,6 +236,19 @@ fn limits_answer_as_the_paper_says() {
         ("2 to the 32nd combinations", 22),
         ("2 to the 64th combinations", 22),
         ("131,072 combinations after a failing term", 22),
+        ("131,072 combinations that are not merged", 22),
+        ("65,538 combinations taken whole, then a term that fails", 22),
+        ("131,072 combinations taken whole, first a term that fails", 22),
+        ("131,072 combinations taken whole, between them a term that fails", 22),
+        ("131,072 combinations taken whole, last a term that fails", 22),
+        ("131,072 combinations taken whole, an impossible and a failing term", 22),
+        ("131,072 combinations in the only term that fails", 22),
+        ("131,072 combinations taken whole, then a term that two cover", 22),
+        ("131,072 combinations, all covered", 22),
+        ("131,072 combinations beside the impossible concept", 22),
+        ("131,072 combinations behind a role that reaches the impossible concept", 22),
+        ("131,072 combinations beside lo above hi", 22),
+        ("131,072 combinations behind a role, lo above hi", 22),
         ("countermodel of 16,385 words", 23),
     ];
     for (name, number) in refused {
@@ -250,6 +261,8 @@ fn limits_answer_as_the_paper_says() {
         ("65,536 combinations times one piece", (1, 1, 85)),
         ("131,072 combinations in an impossible term", (2, 1, 10)),
         ("131,072 combinations in the second only", (1, 1, 10)),
+        ("131,072 combinations in the second, taken whole", (1, 1, 10)),
+        ("65,536 combinations taken whole, then a term that fails", (2, 1, 10)),
         ("countermodel of 16,380 words", (1, 1, 16_380)),
         ("512 individuals in 256 classes", (1, 1, 656_640)),
         ("whole line of values", (1, 7, 15)),
@@ -257,9 +270,50 @@ fn limits_answer_as_the_paper_says() {
     for (name, (s, q, length)) in outside {
         assert_eq!(verdict(name), Verdict::Outside(s, q, length), "{name}");
     }
-    assert_eq!(verdict("65,536 combinations, all covered"), Verdict::Compliant);
-    assert_eq!(comparison("131,072 combinations in the second only"), Comparison::Refused(22));
-    assert_eq!(comparison("512 terms"), Comparison::Equal);
+    let compliant = [
+        "65,536 combinations, all covered",
+        "65,536 combinations taken whole, then a term that two cover",
+        "65,536 combinations taken whole",
+        "65,538 combinations taken whole",
+        "131,072 combinations taken whole",
+        "2 to the 64th combinations taken whole",
+        "131,072 combinations taken whole by a wider term",
+        "131,072 combinations taken whole, each term by another",
+        "131,072 combinations taken whole, an impossible term between",
+        "131,072 combinations taken whole, behind terms that none is in",
+        "131,072 combinations taken whole once merged",
+        "131,072 combinations in the first, taken whole",
+        "131,072 combinations in both, the first taken whole",
+        "131,072 combinations in a term without conjuncts",
+        "131,072 combinations behind a role that reaches any",
+        "131,072 combinations behind 15 roles that reach any",
+    ];
+    for name in compliant {
+        assert_eq!(verdict(name), Verdict::Compliant, "{name}");
+    }
+    let compared = [
+        ("512 terms", Comparison::Equal),
+        ("65,536 combinations taken whole", Comparison::Equal),
+        ("131,072 combinations taken whole", Comparison::Equal),
+        ("2 to the 64th combinations taken whole", Comparison::Equal),
+        ("131,072 combinations taken whole, each term by another", Comparison::Equal),
+        ("131,072 combinations taken whole, an impossible term between", Comparison::Equal),
+        ("131,072 combinations taken whole, behind terms that none is in", Comparison::Equal),
+        ("131,072 combinations taken whole once merged", Comparison::Equal),
+        ("131,072 combinations in the second only", Comparison::Refused(22)),
+        ("131,072 combinations in the second, taken whole", Comparison::Differs(1, 1, 1, 10)),
+        ("131,072 combinations in the first, taken whole", Comparison::Differs(2, 1, 1, 10)),
+        ("131,072 combinations in both, the first taken whole", Comparison::Refused(22)),
+        ("131,072 combinations taken whole by a wider term", Comparison::Refused(22)),
+        ("131,072 combinations taken whole, last a term that fails", Comparison::Refused(22)),
+        ("131,072 combinations beside the impossible concept", Comparison::Refused(22)),
+        ("131,072 combinations in a term without conjuncts", Comparison::Differs(2, 1, 1, 5)),
+        ("131,072 combinations behind a role that reaches any", Comparison::Differs(2, 1, 1, 10)),
+        ("131,072 combinations behind 15 roles that reach any", Comparison::Differs(2, 1, 1, 80)),
+    ];
+    for (name, answer) in compared {
+        assert_eq!(comparison(name), answer, "{name}");
+    }
     assert_eq!(checked("model of 700,005 words"), Checked::Yes);
     assert_eq!(checked("model of 700,010 words"), Checked::Refused(31));
     assert_eq!(checked("dense model of one role"), Checked::Yes);

@@ -107,6 +107,17 @@ fn complied(cases: &[Case]) -> [f64; 2] {
     ))
 }
 
+/// Equality, by library and reasoner.
+fn compared(cases: &[Case]) -> [f64; 2] {
+    sides!(cases, |side, case, lent| side::equality(
+        &case.v,
+        &case.p,
+        &case.q,
+        &mut lent.work,
+        &mut lent.out
+    ))
+}
+
 /// Model check, by library and reasoner.
 fn checked(cases: &[Case]) -> [f64; 2] {
     sides!(cases, |side, case, lent| side::model_check(
@@ -124,18 +135,15 @@ fn pairs<const N: usize>(answer: Answer, classes: u32, terms: usize) -> [Case; N
 
 fn everyday() {
     heading("everyday pairs: 256 classes, 300 records, 10 terms a side");
+    let short: [Case; 50] = pairs(Answer::TermByTerm, 256, 10);
     let comply: [Case; 50] = pairs(Answer::Compliant, 256, 10);
     let fail: [Case; 50] = pairs(Answer::Outside, 256, 10);
-    compliance("compliance, compliant", &comply);
+    compliance("compliance, compliant term by term", &short);
+    compliance("compliance, compliant, a term by two together", &comply);
     compliance("compliance, outside in the last term", &fail);
-    let equality = sides!(&fail, |side, case, lent| side::equality(
-        &case.v,
-        &case.p,
-        &case.q,
-        &mut lent.work,
-        &mut lent.out
-    ));
-    row("equality, different", equality, None);
+    let same = short.map(|case| Case { q: case.p.clone(), ..case });
+    row("equality, equal", compared(&same), None);
+    row("equality, different", compared(&fail), None);
     let possible =
         sides!(&comply, |side, case, lent| side::possible(&case.v, &case.p, &mut lent.work));
     row("possible", possible, None);
@@ -161,7 +169,7 @@ fn growth() {
 
 fn at_limits() {
     heading("at the limits");
-    let compared = [
+    let decided = [
         "65,536 combinations, all covered",
         "256 classes in one rising chain",
         "512 policy records in one term",
@@ -170,7 +178,7 @@ fn at_limits() {
         ["512 individuals in 256 classes", "dense model, deep policies", "model of 700,005 words"];
     for (name, case) in limits::cases() {
         let case = [case];
-        if compared.contains(&name) {
+        if decided.contains(&name) {
             row(&format!("compliance, {name}"), complied(&case), None);
         }
         if judged.contains(&name) {

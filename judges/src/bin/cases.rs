@@ -3,9 +3,10 @@
 //! `cases [FIRST [COUNT]]` holds every operation's answer, and what it leaves in the lent slices, to the reasoner's: for every
 //! case at a limit, every slow pair and model, every directed fault, and COUNT seeded cases from seed FIRST on (100,000 from 0). On a
 //! difference it prints the case, made as small as still differs, and fails. An answer that no case has is a failure too: then the
-//! cases do not reach it.
+//! cases do not reach it. Answers that need the short way, beyond 65,536 combinations, are counted apart, and each must be had too.
 
-use judges::{library, Given, Tally, OPERATIONS};
+use judges::{by_the_short_way, library, Given, Tally, OPERATIONS};
+use reasoner::is_crowded;
 use reasoner::random::{shrink::shrink, Case};
 use std::process::ExitCode;
 
@@ -65,10 +66,31 @@ fn judge(tally: &mut Tally, case: &Case) -> Result<(), Box<Case>> {
         };
         tally.count(format!("{operation} {kind}"));
     }
+    for answer in short_answers(case, &ours) {
+        tally.count(by_the_short_way(answer));
+    }
     Ok(())
 }
 
-/// The answers that there are (SPECIFICATION 9.1).
+/// The answers that need the short way, in one direction or both, where a term has over 65,536 combinations.
+const SHORT: [&str; 4] = ["Compliant", "Equal", "Differs(1)", "Differs(2)"];
+
+/// Those of them that a case has.
+fn short_answers(case: &Case, told: &Told) -> impl Iterator<Item = &'static str> {
+    let Case { v, p, q, .. } = case;
+    let [.., verdict, comparison, _] = &told.answers;
+    let first = || is_crowded(v, p, q);
+    let either = || first() || is_crowded(v, q, p);
+    let has = [
+        verdict == "Compliant" && first(),
+        comparison == "Equal" && either(),
+        comparison.starts_with("Differs(1,") && either(),
+        comparison.starts_with("Differs(2,") && either(),
+    ];
+    SHORT.into_iter().zip(has).filter_map(|(answer, has)| has.then_some(answer))
+}
+
+/// The answers that there are (SPECIFICATION 9.1), and those of the short way.
 fn answers() -> impl Iterator<Item = String> {
     const READ: [u32; 3] = [1, 2, 3];
     const FIRST: [u32; 5] = [4, 5, 6, 7, 8];
@@ -82,11 +104,12 @@ fn answers() -> impl Iterator<Item = String> {
         (&["Equal", "Differs"], [&READ[..], &FIRST, &SECOND, &[21, 22, 23]].concat()),
         (&["Yes", "No"], [&READ[..], &FIRST, &SECOND, &[31, 32, 33, 21]].concat()),
     ];
-    OPERATIONS.into_iter().zip(expected).flat_map(|(operation, (kinds, refusals))| {
+    let all = OPERATIONS.into_iter().zip(expected).flat_map(|(operation, (kinds, refusals))| {
         let kinds = kinds.iter().map(move |kind| format!("{operation} {kind}"));
         kinds
             .chain(refusals.into_iter().map(move |number| format!("{operation} Refused({number})")))
-    })
+    });
+    all.chain(SHORT.into_iter().map(by_the_short_way))
 }
 
 fn report(name: &str, small: &Case) {
@@ -108,6 +131,9 @@ fn main() -> ExitCode {
         Err((name, case)) => report(&name, &shrink(&case, &mut differs)),
         Ok(tally) => {
             println!("{count} seeded cases, those at the limits, the slow ones and the directed faults: library and reasoner agree");
+            for answer in SHORT.map(by_the_short_way) {
+                println!("{} cases have the answer {answer}", tally.of(&answer));
+            }
             if tally.has_all(answers()) {
                 return ExitCode::SUCCESS;
             }

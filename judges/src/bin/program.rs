@@ -3,9 +3,10 @@
 //! `program PATH [FIRST [COUNT]]` runs the program PATH on the bytes of every case at a limit, every slow pair, every directed fault,
 //! and COUNT seeds from FIRST on (5,000 from 0): cases whole and damaged, random bytes, and lengths about the longest. Standard output
 //! must be the reasoner's to the byte, standard error empty and the exit status 0. On a difference it writes the input into the current
-//! folder and fails. An answer that no input has is a failure too.
+//! folder and fails. An answer that no input has is a failure too; so it is where none is compliant by the short way, beyond 65,536
+//! combinations.
 
-use judges::Given;
+use judges::{by_the_short_way, Given, Tally};
 use reasoner::random::{damage, Case, Rng};
 use std::io::{self, ErrorKind, Write};
 use std::process::{Child, Command, ExitCode, Output, Stdio};
@@ -119,10 +120,23 @@ fn kind(answer: &[u8]) -> String {
     if line.starts_with("outside") { "outside" } else { line }.to_owned()
 }
 
-/// The answers that the program gives (SPECIFICATION 10.3).
+/// Counts an answer, and once more where it needs the short way.
+fn note(tally: &mut Tally, bytes: &[u8], answer: &[u8]) {
+    let kind = kind(answer);
+    let is_crowded = || {
+        let parts = reasoner::parts_of_bytes(bytes);
+        parts.is_some_and(|[v, p, q]| reasoner::is_crowded(&v, &p, &q))
+    };
+    if kind == "compliant" && is_crowded() {
+        tally.count(by_the_short_way(&kind));
+    }
+    tally.count(kind);
+}
+
+/// The answers that the program gives (SPECIFICATION 10.3), and that of the short way.
 fn answers() -> impl Iterator<Item = String> {
     let refusals = (1..=8).chain(14..=18).chain([22, 23, 40]);
-    let words = ["compliant", "outside"].map(str::to_owned);
+    let words = ["compliant".to_owned(), "outside".to_owned(), by_the_short_way("compliant")];
     words.into_iter().chain(refusals.map(|number| format!("refused {number}")))
 }
 
@@ -144,7 +158,7 @@ fn main() -> ExitCode {
             Ok(output) => fault(&output, &wanted),
             Err(error) => Some(format!("could not be run: {error}")),
         };
-        tally.count(kind(&wanted));
+        note(tally, &input.bytes, &wanted);
         wrong.map_or(Ok(()), |wrong| Err((wrong, input.bytes)))
     });
     match told {
@@ -157,6 +171,8 @@ fn main() -> ExitCode {
         }
         Ok(tally) => {
             println!("{count} seeded inputs, those at the limits, the slow ones and the directed faults: program and reasoner agree");
+            let short = by_the_short_way("compliant");
+            println!("{} inputs have the answer {short}", tally.of(&short));
             if tally.has_all(answers()) {
                 return ExitCode::SUCCESS;
             }

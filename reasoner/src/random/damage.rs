@@ -1,5 +1,6 @@
 //! Damaged inputs: mutations of words, lengths and links, and one directed fault a refusal.
 
+use super::limits::dials;
 use super::valid::{self, Shape};
 use super::{models, Case, Rng};
 use crate::classes::{ClassNo, FeatureNo, RoleNo};
@@ -159,10 +160,6 @@ fn deep(depth: u32) -> Vec<u32> {
     policy_words(&[term])
 }
 
-fn wide() -> Vec<u32> {
-    policy_words(&[(1..=17).map(|feature| Conjunct::Within(FeatureNo(feature), 0, 1)).collect()])
-}
-
 /// At least one fault for every refusal, and every way that SPECIFICATION names to come to it.
 #[must_use]
 pub fn faults() -> Vec<Fault> {
@@ -237,7 +234,7 @@ pub fn faults() -> Vec<Fault> {
         fault(33, "value of feature 21 of 20", |case| case.m[5..9].copy_from_slice(&[3, 21, 1, 1])),
         fault(21, "no work slice", |case| case.work_len = 0),
         fault(21, "work slice a word short", |case| case.work_len = FULL_WORK - 1),
-        fault(22, "17 features of two pieces", |case| case.p = wide()),
+        fault(22, "17 features of two pieces", |case| case.p = policy_words(&[dials(17)])),
         fault(23, "no output", |case| case.out_len = 0),
         fault(23, "output for a header", |case| case.out_len = 5),
     ]

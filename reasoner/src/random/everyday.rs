@@ -15,6 +15,8 @@ const DURATION: FeatureNo = FeatureNo(1);
 /// What the pair answers.
 #[derive(Clone, Copy, Debug, PartialEq, Eq)]
 pub enum Answer {
+    /// Every term of the company is inside a term of the consent.
+    TermByTerm,
     /// Every term of the company is inside the consent, one only by two consent terms together.
     Compliant,
     /// The last term of the company stores for a day longer than any consent allows.
@@ -28,7 +30,7 @@ pub fn case(seed: u64, answer: Answer) -> Case {
 }
 
 /// A pair over so many classes, 16 or more, and of so many terms each side; with five or more of them the consent has one
-/// more, since one of the company's is inside two together.
+/// more, since one of the company's is inside two together, unless they comply term by term.
 #[must_use]
 pub fn sized(seed: u64, answer: Answer, classes: u32, terms: usize) -> Case {
     let mut rng = Rng::new(seed);
@@ -43,7 +45,7 @@ pub fn sized(seed: u64, answer: Answer, classes: u32, terms: usize) -> Case {
         let purpose = above(&mut rng, &vocabulary, purpose);
         let data = above(&mut rng, &vocabulary, data);
         let allowed = if last && answer == Answer::Outside { days - 1 } else { days };
-        let half = if company.len() == 5 { days / 2 } else { 0 };
+        let half = if company.len() == 5 && answer != Answer::TermByTerm { days / 2 } else { 0 };
         if half > 0 {
             consent.push(term(purpose, data, 0, half));
         }

@@ -1,6 +1,6 @@
 //! Cases at every limit (SPECIFICATION 12) and one past it.
 
-use super::{models, Case, Rng};
+use super::{crowded, models, Case, Rng};
 use crate::classes::{ClassNo, FeatureNo, RoleNo};
 use crate::encode::{policy_words, vocabulary_words};
 use crate::policy::{Conjunct, Term};
@@ -22,10 +22,10 @@ pub fn cases() -> Vec<(&'static str, Case)> {
     makers().into_iter().map(|(name, make)| (name, make())).collect()
 }
 
-type Maker = (&'static str, fn() -> Case);
+pub(super) type Maker = (&'static str, fn() -> Case);
 
 fn makers() -> Vec<Maker> {
-    vec![
+    let mut all: Vec<Maker> = vec![
         ("256 classes", || counts(256, 3, 3)),
         ("257 classes", || counts(257, 3, 3)),
         ("0 classes", || counts(0, 3, 3)),
@@ -67,7 +67,9 @@ fn makers() -> Vec<Maker> {
         ("model of 700,005 words", || long_model(140_000)),
         ("model of 700,010 words", || long_model(140_001)),
         ("whole line of values", whole_line),
-    ]
+    ];
+    all.extend(crowded::makers());
+    all
 }
 
 pub(super) fn class(number: u32) -> Conjunct {
@@ -86,8 +88,13 @@ pub(super) fn names(classes: u32, roles: u32, features: u32) -> Vocabulary {
     Vocabulary { classes, roles, features, axioms: Vec::new() }
 }
 
+/// So many constraints of two pieces each, whatever the ends are.
+pub(super) fn dials(count: u32) -> Term {
+    (1..=count).map(|feature| within(feature, 0, 1)).collect()
+}
+
 /// A case of these policies with its own countermodel as model.
-fn case(vocabulary: &Vocabulary, first: &[Term], second: &[Term]) -> Case {
+pub(super) fn case(vocabulary: &Vocabulary, first: &[Term], second: &[Term]) -> Case {
     let mut case = Case::of(
         vocabulary_words(vocabulary),
         policy_words(first),
@@ -157,7 +164,7 @@ fn many_terms(terms: u32) -> Case {
     case(&vocabulary, &vec![Vec::new(); terms as usize], &vec![Vec::new(); terms.min(512) as usize])
 }
 
-fn nested(depth: u32, role: impl Fn(u32) -> u32, inner: Term) -> Term {
+pub(super) fn nested(depth: u32, role: impl Fn(u32) -> u32, inner: Term) -> Term {
     (1..depth).fold(inner, |inner, at| vec![reaches(role(at), inner)])
 }
 
@@ -193,7 +200,6 @@ fn comb(depth: u32) -> Case {
 #[must_use]
 pub fn binary(features: u32, covered: bool) -> Case {
     let vocabulary = names(1, 0, 64);
-    let term: Term = (1..=features).map(|feature| within(feature, 0, 1)).collect();
     let second = if covered {
         vec![
             vec![within(features, 1, 1)],
@@ -203,22 +209,21 @@ pub fn binary(features: u32, covered: bool) -> Case {
     } else {
         Vec::new()
     };
-    case(&vocabulary, &[term], &second)
+    case(&vocabulary, &[dials(features)], &second)
 }
 
 /// Every combination but the last is covered.
 fn last_one_outside() -> Case {
     let vocabulary = names(1, 0, 64);
-    let term: Term = (1..=16).map(|feature| within(feature, 0, 1)).collect();
     let second: Vec<Term> = (1..=16).map(|feature| vec![within(feature, 0, 0)]).collect();
-    case(&vocabulary, &[term], &second)
+    case(&vocabulary, &[dials(16)], &second)
 }
 
-/// One constraint for each number of pieces, which is 1, 2 or odd.
-fn product(pieces: &[u32]) -> Case {
-    let vocabulary = names(1, 0, 64);
+/// A term with one constraint for each number of pieces, which is 1, 2 or odd; and a consent term
+/// that has the ends for them and does not take it.
+pub(super) fn pieced(pieces: &[u32]) -> (Term, Term) {
     let mut term = Term::new();
-    let mut second = Term::new();
+    let mut consent = Term::new();
     for (&count, feature) in pieces.iter().zip(1..) {
         match count {
             1 => term.push(within(feature, 5, 5)),
@@ -226,31 +231,34 @@ fn product(pieces: &[u32]) -> Case {
             _ => {
                 let ends = (count - 3) / 2;
                 term.push(within(feature, 0, 2 * (ends + 1)));
-                second.extend((1..=ends).map(|at| within(feature, 2 * at, 2 * at)));
+                consent.extend((1..=ends).map(|at| within(feature, 2 * at, 2 * at)));
             }
         }
     }
-    second.push(class(1));
-    case(&vocabulary, &[term], &[second])
+    consent.push(class(1));
+    (term, consent)
+}
+
+fn product(pieces: &[u32]) -> Case {
+    let (term, consent) = pieced(pieces);
+    case(&names(1, 0, 64), &[term], &[consent])
 }
 
 fn impossible_and_many() -> Case {
     let vocabulary = names(1, 1, 64);
-    let mut term: Term = (1..=17).map(|feature| within(feature, 0, 1)).collect();
+    let mut term = dials(17);
     term.push(reaches(1, vec![Conjunct::Nothing]));
     case(&vocabulary, &[term, vec![class(1)]], &[vec![within(1, 0, 0)]])
 }
 
 fn many_after_failing() -> Case {
     let vocabulary = names(1, 1, 64);
-    let term: Term = (1..=17).map(|feature| within(feature, 0, 1)).collect();
-    case(&vocabulary, &[vec![], term], &[vec![class(1)]])
+    case(&vocabulary, &[vec![], dials(17)], &[vec![class(1)]])
 }
 
 fn many_in_the_second() -> Case {
     let vocabulary = names(1, 1, 64);
-    let term: Term = (1..=17).map(|feature| within(feature, 0, 1)).collect();
-    case(&vocabulary, &[vec![class(1)]], &[term])
+    case(&vocabulary, &[vec![class(1)]], &[dials(17)])
 }
 
 /// The longest countermodel: 511 role values, each in all classes by range.

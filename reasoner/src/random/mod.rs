@@ -8,6 +8,7 @@
 //! texts that a vocabulary is read from.
 
 pub mod boxes;
+pub mod crowded;
 pub mod damage;
 pub mod everyday;
 pub mod limits;
@@ -60,6 +61,8 @@ pub enum Family {
     Boxes,
     /// Long hierarchies: cycles, disjointness through several steps, ranges.
     Hierarchy,
+    /// Terms of about 65,536 combinations and more, which consent terms take whole or nearly do.
+    Crowded,
     /// One of the cases at a limit.
     Limits,
     /// A valid case with one to three mutations.
@@ -72,7 +75,7 @@ pub enum Family {
 
 impl Family {
     /// Every family.
-    pub const ALL: [Family; 11] = [
+    pub const ALL: [Family; 12] = [
         Family::Tiny,
         Family::Small,
         Family::Medium,
@@ -80,6 +83,7 @@ impl Family {
         Family::Coverage,
         Family::Boxes,
         Family::Hierarchy,
+        Family::Crowded,
         Family::Limits,
         Family::Damaged,
         Family::Faulty,
@@ -101,6 +105,7 @@ impl Case {
             Family::Coverage => valid::pair(rng, &valid::Shape::coverage()),
             Family::Boxes => boxes::case(rng),
             Family::Hierarchy => valid::pair(rng, &valid::Shape::hierarchy()),
+            Family::Crowded => crowded::case(rng),
             Family::Limits => limits::pick(rng),
             Family::Damaged => damage::damaged(rng),
             Family::Faulty => damage::two_faults(rng),
@@ -111,7 +116,7 @@ impl Case {
     /// A case of any family, the cheap ones more often than those at a limit.
     #[must_use]
     pub fn any(seed: u64) -> Self {
-        const MIX: [Family; 20] = [
+        const MIX: [Family; 21] = [
             Family::Tiny,
             Family::Small,
             Family::Small,
@@ -124,6 +129,7 @@ impl Case {
             Family::Boxes,
             Family::Hierarchy,
             Family::Hierarchy,
+            Family::Crowded,
             Family::Medium,
             Family::Medium,
             Family::Damaged,
@@ -133,7 +139,7 @@ impl Case {
             Family::Faulty,
             Family::Garbage,
         ];
-        let family = if seed % 1_009 == 1_008 { Family::Limits } else { MIX[(seed % 20) as usize] };
+        let family = if seed % 1_009 == 1_008 { Family::Limits } else { MIX[(seed % 21) as usize] };
         Self::generate(family, seed)
     }
 

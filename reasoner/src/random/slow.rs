@@ -1,7 +1,7 @@
 //! Cases that are made to be slow, and a search for slower ones: many combinations, of which few are skipped; terms that nearly pass; wide
 //! and deep policies; full models.
 
-use super::limits::{binary, class, names, reaches, within};
+use super::limits::{binary, class, dials, names, reaches, within};
 use super::{models, Case, Rng};
 use crate::classes::{ClassNo, RoleNo};
 use crate::encode::{policy_words, vocabulary_words};
@@ -42,11 +42,6 @@ fn filled(mut more: impl FnMut() -> Term) -> Vec<Term> {
             return policy;
         }
     }
-}
-
-/// Constraints with two pieces each.
-fn dials(count: u32) -> Term {
-    (1..=count).map(|feature| within(feature, 0, 1)).collect()
 }
 
 /// One piece of a feature with two, by chance.

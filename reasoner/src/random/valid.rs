@@ -337,7 +337,7 @@ pub fn consent(rng: &mut Rng, shape: &Shape, over: &Vocabulary, first: &[Term]) 
 }
 
 /// Makes a chain of conjuncts hold of more.
-fn widen(rng: &mut Rng, over: &Vocabulary, conjuncts: &mut Vec<Conjunct>) {
+pub(super) fn widen(rng: &mut Rng, over: &Vocabulary, conjuncts: &mut Vec<Conjunct>) {
     conjuncts.retain(|_| !rng.once_in(6));
     for conjunct in conjuncts.iter_mut() {
         match conjunct {
@@ -369,7 +369,7 @@ fn parents(over: &Vocabulary, class: ClassNo) -> Vec<ClassNo> {
 
 /// Cuts one span of a term in two or three; once in four one number is left out, and once in four
 /// the parts overlap.
-fn cut(rng: &mut Rng, term: &Term) -> Vec<Term> {
+pub(super) fn cut(rng: &mut Rng, term: &Term) -> Vec<Term> {
     let spans = count_spans(term);
     if spans == 0 {
         return vec![term.clone()];

@@ -23,10 +23,9 @@ mod lexer;
 mod parser;
 mod printer;
 
-use crate::bytes_of_parts;
 use crate::encode::{move_records, policy_words, vocabulary_words, walk_order};
 use crate::policy::{Place, Policy, Term};
-use crate::program::parts;
+use crate::program::{bytes_of_parts, parts_of_bytes};
 use crate::vocabulary::Vocabulary;
 use std::fmt;
 
@@ -127,7 +126,7 @@ impl Document {
 
     /// Reads the program's bytes; the error is the program's refusal.
     pub fn decode(bytes: &[u8]) -> Result<Self, u32> {
-        let [v, p, q] = parts(bytes).ok_or(40u32)?;
+        let [v, p, q] = parts_of_bytes(bytes).ok_or(40u32)?;
         let vocabulary = Vocabulary::read(&v)?;
         let first = Policy::read(&vocabulary, &p, Place::First)?;
         let second = Policy::read(&vocabulary, &q, Place::Second)?;

@@ -370,17 +370,11 @@ fn model_words(kb: &Kb, d: &Simple) -> Vec<u32> {
     words
 }
 
-/// The combinations of a term; none if there are over 65,536.
-fn combinations(d: &Simple, right: &[Simple]) -> Option<Vec<Vec<(u32, u32)>>> {
-    let choices: Vec<Vec<(u32, u32)>> =
-        constraints(d).iter().map(|&(f, l, u)| pieces(f, l, u, right)).collect();
-    let count =
-        choices.iter().fold(1u128, |product, list| (product * list.len() as u128).min(1 << 60));
-    if count > 65_536 {
-        return None;
-    }
+/// The combinations of a term.
+fn combinations(d: &Simple, right: &[Simple]) -> Vec<Vec<(u32, u32)>> {
     let mut all: Vec<Vec<(u32, u32)>> = vec![vec![]];
-    for list in &choices {
+    for (f, l, u) in constraints(d) {
+        let list = pieces(f, l, u, right);
         all = all
             .into_iter()
             .flat_map(|prefix| {
@@ -392,43 +386,90 @@ fn combinations(d: &Simple, right: &[Simple]) -> Option<Vec<Vec<(u32, u32)>>> {
             })
             .collect();
     }
-    Some(all)
+    all
 }
 
-/// How many combinations there are to try, at most; for choosing cases.
-pub fn work_of(v: &[u32], p: &[u32], q: &[u32]) -> u128 {
-    let Ok(kb) = read_kb(v) else { return 0 };
-    let (Ok(left), Ok(right)) = (read_simple_policies(&kb, p, 4), read_simple_policies(&kb, q, 14))
-    else {
-        return 0;
+/// How many combinations a term has; 2 to the 60th stands for more.
+fn count_combinations(d: &Simple, right: &[Simple]) -> u128 {
+    constraints(d).iter().fold(1, |product, &(f, l, u)| {
+        (product * pieces(f, l, u, right).len() as u128).min(1 << 60)
+    })
+}
+
+/// What is counted of a possible term of the left.
+pub struct Line {
+    pub combinations: u128,
+    /// The terms of the right against which it passes whole.
+    pub takers: Vec<usize>,
+}
+
+/// A direction: a line for each term of the left, none for an impossible one.
+pub type Lines = Vec<Option<Line>>;
+
+pub fn lines(kb: &Kb, left: &[Simple], right: &[Simple]) -> Lines {
+    let line = |simple| {
+        let d = normal_form(kb, simple)?;
+        let takers = (0..right.len()).filter(|&at| sts(kb, &d, &right[at])).collect();
+        Some(Line { combinations: count_combinations(&d, right), takers })
     };
-    let one = |d: &Simple, right: &[Simple]| {
-        normal_form(&kb, d).map_or(0, |d| {
-            let sizes = constraints(&d);
-            sizes.iter().fold(1u128, |product, &(f, l, u)| {
-                (product * pieces(f, l, u, right).len() as u128).min(1 << 60)
-            })
-        })
+    left.iter().map(line).collect()
+}
+
+/// Does the short way succeed?
+pub fn is_short(lines: &Lines) -> bool {
+    lines.iter().flatten().all(|line| !line.takers.is_empty())
+}
+
+/// Has a term over 65,536 combinations?
+pub fn is_crowded(lines: &Lines) -> bool {
+    most_combinations(lines) > 65_536
+}
+
+/// The most combinations of a term.
+pub fn most_combinations(lines: &Lines) -> u128 {
+    lines.iter().flatten().map(|line| line.combinations).max().unwrap_or(0)
+}
+
+/// As the specification says, or by trying the combinations alone.
+#[derive(Clone, Copy, Debug, PartialEq)]
+pub enum Way {
+    Short,
+    Split,
+}
+
+/// How many combinations of a term there are to try, at most; for choosing cases.
+pub fn work_of(way: Way, v: &[u32], p: &[u32], q: &[u32]) -> u128 {
+    let Ok((kb, left, right)) = read_three(v, p, q) else { return 0 };
+    let of = |left: &[Simple], right: &[Simple]| {
+        let lines = lines(&kb, left, right);
+        let none = is_crowded(&lines) || (way == Way::Short && is_short(&lines));
+        if none {
+            0
+        } else {
+            most_combinations(&lines)
+        }
     };
-    left.iter()
-        .map(|d| one(d, &right))
-        .chain(right.iter().map(|d| one(d, &left)))
-        .max()
-        .unwrap_or(0)
+    of(&left, &right).max(of(&right, &left))
 }
 
 type Failure = (u32, u32, Vec<u32>);
 
-/// The terms of a direction: each normal form with its combinations.
+/// The terms of a direction that are to be tried: each normal form with its combinations.
 type Listed = Vec<Option<(Simple, Vec<Vec<(u32, u32)>>)>>;
 
-fn list(kb: &Kb, left: &[Simple], right: &[Simple]) -> Result<Listed, u32> {
-    left.iter()
-        .map(|simple| match normal_form(kb, simple) {
-            None => Ok(None),
-            Some(d) => combinations(&d, right).map(|all| Some((d, all))).ok_or(22),
-        })
-        .collect()
+fn list(way: Way, kb: &Kb, left: &[Simple], right: &[Simple]) -> Result<Listed, u32> {
+    let lines = lines(kb, left, right);
+    if way == Way::Short && is_short(&lines) {
+        return Ok(vec![]);
+    }
+    if is_crowded(&lines) {
+        return Err(22);
+    }
+    let listed = |d: Simple| {
+        let all = combinations(&d, right);
+        (d, all)
+    };
+    Ok(left.iter().map(|simple| normal_form(kb, simple).map(listed)).collect())
 }
 
 fn first_failure(kb: &Kb, listed: &Listed, right: &[Simple]) -> Option<Failure> {
@@ -444,7 +485,7 @@ fn first_failure(kb: &Kb, listed: &Listed, right: &[Simple]) -> Option<Failure> 
     None
 }
 
-fn read_three(v: &[u32], p: &[u32], q: &[u32]) -> Result<(Kb, Vec<Simple>, Vec<Simple>), u32> {
+pub fn read_three(v: &[u32], p: &[u32], q: &[u32]) -> Result<(Kb, Vec<Simple>, Vec<Simple>), u32> {
     let kb = read_kb(v)?;
     let left = read_simple_policies(&kb, p, 4)?;
     let right = read_simple_policies(&kb, q, 14)?;
@@ -490,10 +531,17 @@ pub fn possible(v: &[u32], p: &[u32], work: &mut [u32]) -> Possibility {
     }
 }
 
-pub fn compliance(v: &[u32], p: &[u32], q: &[u32], work: &mut [u32], out: &mut [u32]) -> Verdict {
+pub fn compliance(
+    way: Way,
+    v: &[u32],
+    p: &[u32],
+    q: &[u32],
+    work: &mut [u32],
+    out: &mut [u32],
+) -> Verdict {
     let decided = read_three(v, p, q).and_then(|(kb, left, right)| {
         lend(work)?;
-        let listed = list(&kb, &left, &right)?;
+        let listed = list(way, &kb, &left, &right)?;
         match first_failure(&kb, &listed, &right) {
             None => Ok(Verdict::Compliant),
             Some((s, q, words)) => Ok(Verdict::Outside(s, q, write(out, &words)?)),
@@ -502,11 +550,18 @@ pub fn compliance(v: &[u32], p: &[u32], q: &[u32], work: &mut [u32], out: &mut [
     decided.unwrap_or_else(Verdict::Refused)
 }
 
-pub fn equality(v: &[u32], p: &[u32], q: &[u32], work: &mut [u32], out: &mut [u32]) -> Comparison {
+pub fn equality(
+    way: Way,
+    v: &[u32],
+    p: &[u32],
+    q: &[u32],
+    work: &mut [u32],
+    out: &mut [u32],
+) -> Comparison {
     let decided = read_three(v, p, q).and_then(|(kb, left, right)| {
         lend(work)?;
-        let forth = list(&kb, &left, &right)?;
-        let back = list(&kb, &right, &left)?;
+        let forth = list(way, &kb, &left, &right)?;
+        let back = list(way, &kb, &right, &left)?;
         if let Some((s, q, words)) = first_failure(&kb, &forth, &right) {
             return Ok(Comparison::Differs(1, s, q, write(out, &words)?));
         }
@@ -551,7 +606,8 @@ pub fn program(bytes: &[u8]) -> String {
         return "refused 40\n".to_owned();
     }
     let mut out = vec![0; 16_384];
-    match compliance(&parts[0], &parts[1], &parts[2], &mut vec![0; 16_384], &mut out) {
+    let mut work = vec![0; 16_384];
+    match compliance(Way::Short, &parts[0], &parts[1], &parts[2], &mut work, &mut out) {
         Verdict::Compliant => "compliant\n".to_owned(),
         Verdict::Refused(number) => format!("refused {number}\n"),
         Verdict::Outside(s, q, length) => {
