@@ -201,7 +201,7 @@ fn check(v: &[u32], p: &[u32], q: &[u32], m: &[u32], work: &mut [u32]) -> Result
 /// Has a possible term of the first policy over 65,536 combinations? Then only the short way can say
 /// "compliant". Tables that are refused have none.
 #[must_use]
-pub fn is_crowded(v: &[u32], p: &[u32], q: &[u32]) -> bool {
+pub fn has_too_many(v: &[u32], p: &[u32], q: &[u32]) -> bool {
     let Ok(Question { vocabulary, first, second }) = Question::read(v, p, q) else {
         return false;
     };

@@ -43,7 +43,7 @@ fn the_mix_has_every_answer() {
             Possibility::Refused(_) => count("possible refused"),
         }
         match verdict {
-            Verdict::Compliant if is_crowded(v, p, q) => count("compliant by the short way"),
+            Verdict::Compliant if has_too_many(v, p, q) => count("compliant by the short way"),
             Verdict::Compliant => count("compliant"),
             Verdict::Outside(1, 1, _) => count("outside 1 1"),
             Verdict::Outside(1, ..) => count("outside 1 later"),
@@ -54,11 +54,11 @@ fn the_mix_has_every_answer() {
             Verdict::Refused(_) => count("refused"),
         }
         match comparison {
-            Comparison::Equal if is_crowded(v, p, q) => count("equal by the short way"),
+            Comparison::Equal if has_too_many(v, p, q) => count("equal by the short way"),
             Comparison::Equal => count("equal"),
-            Comparison::Differs(1, ..) if is_crowded(v, q, p) => count("side 1 by the short way"),
+            Comparison::Differs(1, ..) if has_too_many(v, q, p) => count("side 1 by the short way"),
             Comparison::Differs(1, ..) => count("side 1"),
-            Comparison::Differs(..) if is_crowded(v, p, q) => count("side 2 by the short way"),
+            Comparison::Differs(..) if has_too_many(v, p, q) => count("side 2 by the short way"),
             Comparison::Differs(..) => count("side 2"),
             Comparison::Refused(22) => count("equality refused 22"),
             Comparison::Refused(_) => count("equality refused"),

@@ -4,7 +4,7 @@
 mod common;
 
 use common::literal::{
-    is_crowded, is_short, lines, most_combinations, read_three, Kb, Line, Lines, Simple, C,
+    has_too_many, is_short, lines, most_combinations, read_three, Kb, Line, Lines, Simple, C,
 };
 use reasoner::random::{limits, Case, Family};
 use reasoner::*;
@@ -24,12 +24,12 @@ struct Pair {
 
 /// The short way succeeds, beyond 65,536 combinations.
 fn is_taken(lines: &Lines) -> bool {
-    is_crowded(lines) && is_short(lines)
+    has_too_many(lines) && is_short(lines)
 }
 
 /// The short way fails, beyond 65,536 combinations.
 fn is_refused(lines: &Lines) -> bool {
-    is_crowded(lines) && !is_short(lines)
+    has_too_many(lines) && !is_short(lines)
 }
 
 fn has_impossible(lines: &Lines) -> bool {

@@ -6,7 +6,7 @@
 //! cases do not reach it. Answers that need the short way, beyond 65,536 combinations, are counted apart, and each must be had too.
 
 use judges::{by_the_short_way, library, Given, Tally, OPERATIONS};
-use reasoner::is_crowded;
+use reasoner::has_too_many;
 use reasoner::random::{shrink::shrink, Case};
 use std::process::ExitCode;
 
@@ -79,8 +79,8 @@ const SHORT: [&str; 4] = ["Compliant", "Equal", "Differs(1)", "Differs(2)"];
 fn short_answers(case: &Case, told: &Told) -> impl Iterator<Item = &'static str> {
     let Case { v, p, q, .. } = case;
     let [.., verdict, comparison, _] = &told.answers;
-    let first = || is_crowded(v, p, q);
-    let either = || first() || is_crowded(v, q, p);
+    let first = || has_too_many(v, p, q);
+    let either = || first() || has_too_many(v, q, p);
     let has = [
         verdict == "Compliant" && first(),
         comparison == "Equal" && either(),

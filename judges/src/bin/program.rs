@@ -123,11 +123,11 @@ fn kind(answer: &[u8]) -> String {
 /// Counts an answer, and once more where it needs the short way.
 fn note(tally: &mut Tally, bytes: &[u8], answer: &[u8]) {
     let kind = kind(answer);
-    let is_crowded = || {
+    let has_too_many = || {
         let parts = reasoner::parts_of_bytes(bytes);
-        parts.is_some_and(|[v, p, q]| reasoner::is_crowded(&v, &p, &q))
+        parts.is_some_and(|[v, p, q]| reasoner::has_too_many(&v, &p, &q))
     };
-    if kind == "compliant" && is_crowded() {
+    if kind == "compliant" && has_too_many() {
         tally.count(by_the_short_way(&kind));
     }
     tally.count(kind);

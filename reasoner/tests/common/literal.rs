@@ -421,7 +421,7 @@ pub fn is_short(lines: &Lines) -> bool {
 }
 
 /// Has a term over 65,536 combinations?
-pub fn is_crowded(lines: &Lines) -> bool {
+pub fn has_too_many(lines: &Lines) -> bool {
     most_combinations(lines) > 65_536
 }
 
@@ -442,7 +442,7 @@ pub fn work_of(way: Way, v: &[u32], p: &[u32], q: &[u32]) -> u128 {
     let Ok((kb, left, right)) = read_three(v, p, q) else { return 0 };
     let of = |left: &[Simple], right: &[Simple]| {
         let lines = lines(&kb, left, right);
-        let none = is_crowded(&lines) || (way == Way::Short && is_short(&lines));
+        let none = has_too_many(&lines) || (way == Way::Short && is_short(&lines));
         if none {
             0
         } else {
@@ -462,7 +462,7 @@ fn list(way: Way, kb: &Kb, left: &[Simple], right: &[Simple]) -> Result<Listed, 
     if way == Way::Short && is_short(&lines) {
         return Ok(vec![]);
     }
-    if is_crowded(&lines) {
+    if has_too_many(&lines) {
         return Err(22);
     }
     let listed = |d: Simple| {
