@@ -16,6 +16,7 @@ use tabulation::is_clean;
 use tabulation::shape;
 use tabulation::tabulate;
 use trial::first_failure;
+use trial::first_split_failure;
 ghost use mathlib.Core.Bool.{false};
 ghost use mathlib.Core.List.{List};
 ghost use mathlib.Core.Path.{_≡_};
@@ -71,13 +72,17 @@ pub fn has_too_many(p: &[u32], work: &mut [u32], f: Functional, ends: &[u64]) ->
     false
 }
 
-// The first combination to fail of the term that the tables hold, counted from 1; 0 where it is impossible or all pass.
-fn failure_of(q: &[u32], work: &mut [u32], ends: &[u64], t: Tables) -> u32
+// The first combination to fail of the term that the tables hold, counted from 1; 0 where it is impossible or all pass. Where it is known
+// that no term takes it whole, none is asked again.
+fn failure_of(q: &[u32], work: &mut [u32], ends: &[u64], t: Tables, known: bool) -> u32
     requires { ⌜ (t .impossible ≡ false → Triable (now q) (now ends) (now work) t) ⌝ }
     ensures { λ r. ⌜ Failed (policyOf (now (q .entry))) (now (work .entry)) (now (work .exit)) t r ⌝ }
 {
     if t.impossible {
         return 0;
+    }
+    if known {
+        return first_split_failure(q, work, ends, t);
     }
     first_failure(q, work, ends, t)
 }
@@ -114,11 +119,12 @@ pub fn decide(
     ensures { λ _. ⌜ Only InTables (now (work .entry)) (now (work .exit)) ⌝ }
     ensures { λ _. ⌜ length (now (out .exit)) ≡ length (now (out .entry)) ⌝ }
 {
+    let first = stop.term;
     let mut s = stop.place;
-    let mut k = stop.term;
+    let mut k = first;
     while k != 0 {
         let t = tabulate(p, work, f, k);
-        let c = failure_of(q, work, ends, t);
+        let c = failure_of(q, work, ends, t, k == first);
         if c != 0 {
             return report(work, t, s, c, out);
         }

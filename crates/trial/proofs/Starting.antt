@@ -4,7 +4,7 @@ use mathlib.Core.Bool.{Bool, true}
 use mathlib.Core.List.{List, [], map}
 use mathlib.Core.Path.{_∙_, _≡_, refl, subst, sym}
 use native.Mathlib.Omega.{arith}
-use lib.ListN.{getD, length, take}
+use lib.ListN.{getD, length, replicate, take}
 use lib.Seq.{length-take-le}
 use Rattle.carriers.specs.Carriers.{Listable, Listed}
 use Rattle.frames.proofs.Frames.{only-none, only-then}
@@ -19,7 +19,7 @@ use Rattle.meaning.specs.Intervals.{NonEmpty}
 use Rattle.meaning.specs.Lists.{any, cons, counting, nil}
 use Rattle.meaning.specs.Policy.{policyOf}
 use Rattle.odometer.proofs.Weights.{pieces-any}
-use Rattle.odometer.specs.Odometer.{Counted, DialsFound, Split}
+use Rattle.odometer.specs.Odometer.{Counted, DialsFound, Split, mostDials}
 use Rattle.splitting.proofs.Callers.{constraints-at, constraints-kept, splittable-kept, tabled-turned, whole-form}
 use Rattle.splitting.proofs.Storing.{constraint-kept}
 use Rattle.splitting.specs.Constraints.{Full, Started, firstConstraints}
@@ -35,9 +35,27 @@ constraints-nonEmpty w n f = go 0 n (λ m h. f m (omega arith))
     go o zero f = nil
     go o (suc n) f = cons (f o (omega arith)) (go (suc o) n (λ m h. f m (omega arith)))
 
+-- a word beside each dial
+pub dials-beside : {w : List ℕ} {n k : ℕ} {l l′ : List ℕ} → DialsFound w n l l′ k → mostDials ≤ length l → length {A = ℕ} (take k (replicate mostDials 0)) ≡ length (take k l′)
+dials-beside {k = k} {l′ = l′} f h = length-take-le {A = ℕ} k (replicate mostDials 0) (omega (arith, f .within)) ∙ sym (length-take-le k l′ (omega (arith, f .size, f .within)))
+
 module _ {q e w : List ℕ} {t : Tables} (r : Triable q e w t) where
   pub triable-split : Split e w (t .constraints)
   triable-split = record { splittable = r .splittable; policy = policyOf q; ends = r .ends; few = r .few }
+
+  -- the constraints whole
+
+  pub triable-formed : Formed q w t
+  triable-formed = record { standing = r .standing; nested = r .nested; some = r .some; policy = r .policy }
+
+  pub whole-taken : {b : Bool} → b ≡ any (λ c. holdsWhole w t c 1) (policyOf q) → b ≡ true → Tried (policyOf q) w w t 0
+  whole-taken e h = record {
+    told = λ K F g.
+        let same : fill (constraintAt w) F ≡ F = whole-form w (t .constraints) F (sym (constraints-at g)) in
+        let p = sym (passes-held (policyOf q) g (constraintAt w)) ∙ sym e ∙ h in
+        whole-passes K (policyOf q) F (subst AllNonEmpty (constraints-at g) (constraints-nonEmpty w (t .constraints) (r .splittable .full))) (rw same at p);
+    only = only-none;
+  }
 
   pub triable-turnable : {l l′ : List ℕ} {k : ℕ} → DialsFound w (t .constraints) l l′ k → k ≤ length l′ → Turnable q e (take k l′) w t
   triable-turnable {l′ = l′} {k = k} f h = record { triable = r; dialled = f .dialled; few = let x = length-take-le k l′ h in omega (arith, f .within) }
@@ -68,20 +86,6 @@ module _ {q e dials w : List ℕ} {t : Tables} (r : Turnable q e dials w t) wher
       told = λ K F h. y .told K F (tabled-turned h k (r .triable .standing .individuals, r .triable .standing .constraints));
       only = only-then k (y .only);
     }
-
-  -- ---- the constraints whole
-
-  pub turnable-formed : Formed q w t
-  turnable-formed = record { standing = r .triable .standing; nested = r .triable .nested; some = r .triable .some; policy = r .triable .policy }
-
-  pub whole-taken : {b : Bool} → b ≡ any (λ c. holdsWhole w t c 1) (policyOf q) → b ≡ true → Tried (policyOf q) w w t 0
-  whole-taken e h = record {
-    told = λ K F g.
-        let same : fill (constraintAt w) F ≡ F = whole-form w (t .constraints) F (sym (constraints-at g)) in
-        let p = sym (passes-held (policyOf q) g (constraintAt w)) ∙ sym e ∙ h in
-        whole-passes K (policyOf q) F (subst AllNonEmpty (constraints-at g) (constraints-nonEmpty w (t .constraints) (r .triable .splittable .full))) (rw same at p);
-    only = only-none;
-  }
 
   -- ---- the first combination
 

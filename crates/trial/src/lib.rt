@@ -376,26 +376,33 @@ pub fn is_taken_whole(q: &[u32], work: &[u32], t: Tables) -> bool
     false
 }
 
-// The constraints whole: who takes them takes every combination, and then none is tried.
-fn try_whole(q: &[u32], work: &mut [u32], ends: &[u64], t: Tables, dials: &[u32]) -> u32
-    requires { ⌜ Turnable (now q) (now ends) (now dials) (now work) t ⌝ }
-    ensures { λ r. ⌜ Tried (policyOf (now (q .entry))) (now (work .entry)) (now (work .exit)) t r ⌝ }
-{
-    if is_taken_whole(q, work, t) {
-        return 0;
-    }
-    let n = dials.len();
-    let mut counts = [0; DIALS];
-    let mut earlier = [0; DIALS];
-    try_pieces(q, work, ends, t, dials, &mut counts[..n], &mut earlier[..n])
-}
-
-// The first combination that fails, counted from 1, or 0; the tables are left at it.
-pub fn first_failure(q: &[u32], work: &mut [u32], ends: &[u64], t: Tables) -> u32
+// The first combination that fails, counted from 1, or 0; the tables are left at it. Nothing is held to the other policy whole.
+pub fn first_split_failure(q: &[u32], work: &mut [u32], ends: &[u64], t: Tables) -> u32
     requires { ⌜ Triable (now q) (now ends) (now work) t ⌝ }
     ensures { λ r. ⌜ Tried (policyOf (now (q .entry))) (now (work .entry)) (now (work .exit)) t r ⌝ }
 {
     let mut dials = [0; DIALS];
     let n = find_dials(work, t.constraints, &mut dials);
-    try_whole(q, work, ends, t, &dials[..n])
+    let mut counts = [0; DIALS];
+    let mut earlier = [0; DIALS];
+    try_pieces(
+        q,
+        work,
+        ends,
+        t,
+        &dials[..n],
+        &mut counts[..n],
+        &mut earlier[..n],
+    )
+}
+
+// The same, with the constraints whole first: who takes them takes every combination, and then none is tried.
+pub fn first_failure(q: &[u32], work: &mut [u32], ends: &[u64], t: Tables) -> u32
+    requires { ⌜ Triable (now q) (now ends) (now work) t ⌝ }
+    ensures { λ r. ⌜ Tried (policyOf (now (q .entry))) (now (work .entry)) (now (work .exit)) t r ⌝ }
+{
+    if is_taken_whole(q, work, t) {
+        return 0;
+    }
+    first_split_failure(q, work, ends, t)
 }

@@ -21,11 +21,11 @@ use Rattle.tabulation.proofs.Laws.{term-ready}
 use Rattle.decision.proofs.decide.Tie as tie
 
 abbrev Inv-loop : tie.InvT-loop
-Inv-loop p q work₀ f ends out₀ s₀ k₀ work out s k =
+Inv-loop p q work₀ f ends out₀ first s₀ k₀ work out s k =
     ((v : List ℕ) → Countable v p q work₀ f s₀ k₀ → Asking (Undecided v p q) v p s k) × Only InTables work₀ work × (out ≡ out₀)
 
 abbrev μ-loop : tie.MeasureT-loop
-μ-loop p q work₀ f ends out₀ s₀ k₀ work out s k = falling (lastOf 6 p) k
+μ-loop p q work₀ f ends out₀ first s₀ k₀ work out s k = falling (lastOf 6 p) k
 
 tabulate-requires : tie.Need-tabulate-requires Inv-loop μ-loop
 tabulate-requires c κs =

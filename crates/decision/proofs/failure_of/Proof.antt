@@ -7,6 +7,9 @@ failure-of-spec =
     tie.close
     (tie.spec
     (λ c. failed-impossible _ (c .if1 .taken))
-    (λ c κs. c .before .before .before .before .before .pre (c .before .if1 .left))
+    (λ c κs. c .before .before .before .before .before .before .pre (c .before .before .if1 .left))
+    (λ c. c .before .before .first-split-failure .ensures .only .size)
+    (λ c. failed-tried _ (c .before .before .before .before .before .if1 .left) (c .before .before .first-split-failure .ensures))
+    (λ c κs. c .before .before .before .before .before .before .pre (c .before .before .if1 .left))
     (λ c. c .before .before .first-failure .ensures .only .size)
-    (λ c. failed-tried _ (c .before .before .before .before .if1 .left) (c .before .before .first-failure .ensures)))
+    (λ c. failed-tried _ (c .before .before .before .before .before .if1 .left) (c .before .before .first-failure .ensures)))
