@@ -68,9 +68,9 @@ pub fn possible(v: &[u32], p: &[u32], work: &mut [u32]) -> Possibility
     answer
 }
 
-// Compliance: the refusals of the vocabulary, the first policy and the second, 21, 22, then the verdict, and 23 where a countermodel
-// does not fit. Time grows with the vocabulary's records times its classes, with the product of both policies' records, and with the
-// combinations that have to be looked at times the second policy's records.
+// Compliance: the refusals of the vocabulary, the first policy and the second, 21, 22 where the short way fails, then the verdict, and 23
+// where a countermodel does not fit. Time grows with the vocabulary's records times its classes, with the product of both policies'
+// records, and, where the short way fails, with the combinations that have to be looked at times the second policy's records.
 pub fn compliance(v: &[u32], p: &[u32], q: &[u32], work: &mut [u32], out: &mut [u32]) -> Verdict
     ensures { λ r. ⌜ CompliancePost (now (v .entry)) (now (p .entry)) (now (q .entry)) (now (work .entry)) (now (work .exit))
         (now (out .entry)) (now (out .exit)) r ⌝ }

@@ -111,8 +111,8 @@ fn compare(p: &[u32], q: &[u32], work: &mut [u32], f: Functional, out: &mut [u32
     compare_split(p, q, work, f, forth, back, out)
 }
 
-// Equality: the same refusals in the same order, 22 for both directions; then the first direction's difference, the second's, or
-// equal. Time grows as that of two calls of Compliance.
+// Equality: the same refusals in the same order, 22 for each direction whose short way fails; then the first direction's difference, the
+// second's, or equal. Time grows as that of two calls of Compliance.
 pub fn equality(v: &[u32], p: &[u32], q: &[u32], work: &mut [u32], out: &mut [u32]) -> Comparison
     ensures { λ r. ⌜ EqualityPost (now (v .entry)) (now (p .entry)) (now (q .entry)) (now (work .entry)) (now (work .exit))
         (now (out .entry)) (now (out .exit)) r ⌝ }
