@@ -130,13 +130,6 @@ impl Sets<'_> {
                 }
             }
         };
-        // One that cannot be compared with itself would be refused with each that comes.
-        let place = place.and_then(|place| match place {
-            Place::New => {
-                with_slices(|slices| self.compare(&words, &words, slices)).map(|_| Place::New)
-            }
-            place => Ok(place),
-        });
         match place {
             Ok(Place::In(set)) => {
                 self.sets[set].others.push(member);

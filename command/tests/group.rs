@@ -58,31 +58,39 @@ fn the_reason() {
     );
 }
 
-/// Seventeen intervals of two numbers each are too many combinations, whatever they are compared with.
-fn too_many() -> (String, String) {
+/// Feature `number` from `lo` to `hi`.
+fn span(number: u32, lo: u32, hi: u32) -> String {
+    format!(
+        " DataSomeValuesFrom(:f{number} DatatypeRestriction(xsd:integer xsd:minInclusive {lo} xsd:maxInclusive {hi}))"
+    )
+}
+
+/// A vocabulary; seventeen intervals of two numbers each, which are too many combinations; and the same, with the last interval in
+/// two halves, so that no term takes the whole.
+fn too_many() -> (String, String, String) {
     let mut vocabulary = "Declaration(Class(:Data))".to_owned();
-    let mut policy = "Policy(Annotation(rdfs:label \"many\") ObjectIntersectionOf(".to_owned();
     for number in 1..=17 {
         vocabulary += &format!(" Declaration(DataProperty(:f{number}))");
-        policy += &format!(
-            " DataSomeValuesFrom(:f{number} DatatypeRestriction(xsd:integer xsd:minInclusive 0 xsd:maxInclusive 1))"
-        );
     }
-    (vocabulary, policy + "))\n")
+    let first: String = (1..=16).map(|number| span(number, 0, 1)).collect();
+    let term = |lo, hi| format!("ObjectIntersectionOf({first}{})", span(17, lo, hi));
+    let many = format!("Policy(Annotation(rdfs:label \"many\") {})\n", term(0, 1));
+    let halves = format!(
+        "Policy(Annotation(rdfs:label \"halves\") ObjectUnionOf({} {}))\n",
+        term(0, 0),
+        term(1, 1)
+    );
+    (vocabulary, many, halves)
 }
 
 #[test]
 fn what_is_refused_is_told_and_stays_alone() {
     let desk = Desk::new();
-    let (vocabulary, many) = too_many();
+    let (vocabulary, many, halves) = too_many();
     desk.put("v.txt", vocabulary);
-    let one = |name: &str| {
-        format!(
-            "Policy(Annotation(rdfs:label \"{name}\") DataSomeValuesFrom(:f1 DatatypeRestriction(xsd:integer \
-             xsd:minInclusive 0 xsd:maxInclusive 1)))\n"
-        )
-    };
-    desk.put("a.txt", [many.as_str(), &one("a"), "Policy(:Nobody)\n", &one("b")].concat());
+    let one = |name: &str| format!("Policy(Annotation(rdfs:label \"{name}\"){})\n", span(1, 0, 1));
+    let all = [many.as_str(), &halves, &one("a"), "Policy(:Nobody)\n", &one("b")];
+    desk.put("a.txt", all.concat());
     desk.put("words", bytes(&[7; 6]));
     let ran = desk.run(&["group", "v.txt", "a.txt", "words"]);
     assert_eq!(ran.status, Some(2));
@@ -90,8 +98,8 @@ fn what_is_refused_is_told_and_stays_alone() {
     assert_eq!(
         ran.err,
         format!(
-            "gimbuka: a.txt: many: {refused}\n\
-             gimbuka: a.txt:3:8: :Nobody is no class declared above; write Declaration(Class(:Nobody)) before it\n\
+            "gimbuka: a.txt: halves: not compared with many: {refused}\n\
+             gimbuka: a.txt:4:8: :Nobody is no class declared above; write Declaration(Class(:Nobody)) before it\n\
              gimbuka: words: words: refused 5: the first policy's header links past the last record, or another of its words is not 0\n"
         )
     );
@@ -99,8 +107,9 @@ fn what_is_refused_is_told_and_stays_alone() {
         ran.out,
         format!(
             "set 1: 1 consent\n  many\n\
-             set 2: 2 consents\n  a\n  b\n  no reason beside set 1: {refused}\n\
-             3 consents in 2 sets; 2 refused; 1 could not be read\n"
+             set 2: 1 consent\n  halves\n  no reason beside set 1: {refused}\n\
+             set 3: 2 consents\n  a\n  b\n  differs from set 1: term 1 of a, combination 1, is not in many.\n\
+             4 consents in 3 sets; 2 refused; 1 could not be read\n"
         )
     );
     let ran = desk.run(&["group", "--json", "v.txt", "a.txt", "words"]);
