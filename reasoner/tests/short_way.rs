@@ -208,3 +208,18 @@ fn random_pairs_go_every_way() {
     let gone = gone((0..3_000).map(crowded));
     assert!(WAYS.into_iter().all(|(way, least, _)| gone[way] >= least), "{gone:?}");
 }
+
+/// Each term of a policy is inside itself, its spans whole and merged: no policy is refused beside itself.
+#[test]
+fn a_policy_goes_the_short_way_against_itself() {
+    let random = (0..3_000).map(Case::any);
+    let (mut work, mut out) = (vec![0; FULL_WORK], vec![0; 0]);
+    let mut crowded = 0;
+    for case in limits::cases().into_iter().map(|(_, case)| case).chain(random) {
+        let Case { v, p, .. } = &case;
+        let Ok((kb, left, right)) = read_three(v, p, p) else { continue };
+        crowded += u32::from(has_too_many(&lines(&kb, &left, &right)));
+        assert_eq!(equality(v, p, p, &mut work, &mut out), Comparison::Equal, "{case}");
+    }
+    assert!(crowded > 50, "{crowded} with too many combinations");
+}

@@ -67,9 +67,9 @@ unless-same R (suc n) x y h = inl refl
 abbrev Complied : Bool → Outcome VerdictResult → Outcome VerdictResult → Type 0
 Complied short x split = (split .answer ≡ refused 22) × (short ≡ true) × (x .answer ≡ result compliant)
 
--- by combinations alone it is 22, and a short way succeeds
-abbrev Shortened : Bool → Bool → Outcome ComparisonResult → Outcome ComparisonResult → Type 0
-Shortened forth back x split = (split .answer ≡ refused 22) × ((forth ≡ true) ⊎ (back ≡ true))
+-- by combinations alone it is 22, and in each direction with too many combinations the short way succeeds
+abbrev Shortened : Bool → Bool → Bool → Bool → Outcome ComparisonResult → Outcome ComparisonResult → Type 0
+Shortened s m t n x split = (split .answer ≡ refused 22) × (m ≡ true → s ≡ true) × (n ≡ true → t ≡ true)
 
 -- the tests of 22: s and t are the short ways' outcomes, m and n say that a term has too many combinations
 verdict-22 : (s m : Bool) (x : Outcome VerdictResult) → (s ≡ true → x .answer ≡ result compliant) →
@@ -81,13 +81,15 @@ verdict-22 false m x h = inl refl
 comparison-22 : (s m t n : Bool) (x : Outcome ComparisonResult) →
     let y = cond ((not s && m) || (not t && n)) (refuses 22) x in
     let split = cond (m || n) (refuses 22) x in
-    (y ≡ split) ⊎ Shortened s t y split
-comparison-22 true true t n x = inr (refl, inl refl)
-comparison-22 true false true true x = inr (refl, inr refl)
+    (y ≡ split) ⊎ Shortened s m t n y split
+comparison-22 true true true n x = inr (refl, λ e. refl, λ e. refl)
+comparison-22 true true false true x = inl refl
+comparison-22 true true false false x = inr (refl, λ e. refl, λ e. e)
+comparison-22 true false true true x = inr (refl, λ e. refl, λ e. refl)
 comparison-22 true false true false x = inl refl
 comparison-22 true false false n x = inl refl
 comparison-22 false true t n x = inl refl
-comparison-22 false false true true x = inr (refl, inr refl)
+comparison-22 false false true true x = inr (refl, λ e. e, λ e. refl)
 comparison-22 false false true false x = inl refl
 comparison-22 false false false n x = inl refl
 
@@ -107,10 +109,11 @@ module _ (v p q : List ℕ) (w o : ℕ) where
       unless-same (Complied (shortWay K P Q)) (orElse (inputRefusal v p q) (workRefusal w)) _ _
       (rw (resolve-decide K P Q) (verdict-22 (shortWay K P Q) (tooMany K P Q) _ (λ e. rw (short-agrees K P Q e))))
 
-  equality-22 : (equality v p q w o ≡ splitEquality v p q w o) ⊎ Shortened (shortWay K P Q) (shortWay K Q P) (equality v p q w o) (splitEquality v p q w o)
+  equality-22 : (equality v p q w o ≡ splitEquality v p q w o) ⊎
+      Shortened (shortWay K P Q) (tooMany K P Q) (shortWay K Q P) (tooMany K Q P) (equality v p q w o) (splitEquality v p q w o)
   unfolding equality equalityOf crowded
   equality-22 =
-      unless-same (Shortened (shortWay K P Q) (shortWay K Q P)) (orElse (inputRefusal v p q) (workRefusal w)) _ _
+      unless-same (Shortened (shortWay K P Q) (tooMany K P Q) (shortWay K Q P) (tooMany K Q P)) (orElse (inputRefusal v p q) (workRefusal w)) _ _
       (rw (resolve-decide K P Q, resolve-decide K Q P) (comparison-22 (shortWay K P Q) (tooMany K P Q) (shortWay K Q P) (tooMany K Q P) _))
 
   -- where the combinations alone give no 22, Compliance's outcome is theirs
@@ -142,9 +145,10 @@ module _ {v p q w w′ o o′ : List ℕ} {r : Comparison} (c : EqualityPost v p
       (comparisonAnswer r ≡ splitEquality v p q (length w) (length o) .answer) × (o′ ≡ outputAfter (splitEquality v p q (length w) (length o) .words) o)
   split-equality-agrees h = let e = split-equality-same v p q (length w) (length o) h in (rw e at (c .answer), rw e at (c .output))
 
-  -- the answer is another only where the combinations alone give 22 and the short way succeeds in one direction or both
+  -- the answer is another only where the combinations alone give 22 and the short way succeeds in each direction that has too many
   pub only-22-changed-equality : (comparisonAnswer r ≡ splitEquality v p q (length w) (length o) .answer → ⊥) →
       (splitEquality v p q (length w) (length o) .answer ≡ refused 22)
-      × ((shortWay (vocabularyOf v) (policyOf p) (policyOf q) ≡ true) ⊎ (shortWay (vocabularyOf v) (policyOf q) (policyOf p) ≡ true))
+      × (tooMany (vocabularyOf v) (policyOf p) (policyOf q) ≡ true → shortWay (vocabularyOf v) (policyOf p) (policyOf q) ≡ true)
+      × (tooMany (vocabularyOf v) (policyOf q) (policyOf p) ≡ true → shortWay (vocabularyOf v) (policyOf q) (policyOf p) ≡ true)
   only-22-changed-equality h =
       ⊎-elim (λ e. absurd (h (c .answer ∙ ap (λ (x : Outcome ComparisonResult). x .answer) e))) (λ x. x) (equality-22 v p q (length w) (length o))

@@ -1,8 +1,8 @@
 //! Spans of several features that many consent terms cover only together: the first policy is a
 //! box, the second a partition of it into smaller boxes, whole or with a box left out.
 
-use super::valid::{policy_layout, Shape};
-use super::{models, Case, Rng};
+use super::valid::{laid_out, Shape};
+use super::{Case, Rng};
 use crate::classes::{ClassNo, FeatureNo, RoleNo};
 use crate::encode::vocabulary_words;
 use crate::policy::{Conjunct, Term};
@@ -38,13 +38,8 @@ pub fn case(rng: &mut Rng) -> Case {
     rng.shuffle(&mut parts);
     let first: Vec<Term> = vec![term(rng, &whole, &whole, false)];
     let second: Vec<Term> = parts.iter().map(|part| term(rng, part, &whole, true)).collect();
-    let shape = Shape::small();
-    let p = policy_layout(rng, &shape, &first);
-    let q = policy_layout(rng, &shape, &second);
-    let mut case = Case::of(vocabulary_words(&vocabulary), p, q, Vec::new());
-    case.m = models::model(rng, &case, &vocabulary);
-    case.lend(rng);
-    case
+    let v = vocabulary_words(&vocabulary);
+    laid_out(rng, &Shape::small(), v, &vocabulary, [&first, &second])
 }
 
 fn side(rng: &mut Rng, feature: u32) -> Side {

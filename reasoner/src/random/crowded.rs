@@ -2,8 +2,8 @@
 //! nearly do: the short way of SPECIFICATION 7.7 succeeds, or there is 22.
 
 use super::limits::{self, binary, class, dials, names, nested, pieced, reaches, within, Maker};
-use super::valid::{cut, policy_layout, widen, Shape};
-use super::{models, Case, Rng};
+use super::valid::{cut, laid_out, widen, Shape};
+use super::{Case, Rng};
 use crate::classes::{ClassNo, FeatureNo, RoleNo};
 use crate::encode::vocabulary_words;
 use crate::policy::{Conjunct, Term};
@@ -180,13 +180,8 @@ pub fn case(rng: &mut Rng) -> Case {
         }
     }
     let (first, second) = if rng.once_in(3) { (second, first) } else { (first, second) };
-    let shape = Shape::small();
-    let p = policy_layout(rng, &shape, &first);
-    let q = policy_layout(rng, &shape, &second);
-    let mut case = Case::of(vocabulary_words(&vocabulary), p, q, Vec::new());
-    case.m = models::model(rng, &case, &vocabulary);
-    case.lend(rng);
-    case
+    let v = vocabulary_words(&vocabulary);
+    laid_out(rng, &Shape::small(), v, &vocabulary, [&first, &second])
 }
 
 /// All roles and features are functional, or none.

@@ -193,10 +193,21 @@ pub fn pair(rng: &mut Rng, shape: &Shape) -> Case {
     };
     let (first, second) = if rng.once_in(5) { (second, first) } else { (first, second) };
     let v = vocabulary_layout(rng, shape, &vocabulary);
-    let p = policy_layout(rng, shape, &first);
-    let q = policy_layout(rng, shape, &second);
+    laid_out(rng, shape, v, &vocabulary, [&first, &second])
+}
+
+/// The policies in random layouts, with a model over the vocabulary, whose words are `v`, and the slices.
+#[must_use]
+pub fn laid_out(
+    rng: &mut Rng,
+    shape: &Shape,
+    v: Vec<u32>,
+    vocabulary: &Vocabulary,
+    policies: [&[Term]; 2],
+) -> Case {
+    let [p, q] = policies.map(|terms| policy_layout(rng, shape, terms));
     let mut case = Case::of(v, p, q, Vec::new());
-    case.m = models::model(rng, &case, &vocabulary);
+    case.m = models::model(rng, &case, vocabulary);
     case.lend(rng);
     case
 }
