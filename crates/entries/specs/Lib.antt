@@ -1,0 +1,3 @@
+-- What entries stand for, and how their runs compare.
+pub mod Order
+pub mod Entries
