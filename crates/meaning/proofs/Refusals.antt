@@ -73,7 +73,7 @@ along-all P next sound z h (suc f) k = cond-all P (eqb k 0) z (cond-all P (sound
 -- ---- the refusals before 21, and 21, are early
 
 few-early : (n : ℕ) → n ≤ 21 → Early n
-few-early n h = rw (ne-eqb n 22 (λ e. omega arith), ne-eqb n 23 (λ e. omega arith))
+few-early n h = rw (ne-eqb n 22 (λ e. omega arith), ne-eqb n 43 (λ e. omega arith), ne-eqb n 23 (λ e. omega arith))
 
 pub orElse-early : (a b : ℕ) → Early a → Early b → Early (orElse a b)
 orElse-early zero b h k = k

@@ -114,9 +114,9 @@ modelCheck v p q m w =
 unfoldable pub zeroed : ℕ → List ℕ → List ℕ
 zeroed n w = replicate n 0 ++ drop n w
 
--- SPECIFICATION 9.9: 22 and 23 are the refusals that come after 21, and so after work was done; the others are early
+-- SPECIFICATION 9.9: 22, 43 and 23 are the refusals that come after 21, and so after work was done; the others are early
 abbrev pub isLate : ℕ → Bool
-isLate n = eqb n 22 || eqb n 23
+isLate n = eqb n 22 || (eqb n 43 || eqb n 23)
 
 abbrev pub Early : ℕ → Type 0
 Early n = isLate n ≡ false
