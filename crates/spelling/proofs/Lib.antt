@@ -4,3 +4,14 @@ pub mod Rising
 pub mod Keys
 pub mod Arranging
 pub mod Runs
+pub mod Adding
+pub mod Members
+pub mod Commuting
+pub mod Equal
+pub mod InOrder
+pub mod Clean
+pub mod Again
+pub mod Reordering
+pub mod Repeated
+pub mod TwoSpellings
+pub mod Names
