@@ -15,3 +15,4 @@ pub mod Reordering
 pub mod Repeated
 pub mod TwoSpellings
 pub mod Names
+pub mod Reading
