@@ -16,3 +16,4 @@ pub mod Repeated
 pub mod TwoSpellings
 pub mod Names
 pub mod Reading
+pub mod Promises
