@@ -17,3 +17,4 @@ pub mod TwoSpellings
 pub mod Names
 pub mod Reading
 pub mod Promises
+pub mod Flattened
