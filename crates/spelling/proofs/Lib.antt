@@ -1,9 +1,8 @@
--- The examples first: where an edit of a definition makes one wrong, that is the first error. Then from the order of lists to what is promised.
+-- From the order of lists to what is promised. The examples first: where an edit of a definition makes one wrong, that is the first error.
+pub mod Answered
 pub mod Lists
 pub mod Rising
 pub mod Keys
-pub mod Arranging
-pub mod Runs
 pub mod Adding
 pub mod Members
 pub mod Commuting
@@ -14,7 +13,9 @@ pub mod Again
 pub mod Reordering
 pub mod Repeated
 pub mod TwoSpellings
-pub mod Names
 pub mod Reading
+pub mod Names
 pub mod Promises
 pub mod Flattened
+pub mod Arranging
+pub mod Runs

@@ -5,3 +5,4 @@ pub mod Ordered
 pub mod Reordered
 pub mod Words
 pub mod Operation
+pub mod Examples
