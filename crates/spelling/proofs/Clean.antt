@@ -14,11 +14,11 @@ use Rattle.meaning.specs.NormalForm.{Form, Node, Successors, areNonEmpty, clash
 use Rattle.meaning.specs.NormalForm.{normalForm, possible, successor}
 use Rattle.meaning.specs.Policy.{Chain, class, end, impossible, interval, some}
 use Rattle.meaning.specs.Vocabulary.{Vocabulary}
-use Rattle.spelling.proofs.Adding.{constraints-slots, roles-slots}
 use Rattle.spelling.proofs.InOrder.{form-ordered}
 use Rattle.spelling.proofs.Keys.{key-apart}
 use Rattle.spelling.proofs.Lists.{in-map, out-map}
 use Rattle.spelling.proofs.Members.{conjuncts-putAll}
+use Rattle.spelling.proofs.Placing.{constraints-slots, roles-slots}
 use Rattle.spelling.proofs.Rising.{sorted-same}
 use Rattle.spelling.specs.Order.{sorted}
 use Rattle.spelling.specs.Ordered.{OrderedBelow, conjuncts}

@@ -13,9 +13,9 @@ use Rattle.meaning.specs.NormalForm.{Form, Successors, add, bare, graft, none, 
 use Rattle.meaning.specs.Policy.{Chain, class, end, impossible, interval, some}
 use Rattle.meaning.specs.Stated.{isFunctionalFeature, isFunctionalRole, ranges}
 use Rattle.meaning.specs.Vocabulary.{Vocabulary}
-use Rattle.spelling.proofs.Adding.{Placed, Tidy, addOne, functional-slot, isFunctional, meetAt, new-slot, newOf, placed, slot}
-use Rattle.spelling.proofs.Adding.{startAt, tidy-add, tidy-addOne, tidy-start}
 use Rattle.spelling.proofs.Members.{add-same, spelling-same}
+use Rattle.spelling.proofs.Placing.{Placed, Tidy, addOne, functional-slot, isFunctional, meetAt, new-slot, newOf, placed, slot}
+use Rattle.spelling.proofs.Placing.{startAt, tidy-add, tidy-addOne, tidy-start}
 use Rattle.spelling.specs.Spelling.{Conjunct, conjunctsOf, isIn, reaches, spelling, within, withinOf}
 
 -- ---- conjuncts of different names

@@ -3,13 +3,13 @@ pub mod Answered
 pub mod Lists
 pub mod Rising
 pub mod Keys
-pub mod Adding
+pub mod Placing
 pub mod Members
 pub mod Commuting
 pub mod Equal
 pub mod InOrder
 pub mod Clean
-pub mod Again
+pub mod Respelling
 pub mod Reordering
 pub mod Repeated
 pub mod TwoSpellings

@@ -15,10 +15,10 @@ use Rattle.meaning.specs.NormalForm.{Form, Successors, add, bare, none, success
 use Rattle.meaning.specs.Policy.{Chain, class, end, impossible, interval, some}
 use Rattle.meaning.specs.Stated.{isFunctionalFeature, isFunctionalRole, ranges}
 use Rattle.meaning.specs.Vocabulary.{Vocabulary}
-use Rattle.spelling.proofs.Adding.{Placed, Tidy, TidyBelow, addOne, classes-slots, constraints-slots, functional-slot, isFunctional}
-use Rattle.spelling.proofs.Adding.{meetAt, other-constraints, other-roles, placed, roles-slots, slot, startAt, tidy-addOne}
-use Rattle.spelling.proofs.Adding.{tidy-start}
 use Rattle.spelling.proofs.Keys.{key-apart}
+use Rattle.spelling.proofs.Placing.{Placed, Tidy, TidyBelow, addOne, classes-slots, constraints-slots, functional-slot, isFunctional}
+use Rattle.spelling.proofs.Placing.{meetAt, other-constraints, other-roles, placed, roles-slots, slot, startAt, tidy-addOne}
+use Rattle.spelling.proofs.Placing.{tidy-start}
 use Rattle.spelling.proofs.Rising.{Same, sorted-eq, sorted-inv}
 use Rattle.spelling.specs.Order.{sorted}
 use Rattle.spelling.specs.Ordered.{conjuncts}

@@ -21,12 +21,12 @@ use Rattle.meaning.specs.Policy.{Policy, policyOf, policyRefusal}
 use Rattle.meaning.specs.Promises.{IsRefusal}
 use Rattle.meaning.specs.Records.{orElse}
 use Rattle.meaning.specs.Vocabulary.{vocabularyOf, vocabularyRefusal}
-use Rattle.spelling.proofs.Again.{spelled-rising, spelling-again}
 use Rattle.spelling.proofs.Equal.{spelling-equal}
 use Rattle.spelling.proofs.InOrder.{spelled-ordered}
 use Rattle.spelling.proofs.Names.{spelled-named}
 use Rattle.spelling.proofs.Reading.{policy-words-accepted, policy-words-read}
 use Rattle.spelling.proofs.Reordering.{spelling-reordered}
+use Rattle.spelling.proofs.Respelling.{spelled-rising, spelling-again}
 use Rattle.spelling.specs.Operation.{spell, spellOf, spellingWords}
 use Rattle.spelling.specs.Ordered.{Ordered, Rising}
 use Rattle.spelling.specs.Reordered.{ReorderedTerms}

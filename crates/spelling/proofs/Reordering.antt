@@ -9,11 +9,11 @@ use Rattle.meaning.specs.Lists.{_∈_, filter, here, there}
 use Rattle.meaning.specs.NormalForm.{Form, add, bare, hasBottom, normalForm, possible}
 use Rattle.meaning.specs.Policy.{Chain, Policy, impossible}
 use Rattle.meaning.specs.Vocabulary.{Vocabulary}
-use Rattle.spelling.proofs.Adding.{Tidy, add-put, addOne, tidy-addOne, tidy-bare}
 use Rattle.spelling.proofs.Clean.{CleanChain, possible-spelling}
 use Rattle.spelling.proofs.Commuting.{Yields, add-swap, addOne-swap, yields}
 use Rattle.spelling.proofs.Keys.{term-apart}
 use Rattle.spelling.proofs.Members.{add-same, class-same, constraint-same, role-same}
+use Rattle.spelling.proofs.Placing.{Tidy, add-put, addOne, tidy-addOne, tidy-bare}
 use Rattle.spelling.proofs.Rising.{Same, sorted-eq}
 use Rattle.spelling.specs.Reordered.{Reordered, ReorderedTerms, afterClass, afterImpossible, afterInterval, firstTerm, inOrAfterSome}
 use Rattle.spelling.specs.Reordered.{inTurn, lowered, noTerms, raised, swapped, swappedTerms, termsInTurn, unmoved}

@@ -11,10 +11,10 @@ use Rattle.meaning.specs.NormalForm.{Form, add, bare, normalForm}
 use Rattle.meaning.specs.Policy.{Chain, class, end, impossible, interval, some}
 use Rattle.meaning.specs.Stated.{isFunctionalFeature, isFunctionalRole, ranges}
 use Rattle.meaning.specs.Vocabulary.{Vocabulary}
-use Rattle.spelling.proofs.Adding.{Tidy, add-put, addOne, isFunctional, meetAt, newOf, placed, startAt, tidy-add, tidy-addOne}
-use Rattle.spelling.proofs.Adding.{tidy-bare, tidy-start}
 use Rattle.spelling.proofs.Commuting.{meet-joined, new-apart, past, same-within, start-joined}
 use Rattle.spelling.proofs.Members.{add-same, spelling-same}
+use Rattle.spelling.proofs.Placing.{Tidy, add-put, addOne, isFunctional, meetAt, newOf, placed, startAt, tidy-add, tidy-addOne}
+use Rattle.spelling.proofs.Placing.{tidy-bare, tidy-start}
 use Rattle.spelling.proofs.Reordering.{yields-all}
 use Rattle.spelling.specs.Spelling.{Conjunct, isIn, put, reaches, spelledTerm, spelling, within, withinOf}
 

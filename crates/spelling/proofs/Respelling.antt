@@ -14,14 +14,14 @@ use Rattle.meaning.specs.NormalForm.{Form, Successors, add, bare, none, normalF
 use Rattle.meaning.specs.Policy.{Chain, Policy}
 use Rattle.meaning.specs.Stated.{isFunctionalFeature, isFunctionalRole, ranges}
 use Rattle.meaning.specs.Vocabulary.{Vocabulary}
-use Rattle.spelling.proofs.Adding.{Tidy, TidyBelow, add-put, addOne, functional-slot, isFunctional, newOf, placed, slot, startAt}
-use Rattle.spelling.proofs.Adding.{tidy-addOne, tidy-bare}
 use Rattle.spelling.proofs.Clean.{CleanChain, possible-spelling, spelled-open}
 use Rattle.spelling.proofs.Equal.{term-of}
 use Rattle.spelling.proofs.Keys.{key-apart, term-apart}
 use Rattle.spelling.proofs.Lists.{in-map, out-map}
 use Rattle.spelling.proofs.Members.{Lone, Met, Once, alone, constraints-in, meet-view, met, once-all, once-lone, putInOrder-same}
 use Rattle.spelling.proofs.Members.{roles-in, start-many, start-there}
+use Rattle.spelling.proofs.Placing.{Tidy, TidyBelow, add-put, addOne, functional-slot, isFunctional, newOf, placed, slot, startAt}
+use Rattle.spelling.proofs.Placing.{tidy-addOne, tidy-bare}
 use Rattle.spelling.proofs.Rising.{Same, before-self, same-refl, same-trans, sorted-again, sorted-rising, sorted-same}
 use Rattle.spelling.specs.Order.{isBefore, sorted}
 use Rattle.spelling.specs.Ordered.{Rising}
