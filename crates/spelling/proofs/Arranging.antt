@@ -37,15 +37,18 @@ module _ {A : Type 0} (k : A → List ℕ) (apart : (x y : A) → k x ≡ k y �
   each-same (x ∷ l) kept z =
       let s = each-same l (place k x kept) z in (
         λ h.
-            ⊎-elim (λ w. there (any-left kept w)) (λ w. ⊎-elim (λ e. here e) (λ v. there (any-right l v)) (place-out k apart x kept z w)) (any-append l _ (s .0 h)),
+            ⊎-elim (λ w. there (any-left kept w)) (λ w. ⊎-elim (λ e. here e) (λ v. there (any-right l v)) (place-out k apart x kept z w))
+            (any-append l _ (s .0 h)),
         λ h.
-            s .1 (⊎-elim (λ e. any-right l (place-in k apart x kept z (inl e))) (λ w. ⊎-elim (λ v. any-left (place k x kept) v) (λ v. any-right l (place-in k apart x kept z (inr v))) (any-append l _ w)) (any-cases h)),
+            s .1 (⊎-elim (λ e. any-right l (place-in k apart x kept z (inl e)))
+            (λ w. ⊎-elim (λ v. any-left (place k x kept) v) (λ v. any-right l (place-in k apart x kept z (inr v))) (any-append l _ w)) (any-cases h)),
       )
 
   pub each-sorted : (l : List A) → placeEach k l [] ≡ sorted k l
   each-sorted l =
       rising-same k apart (placeEach k l []) (sorted k l) (each-rising l [] tt) (sorted-rising k apart l)
-      (same-trans {m = l ++ []} (each-same l []) (same-trans {m = l} (λ z. (λ h. ⊎-elim (λ w. w) (λ w. absurd (any-none w)) (any-append l _ h), λ h. any-left [] h)) (sorted-same k apart l)))
+      (same-trans {m = l ++ []} (each-same l [])
+      (same-trans {m = l} (λ z. (λ h. ⊎-elim (λ w. w) (λ w. absurd (any-none w)) (any-append l _ h), λ h. any-left [] h)) (sorted-same k apart l)))
 
   rising-append : (l m : List A) → Rising k l → Rising k m → All (λ x. All (λ y. T (isBefore (k x) (k y))) m) l → Rising k (l ++ m)
   rising-append [] m r s a = s
@@ -62,7 +65,8 @@ constraintKey s = s .feature ∷ (s .lo ∷ (s .hi ∷ []))
 pub class-apart : (a b : ℕ) → classKey a ≡ classKey b → a ≡ b
 class-apart a b e = cc
 
-same-constraint : (f g l m h i : ℕ) → f ≡ g → l ≡ m → h ≡ i → _≡_ {A = Constraint} (record { feature = f; lo = l; hi = h }) (record { feature = g; lo = m; hi = i })
+same-constraint : (f g l m h i : ℕ) → f ≡ g → l ≡ m → h ≡ i →
+    _≡_ {A = Constraint} (record { feature = f; lo = l; hi = h }) (record { feature = g; lo = m; hi = i })
 same-constraint f g l m h i p q r = λ j. record { feature = p j; lo = q j; hi = r j }
 
 pub constraint-apart : (s t : Constraint) → constraintKey s ≡ constraintKey t → s ≡ t
@@ -89,7 +93,8 @@ constraints-rising : (l : List Constraint) → Rising constraintKey l → Rising
 constraints-rising [] r = tt
 constraints-rising (s ∷ l) r = (all-map-constraint l (r .0), constraints-rising l (r .1))
   where
-    all-map-constraint : (m : List Constraint) → All (λ y. T (isBefore (constraintKey s) (constraintKey y))) m → All (λ y. T (isBefore (key (withinOf s)) (key y))) (map withinOf m)
+    all-map-constraint : (m : List Constraint) → All (λ y. T (isBefore (constraintKey s) (constraintKey y))) m →
+        All (λ y. T (isBefore (key (withinOf s)) (key y))) (map withinOf m)
     all-map-constraint [] h = nil
     all-map-constraint (y ∷ m) h = cons {x = withinOf y} (head h) (all-map-constraint m (tail h))
 
@@ -180,7 +185,8 @@ children-place c [] = refl
 children-place c (d ∷ l) = go (isBefore (termKey c) (termKey d)) (isBefore (termKey d) (termKey c)) (children-place c l)
   where
     go : (a b : Bool) → place key (reaches 0 c) (map (λ e. reaches 0 e) l) ≡ map (λ e. reaches 0 e) (place termKey c l) →
-        cond a (reaches 0 c ∷ (reaches 0 d ∷ map (λ e. reaches 0 e) l)) (cond b (reaches 0 d ∷ place key (reaches 0 c) (map (λ e. reaches 0 e) l)) (reaches 0 d ∷ map (λ e. reaches 0 e) l))
+        cond a (reaches 0 c ∷ (reaches 0 d ∷ map (λ e. reaches 0 e) l))
+        (cond b (reaches 0 d ∷ place key (reaches 0 c) (map (λ e. reaches 0 e) l)) (reaches 0 d ∷ map (λ e. reaches 0 e) l))
         ≡ map (λ e. reaches 0 e) (cond a (c ∷ (d ∷ l)) (cond b (d ∷ place termKey c l) (d ∷ l)))
     go true b h = refl
     go false true h = ap (λ (m : List Conjunct). reaches 0 d ∷ m) h

@@ -60,7 +60,8 @@ module _ (K : Vocabulary) where
 
   putInOrder-in : (l : List Conjunct) → Apart l → All CleanOne l → CleanChain (putInOrder l)
   putInOrder-in l a h = (
-    subst Apart (sym (conjuncts-putAll (sorted key l))) (λ x y m n. a x y (sorted-same key key-apart l (isIn x) .1 m) (sorted-same key key-apart l (isIn y) .1 n)),
+    subst Apart (sym (conjuncts-putAll (sorted key l)))
+        (λ x y m n. a x y (sorted-same key key-apart l (isIn x) .1 m) (sorted-same key key-apart l (isIn y) .1 n)),
     putAll-in (sorted key l) (all-of (sorted key l) (λ x m. all-at h (sorted-same key key-apart l x .1 m))),
   )
 
@@ -75,16 +76,19 @@ module _ (K : Vocabulary) where
   class-of : (n : Node) (ks : Successors) (a : ℕ) → isIn a ∈ stated n (rolesOf ks) → a ∈ n .classes
   class-of n ks a h =
       ⊎-elim (λ w. let r = out-map isIn (n .classes) w in subst (λ (z : ℕ). z ∈ n .classes) (cc) (r .1))
-      (λ w. ⊎-elim (λ v. absurd (let e = all-at (constraints-slots (n .constraints)) v in omega arith)) (λ v. absurd (let e = all-at (roles-slots ks) v in omega arith)) (any-append (map withinOf (n .constraints)) _ w))
+      (λ w. ⊎-elim (λ v. absurd (let e = all-at (constraints-slots (n .constraints)) v in omega arith))
+      (λ v. absurd (let e = all-at (roles-slots ks) v in omega arith)) (any-append (map withinOf (n .constraints)) _ w))
       (any-append (map isIn (n .classes)) _ h)
 
   abbrev tested : List ℕ → ℕ → Bool
   tested cs a = all (λ b. not (clash K a b)) cs
 
-  stated-in : (n : Node) (ks : Successors) → T (cleanNode K n) → All CleanOne (rolesOf ks) → Apart (stated n (rolesOf ks)) × All CleanOne (stated n (rolesOf ks))
+  stated-in : (n : Node) (ks : Successors) → T (cleanNode K n) → All CleanOne (rolesOf ks) →
+      Apart (stated n (rolesOf ks)) × All CleanOne (stated n (rolesOf ks))
   stated-in n ks t h =
       let w = T-and (areNonEmpty (n .constraints)) (compatible K (n .classes)) t in (
-        λ a b m k. all-at (all-out (λ z. not (clash K a z)) (n .classes) (all-at (all-out (tested (n .classes)) (n .classes) (w .1)) (class-of n ks a m))) (class-of n ks b k),
+        λ a b m k. all-at (all-out (λ z. not (clash K a z)) (n .classes)
+            (all-at (all-out (tested (n .classes)) (n .classes) (w .1)) (class-of n ks a m))) (class-of n ks b k),
         all-append (classes (n .classes)) (all-append (constraints (n .constraints) (all-out (λ s. isNonEmpty (s .lo) (s .hi)) (n .constraints) (w .0))) h),
       )
     where
@@ -96,11 +100,13 @@ module _ (K : Vocabulary) where
       constraints [] g = nil
       constraints (s ∷ l) g = cons {x = withinOf s} (head g) (constraints l (tail g))
 
-  stated-out : (n : Node) (ks : Successors) → Apart (stated n (rolesOf ks)) → All CleanOne (stated n (rolesOf ks)) → T (cleanNode K n) × All CleanOne (rolesOf ks)
+  stated-out : (n : Node) (ks : Successors) → Apart (stated n (rolesOf ks)) → All CleanOne (stated n (rolesOf ks)) →
+      T (cleanNode K n) × All CleanOne (rolesOf ks)
   stated-out n ks a h =
       let w = all-snd (map isIn (n .classes)) (map withinOf (n .constraints) ++ rolesOf ks) h in
       let rest = map withinOf (n .constraints) ++ rolesOf ks in (
-        and-T (areNonEmpty (n .constraints)) (compatible K (n .classes)) (all-in (λ s. isNonEmpty (s .lo) (s .hi)) (map-all withinOf (n .constraints) (all-fst (map withinOf (n .constraints)) (rolesOf ks) w)))
+        and-T (areNonEmpty (n .constraints)) (compatible K (n .classes))
+            (all-in (λ s. isNonEmpty (s .lo) (s .hi)) (map-all withinOf (n .constraints) (all-fst (map withinOf (n .constraints)) (rolesOf ks) w)))
             (all-in (tested (n .classes)) (all-of (n .classes) (λ x m.
             all-in (λ z. not (clash K x z)) (all-of (n .classes) (λ y k. a x y (any-left rest (in-map isIn m)) (any-left rest (in-map isIn k))))))),
         all-snd (map withinOf (n .constraints)) (rolesOf ks) w,
@@ -119,7 +125,8 @@ module _ (K : Vocabulary) where
   roles-out (successor r n under next) h =
       let v = putInOrder-out (stated n (rolesOf under)) (head h) in
       let w = stated-out n under (v .0) (v .1) in
-      and-T (cleanNode K n) (cleanSuccessors K under && cleanSuccessors K next) (w .0) (and-T (cleanSuccessors K under) (cleanSuccessors K next) (roles-out under (w .1)) (roles-out next (tail h)))
+      and-T (cleanNode K n) (cleanSuccessors K under && cleanSuccessors K next) (w .0)
+      (and-T (cleanSuccessors K under) (cleanSuccessors K next) (roles-out under (w .1)) (roles-out next (tail h)))
 
   -- a form is clean exactly where its spelling is
   pub form-clean : (t : Form) → T (cleanNode K (t .node) && cleanSuccessors K (t .successors)) ↔ CleanChain (spelling t)

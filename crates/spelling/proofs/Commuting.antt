@@ -60,7 +60,8 @@ pub new-apart : (K : Vocabulary) (x y : Conjunct) (t : Form) → (T (isFunctiona
 new-apart K (isIn a) y t f = refl
 new-apart K (within f lo hi) (isIn b) t n = refl
 new-apart K (within f lo hi) (within g lo′ hi′) t n =
-    ap withinOf (meet-apart (isFunctionalFeature K f) (isFunctionalFeature K g) (record { feature = f; lo = lo; hi = hi }) (record { feature = g; lo = lo′; hi = hi′ }) (λ k p. n k (omega arith)) (t .node .constraints))
+    ap withinOf (meet-apart (isFunctionalFeature K f) (isFunctionalFeature K g) (record { feature = f; lo = lo; hi = hi })
+    (record { feature = g; lo = lo′; hi = hi′ }) (λ k p. n k (omega arith)) (t .node .constraints))
 new-apart K (within f lo hi) (reaches q d) t n = refl
 new-apart K (reaches r c) (isIn b) t n = refl
 new-apart K (reaches r c) (within g lo hi) t n = refl
@@ -70,7 +71,8 @@ new-apart K (reaches r c) (reaches q d) t n =
 
 -- ---- conjuncts of one functional name
 
-pub meet-joined : (b : Bool) (s u : Constraint) → T b → u .feature ≡ s .feature → (l : List Constraint) → meetAt b s (placeConstraint b u l) ≡ meet (meetAt b u l) s
+pub meet-joined : (b : Bool) (s u : Constraint) → T b → u .feature ≡ s .feature → (l : List Constraint) →
+    meetAt b s (placeConstraint b u l) ≡ meet (meetAt b u l) s
 meet-joined b s u k e [] = rw (on b (u .feature) (s .feature) k e)
 meet-joined b s u k e (t ∷ l) = go (b && eqb (t .feature) (u .feature)) refl (meet-joined b s u k e l)
   where
@@ -85,10 +87,12 @@ meet-joined b s u k e (t ∷ l) = go (b && eqb (t .feature) (u .feature)) refl (
 pub same-within : {f g a b c d : ℕ} → f ≡ g → a ≡ b → c ≡ d → within f a c ≡ within g b d
 same-within p q r = cc
 
-meet-swap : (b : Bool) (s u : Constraint) → u .feature ≡ s .feature → (l : List Constraint) → withinOf (meet (meetAt b u l) s) ≡ withinOf (meet (meetAt b s l) u)
+meet-swap : (b : Bool) (s u : Constraint) → u .feature ≡ s .feature → (l : List Constraint) →
+    withinOf (meet (meetAt b u l) s) ≡ withinOf (meet (meetAt b s l) u)
 meet-swap b s u e [] = same-within e (omega arith) (omega arith)
 meet-swap b s u e (t ∷ l) =
-    subst (λ (f : ℕ). withinOf (meet (cond (b && eqb (t .feature) (u .feature)) (meet t u) (meetAt b u l)) s) ≡ withinOf (meet (cond (b && eqb (t .feature) f) (meet t s) (meetAt b s l)) u)) e
+    subst (λ (f : ℕ). withinOf (meet (cond (b && eqb (t .feature) (u .feature)) (meet t u) (meetAt b u l)) s)
+    ≡ withinOf (meet (cond (b && eqb (t .feature) f) (meet t s) (meetAt b s l)) u)) e
     (go (b && eqb (t .feature) (u .feature)) (meet-swap b s u e l))
   where
     go : (z : Bool) → withinOf (meet (meetAt b u l) s) ≡ withinOf (meet (meetAt b s l) u) →
@@ -133,12 +137,14 @@ constraint-joined K f lo hi lo′ hi′ t k =
     ∙ meet-swap (isFunctionalFeature K f) s u refl (t .node .constraints)
     ∙ ap withinOf (sym (meet-joined (isFunctionalFeature K f) u s k refl (t .node .constraints)))
 
-pub new-joined : (K : Vocabulary) (x y : Conjunct) (t : Form) → Tidy K t → T (isFunctional K x) → slot x ≡ slot y → Yield K x y → newOf K x (addOne K y t) ≡ newOf K y (addOne K x t)
+pub new-joined : (K : Vocabulary) (x y : Conjunct) (t : Form) → Tidy K t → T (isFunctional K x) → slot x ≡ slot y → Yield K x y →
+    newOf K x (addOne K y t) ≡ newOf K y (addOne K x t)
 new-joined K (isIn a) y t h k e w = absurd k
 new-joined K (within f lo hi) (isIn b) t h k e w = absurd (omega arith)
 new-joined K (within f lo hi) (within g lo′ hi′) t h k e w =
     let i : f ≡ g = omega arith in
-    subst (λ (z : ℕ). newOf K (within f lo hi) (addOne K (within z lo′ hi′) t) ≡ newOf K (within z lo′ hi′) (addOne K (within f lo hi) t)) i (constraint-joined K f lo hi lo′ hi′ t k)
+    subst (λ (z : ℕ). newOf K (within f lo hi) (addOne K (within z lo′ hi′) t) ≡ newOf K (within z lo′ hi′) (addOne K (within f lo hi) t)) i
+    (constraint-joined K f lo hi lo′ hi′ t k)
 new-joined K (within f lo hi) (reaches q d) t h k e w = absurd (omega arith)
 new-joined K (reaches r c) (isIn b) t h k e w = absurd (omega arith)
 new-joined K (reaches r c) (within g lo hi) t h k e w = absurd (omega arith)
@@ -149,7 +155,8 @@ new-joined K (reaches r c) (reaches q d) t h k e w =
 -- ---- two steps
 
 -- l₁ is l with y, l₁₂ with x behind that; l₂ with x, l₂₁ with y behind that
-module _ (b c : Bool) (s r : ℕ) (n₁ n₂ n₃ n₄ : Conjunct) {l l₁ l₂ l₁₂ l₂₁ : List Conjunct} (p₁ : Placed b s n₁ l l₁) (p₂ : Placed c r n₂ l₁ l₁₂) (p₃ : Placed c r n₃ l l₂) (p₄ : Placed b s n₄ l₂ l₂₁) where
+module _ (b c : Bool) (s r : ℕ) (n₁ n₂ n₃ n₄ : Conjunct) {l l₁ l₂ l₁₂ l₂₁ : List Conjunct} (p₁ : Placed b s n₁ l l₁) (p₂ : Placed c r n₂ l₁ l₁₂)
+    (p₃ : Placed c r n₃ l l₂) (p₄ : Placed b s n₄ l₂ l₂₁) where
   apart-half : n₂ ≡ n₃ → n₁ ≡ n₄ → slot n₃ ≡ r → (T b → r ≡ s → ⊥) → (z : Conjunct) → z ∈ l₁₂ → z ∈ l₂₁
   apart-half e f i n z h =
       ⊎-elim (λ j. p₄ z .1 (inr (p₃ z .1 (inl (j ∙ e)), λ k q. n k (sym i ∙ ap slot (sym (j ∙ e)) ∙ q))))
@@ -160,7 +167,8 @@ module _ (b c : Bool) (s r : ℕ) (n₁ n₂ n₃ n₄ : Conjunct) {l l₁ l₂ 
       ⊎-elim (λ j. p₄ z .1 (inl (j ∙ f)))
       (λ w. ⊎-elim (λ j. absurd (w .1 k (ap slot j ∙ i ∙ e))) (λ v. p₄ z .1 (inr (p₃ z .1 (inr (v .0, w .1)), v .1))) (p₁ z .0 (w .0))) (p₂ z .0 h)
 
-pub addOne-swap : (K : Vocabulary) (x y : Conjunct) (t : Form) → Tidy K t → Yield K x y → spelling (addOne K x (addOne K y t)) ≡ spelling (addOne K y (addOne K x t))
+pub addOne-swap : (K : Vocabulary) (x y : Conjunct) (t : Form) → Tidy K t → Yield K x y →
+    spelling (addOne K x (addOne K y t)) ≡ spelling (addOne K y (addOne K x t))
 addOne-swap K x y t h yield = go (isFunctional K x && eqb (slot x) (slot y)) refl
   where
     X : Form
@@ -187,17 +195,22 @@ addOne-swap K x y t h yield = go (isFunctional K x && eqb (slot x) (slot y)) ref
         let i : slot x ≡ slot y = eqb→eq (slot x) (slot y) (w .1) in
         let n = new-joined K x y t h (w .0) i yield in
         spelling-same (addOne K x Y) (addOne K y X) (λ z. (
-          joined-half (isFunctional K y) (isFunctional K x) (slot y) (slot x) (newOf K y t) (newOf K x Y) (newOf K x t) (newOf K y X) pY pXY pX pYX (w .0) (sym i) (new-slot K y t) n z,
-          joined-half (isFunctional K x) (isFunctional K y) (slot x) (slot y) (newOf K x t) (newOf K y X) (newOf K y t) (newOf K x Y) pX pYX pY pXY (subst T (functional-slot K x y i) (w .0)) i (new-slot K x t) (sym n) z,
+          joined-half (isFunctional K y) (isFunctional K x) (slot y) (slot x) (newOf K y t) (newOf K x Y) (newOf K x t) (newOf K y X) pY pXY pX pYX
+              (w .0) (sym i) (new-slot K y t) n z,
+          joined-half (isFunctional K x) (isFunctional K y) (slot x) (slot y) (newOf K x t) (newOf K y X) (newOf K y t) (newOf K x Y) pX pYX pY pXY
+              (subst T (functional-slot K x y i) (w .0)) i (new-slot K x t) (sym n) z,
         ))
     go false e =
-        let a : T (isFunctional K x) → slot y ≡ slot x → ⊥ = λ k i. notTrue e (and-T (isFunctional K x) (eqb (slot x) (slot y)) k (eqb-of (slot x) (slot y) (sym i))) in
+        let a : T (isFunctional K x) → slot y ≡ slot x → ⊥ = λ k i. notTrue e
+        (and-T (isFunctional K x) (eqb (slot x) (slot y)) k (eqb-of (slot x) (slot y) (sym i))) in
         let b : T (isFunctional K y) → slot x ≡ slot y → ⊥ = λ k i. a (subst T (functional-slot K y x (sym i)) k) (sym i) in
         let m = new-apart K x y t a in
         let n = new-apart K y x t b in
         spelling-same (addOne K x Y) (addOne K y X) (λ z. (
-          apart-half (isFunctional K y) (isFunctional K x) (slot y) (slot x) (newOf K y t) (newOf K x Y) (newOf K x t) (newOf K y X) pY pXY pX pYX m (sym n) (new-slot K x t) b z,
-          apart-half (isFunctional K x) (isFunctional K y) (slot x) (slot y) (newOf K x t) (newOf K y X) (newOf K y t) (newOf K x Y) pX pYX pY pXY n (sym m) (new-slot K y t) a z,
+          apart-half (isFunctional K y) (isFunctional K x) (slot y) (slot x) (newOf K y t) (newOf K x Y) (newOf K x t) (newOf K y X) pY pXY pX pYX m
+              (sym n) (new-slot K x t) b z,
+          apart-half (isFunctional K x) (isFunctional K y) (slot x) (slot y) (newOf K x t) (newOf K y X) (newOf K y t) (newOf K x Y) pX pYX pY pXY n
+              (sym m) (new-slot K y t) a z,
         ))
 
 -- ---- two chains
@@ -216,10 +229,12 @@ yields K (reaches r c) (within g lo hi) h = tt
 yields K (reaches r c) (reaches q d) h = h d
 
 module _ (K : Vocabulary) (x : Conjunct) (yield : Yields K x) where
-  past-one : (y : Conjunct) (c : Chain) (t : Form) → Tidy K t → spelling (addOne K x (add K c (addOne K y t))) ≡ spelling (add K c (addOne K x (addOne K y t))) →
+  past-one : (y : Conjunct) (c : Chain) (t : Form) → Tidy K t →
+      spelling (addOne K x (add K c (addOne K y t))) ≡ spelling (add K c (addOne K x (addOne K y t))) →
       spelling (addOne K x (add K c (addOne K y t))) ≡ spelling (add K c (addOne K y (addOne K x t)))
   past-one y c t h e =
-      e ∙ add-same K c (addOne K x (addOne K y t)) (addOne K y (addOne K x t)) (tidy-addOne K x (addOne K y t) (tidy-addOne K y t h)) (tidy-addOne K y (addOne K x t) (tidy-addOne K x t h))
+      e ∙ add-same K c (addOne K x (addOne K y t)) (addOne K y (addOne K x t)) (tidy-addOne K x (addOne K y t) (tidy-addOne K y t h))
+      (tidy-addOne K y (addOne K x t) (tidy-addOne K x t h))
       (addOne-swap K x y t h (yields K x y yield))
 
   pub past : (c : Chain) (t : Form) → Tidy K t → spelling (addOne K x (add K c t)) ≡ spelling (add K c (addOne K x t))
@@ -233,7 +248,8 @@ module _ (K : Vocabulary) (x : Conjunct) (yield : Yields K x) where
   past-both : (c d : Chain) (t : Form) → Tidy K t → ((v : Form) → Tidy K v → spelling (add K c (add K d v)) ≡ spelling (add K d (add K c v))) →
       spelling (add K c (addOne K x (add K d t))) ≡ spelling (add K d (add K c (addOne K x t)))
   past-both c d t h f =
-      add-same K c (addOne K x (add K d t)) (add K d (addOne K x t)) (tidy-addOne K x (add K d t) (tidy-add K d t h)) (tidy-add K d (addOne K x t) (tidy-addOne K x t h)) (past d t h)
+      add-same K c (addOne K x (add K d t)) (add K d (addOne K x t)) (tidy-addOne K x (add K d t) (tidy-add K d t h))
+      (tidy-add K d (addOne K x t) (tidy-addOne K x t h)) (past d t h)
       ∙ f (addOne K x t) (tidy-addOne K x t h)
 
 pub add-swap : (K : Vocabulary) (c d : Chain) (t : Form) → Tidy K t → spelling (add K c (add K d t)) ≡ spelling (add K d (add K c t))

@@ -63,7 +63,8 @@ module _ (I : Interpretation) where
   roles-in none d h = nil
   roles-in (successor r n under next) d h =
       let v = h .0 in
-      cons {x = reaches r (putInOrder (stated n (rolesOf under)))} (v .0, v .1, putInOrder-in (v .0) (stated n (rolesOf under)) (stated-in (v .0) n (rolesOf under) (v .2) (roles-in under (v .0) (v .3))))
+      cons {x = reaches r (putInOrder (stated n (rolesOf under)))}
+      (v .0, v .1, putInOrder-in (v .0) (stated n (rolesOf under)) (stated-in (v .0) n (rolesOf under) (v .2) (roles-in under (v .0) (v .3))))
       (roles-in next d (h .1))
 
   roles-out : (ks : Successors) (d : ℕ) → All (HoldsOne d) (rolesOf ks) → HoldsSuccessors I ks d
@@ -105,9 +106,10 @@ term-of K P c h =
 
 pub of-term : (K : Vocabulary) (P : Policy) (p : Chain) → p ∈ P → T (possible K p) → spelledTerm K p ∈ spelled K P
 unfolding spelled
-of-term K P p m t = sorted-same termKey term-apart (map (spelledTerm K) (filter (possible K) P)) (spelledTerm K p) .0 (in-map (spelledTerm K) (in-filter (possible K) m t))
+of-term K P p m t =
+    sorted-same termKey term-apart (map (spelledTerm K) (filter (possible K) P)) (spelledTerm K p) .0 (in-map (spelledTerm K) (in-filter (possible K) m t))
 
--- "The written policy equals the one read"
+-- a policy equals its spelling
 pub spelling-equal : (K : Vocabulary) (P : Policy) → Indistinct K P (spelled K P)
 spelling-equal K P I proper s d i = (
   λ h. let p = any-at h in at-any (of-term K P (p .0) (p .1) (holds-possible I K s (p .0) d (p .2))) (term-in I K s (p .0) d (p .2)),

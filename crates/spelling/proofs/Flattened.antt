@@ -1,4 +1,4 @@
--- A vocabulary whose records of kind 1 each place a class below itself: the same normal form, and below is equality. Its tables hold the stated classes.
+-- A vocabulary whose records of kind 1 each place a class below itself: normal forms are the same, and below is equality.
 use Prim.Native.Nat.{_<_, suc, zero, ℕ}
 use mathlib.Core.Bool.{Bool, _&&_, _||_, cond, false, true}
 use mathlib.Core.List.{List, [], _++_, _∷_, map}
@@ -9,6 +9,7 @@ use native.Mathlib.Omega.{arith}
 use borrow.Author.Tests.{eqb-false}
 use mathlib.Core.Logic.{⊎-elim}
 use Rattle.meaning.proofs.Rules.{T-and, T-or, and-T, eqb-of, or-left, same-test}
+use Rattle.meaning.specs.Intervals.{Constraint}
 use Rattle.meaning.specs.Limits.{mostVocabularyWords}
 use Rattle.meaning.specs.Lists.{any, flatMap}
 use Rattle.meaning.specs.NormalForm.{Form, add, bare, normalForm, placeConstraint, placeSuccessor, withClass, withConstraint, withSuccessor}
@@ -30,8 +31,19 @@ flatOne (range r c) = range r c
 abbrev pub flattened : Vocabulary → Vocabulary
 flattened K = record { classes = K .classes; roles = K .roles; features = K .features; axioms = map flatOne (K .axioms) }
 
+-- a successor and a constraint added, by what the vocabulary says of the name
+abbrev withRole : Bool → ℕ → List ℕ → (Form → Form) → Form → Form
+withRole b r l grow t = record { node = t .node; successors = placeSuccessor b r (bare l) grow (t .successors) }
+
+abbrev withBounds : Bool → Constraint → Form → Form
+withBounds b s t = record {
+  node = record { classes = t .node .classes; constraints = placeConstraint b s (t .node .constraints) };
+  successors = t .successors;
+}
+
 -- a normal form asks of a vocabulary what is functional, and the ranges
-module _ (K L : Vocabulary) (one : (r : ℕ) → isFunctionalRole K r ≡ isFunctionalRole L r) (two : (f : ℕ) → isFunctionalFeature K f ≡ isFunctionalFeature L f) (reach : (r : ℕ) → ranges K r ≡ ranges L r) where
+module _ (K L : Vocabulary) (one : (r : ℕ) → isFunctionalRole K r ≡ isFunctionalRole L r)
+    (two : (f : ℕ) → isFunctionalFeature K f ≡ isFunctionalFeature L f) (reach : (r : ℕ) → ranges K r ≡ ranges L r) where
   add-by : (c : Chain) → add K c ≡ add L c
   add-by end = refl
   add-by (class a next) = fun-ext (λ t. ap (λ (g : Form → Form). g (withClass a t)) (add-by next))
@@ -39,13 +51,13 @@ module _ (K L : Vocabulary) (one : (r : ℕ) → isFunctionalRole K r ≡ isFunc
   add-by (some r child next) =
       fun-ext (λ t.
       ap (λ (g : Form → Form). g (withSuccessor K r (add K child) t)) (add-by next)
-      ∙ ap (λ (b : Bool). add L next (record { node = t .node; successors = placeSuccessor b r (bare (ranges K r)) (add K child) (t .successors) })) (one r)
-      ∙ ap (λ (cs : List ℕ). add L next (record { node = t .node; successors = placeSuccessor (isFunctionalRole L r) r (bare cs) (add K child) (t .successors) })) (reach r)
+      ∙ ap (λ (b : Bool). add L next (withRole b r (ranges K r) (add K child) t)) (one r)
+      ∙ ap (λ (l : List ℕ). add L next (withRole (isFunctionalRole L r) r l (add K child) t)) (reach r)
       ∙ ap (λ (g : Form → Form). add L next (withSuccessor L r g t)) (add-by child))
   add-by (interval f lo hi next) =
       fun-ext (λ t.
-      ap (λ (g : Form → Form). g (withConstraint K (record { feature = f; lo = lo; hi = hi }) t)) (add-by next)
-      ∙ ap (λ (b : Bool). add L next (record { node = record { classes = t .node .classes; constraints = placeConstraint b (record { feature = f; lo = lo; hi = hi }) (t .node .constraints) }; successors = t .successors })) (two f))
+      let s : Constraint = record { feature = f; lo = lo; hi = hi } in
+      ap (λ (g : Form → Form). g (withConstraint K s t)) (add-by next) ∙ ap (λ (b : Bool). add L next (withBounds b s t)) (two f))
 
   pub normal-by : (c : Chain) → normalForm K c ≡ normalForm L c
   unfolding normalForm
@@ -99,7 +111,8 @@ below-flat [] a b = refl
 below-flat (below x y ∷ l) a b =
     ap₂ _||_ (below-flat l a b) (ap₂ _&&_ (below-flat l a x) (below-flat l x b))
     ∙ same-test (eqb a b || (eqb a x && eqb x b)) (eqb a b)
-    (λ t. ⊎-elim (λ h. h) (λ h. let w = T-and (eqb a x) (eqb x b) h in eqb-of a b (eqb→eq a x (w .0) ∙ eqb→eq x b (w .1))) (T-or (eqb a b) (eqb a x && eqb x b) t))
+    (λ t. ⊎-elim (λ h. h) (λ h. let w = T-and (eqb a x) (eqb x b) h in eqb-of a b (eqb→eq a x (w .0) ∙ eqb→eq x b (w .1)))
+    (T-or (eqb a b) (eqb a x && eqb x b) t))
     (or-left (eqb a b) (eqb a x && eqb x b))
 below-flat (disjoint x y ∷ l) a b = below-flat l a b
 below-flat (functionalRole q ∷ l) a b = below-flat l a b
@@ -128,7 +141,8 @@ module _ (v u : List ℕ) (w : Flat v u) where
       (go (axiomLeft v k) (axiomRight v k) (eqb (axiomKind v k) 1) (eqb (axiomKind v k) 2) (eqb (axiomKind v k) 3) (eqb (axiomKind v k) 4))
     where
       go : (a b : ℕ) (k₁ k₂ k₃ k₄ : Bool) →
-          cond k₁ (below a (cond k₁ a b)) (cond k₂ (disjoint a (cond k₁ a b)) (cond k₃ (functionalRole a) (cond k₄ (functionalFeature a) (range a (cond k₁ a b)))))
+          cond k₁ (below a (cond k₁ a b))
+          (cond k₂ (disjoint a (cond k₁ a b)) (cond k₃ (functionalRole a) (cond k₄ (functionalFeature a) (range a (cond k₁ a b)))))
           ≡ flatOne (cond k₁ (below a b) (cond k₂ (disjoint a b) (cond k₃ (functionalRole a) (cond k₄ (functionalFeature a) (range a b)))))
       go a b true k₂ k₃ k₄ = refl
       go a b false true k₃ k₄ = refl
@@ -140,7 +154,8 @@ module _ (v u : List ℕ) (w : Flat v u) where
   axioms-flat zero k = refl
   axioms-flat (suc f) k = go (eqb k 0) refl (λ n. rw (axiom-flat k n, w .next k, axioms-flat f (axiomNext v k)))
     where
-      go : (b : Bool) → eqb k 0 ≡ b → ((k ≡ 0 → ⊥) → axiomAt u k ∷ axiomsFrom f u (axiomNext u k) ≡ flatOne (axiomAt v k) ∷ map flatOne (axiomsFrom f v (axiomNext v k))) →
+      go : (b : Bool) → eqb k 0 ≡ b →
+          ((k ≡ 0 → ⊥) → axiomAt u k ∷ axiomsFrom f u (axiomNext u k) ≡ flatOne (axiomAt v k) ∷ map flatOne (axiomsFrom f v (axiomNext v k))) →
           cond b [] (axiomAt u k ∷ axiomsFrom f u (axiomNext u k)) ≡ map flatOne (cond b [] (axiomAt v k ∷ axiomsFrom f v (axiomNext v k)))
       go true e h = refl
       go false e h = h (eqb-false k 0 e)
@@ -148,13 +163,15 @@ module _ (v u : List ℕ) (w : Flat v u) where
   pub flat-vocabulary : vocabularyOf u ≡ flattened (vocabularyOf v)
   unfolding vocabularyOf axiomsOf
   flat-vocabulary =
-      rw (w .long, w .header 0 (omega arith), w .header 1 (omega arith), w .header 2 (omega arith), w .header 3 (omega arith), axioms-flat (length v) (firstAxiom v))
+      rw (w .header 0 (omega arith), w .header 1 (omega arith), w .header 2 (omega arith), w .header 3 (omega arith))
+      (rw (w .long, axioms-flat (length v) (firstAxiom v)))
 
   -- and is accepted
   fits-flat : (k : ℕ) → (k ≡ 0 → ⊥) → T (axiomFits v k) → T (axiomFits u k)
   fits-flat k n =
       rw (w .kind k, w .left k, w .right k n, w .header 0 (omega arith), w .header 1 (omega arith), w .header 2 (omega arith))
-      (go (axiomLeft v k) (axiomRight v k) (eqb (axiomKind v k) 1) (eqb (axiomKind v k) 2) (eqb (axiomKind v k) 3) (eqb (axiomKind v k) 4) (eqb (axiomKind v k) 5))
+      (go (axiomLeft v k) (axiomRight v k) (eqb (axiomKind v k) 1) (eqb (axiomKind v k) 2) (eqb (axiomKind v k) 3) (eqb (axiomKind v k) 4)
+      (eqb (axiomKind v k) 5))
     where
       N : ℕ
       N = classCount v
@@ -166,7 +183,8 @@ module _ (v u : List ℕ) (w : Flat v u) where
       F = featureCount v
 
       go : (a b : ℕ) (k₁ k₂ k₃ k₄ k₅ : Bool) →
-          T (cond k₁ (isName N a && isName N b) (cond k₂ (isName N a && isName N b) (cond k₃ (isName R a && eqb b 0) (cond k₄ (isName F a && eqb b 0) (k₅ && (isName R a && isName N b)))))) →
+          T (cond k₁ (isName N a && isName N b)
+          (cond k₂ (isName N a && isName N b) (cond k₃ (isName R a && eqb b 0) (cond k₄ (isName F a && eqb b 0) (k₅ && (isName R a && isName N b)))))) →
           T (cond k₁ (isName N a && isName N (cond k₁ a b)) (cond k₂ (isName N a && isName N (cond k₁ a b)) (cond k₃ (isName R a && eqb (cond k₁ a b) 0)
           (cond k₄ (isName F a && eqb (cond k₁ a b) 0) (k₅ && (isName R a && isName N (cond k₁ a b)))))))
       go a b true k₂ k₃ k₄ k₅ t = let s = T-and (isName N a) (isName N b) t in and-T (isName N a) (isName N a) (s .0) (s .0)
@@ -181,7 +199,8 @@ module _ (v u : List ℕ) (w : Flat v u) where
           let s = T-and (axiomFits v k) (isOnward (lastOf 4 v) k (axiomNext v k)) t in
           and-T (axiomFits u k) (isOnward (lastOf 4 u) k (axiomNext u k)) (fits-flat k n (s .0)) (rw (w .long, w .next k) (s .1))
 
-      go : (z : Bool) → eqb k 0 ≡ z → (a b : Bool) → ((k ≡ 0 → ⊥) → T a → T b) → (axiomsRefusal f v (axiomNext v k) ≡ 0 → axiomsRefusal f u (axiomNext u k) ≡ 0) →
+      go : (z : Bool) → eqb k 0 ≡ z → (a b : Bool) → ((k ≡ 0 → ⊥) → T a → T b) →
+          (axiomsRefusal f v (axiomNext v k) ≡ 0 → axiomsRefusal f u (axiomNext u k) ≡ 0) →
           cond z 0 (cond a (axiomsRefusal f v (axiomNext v k)) 3) ≡ 0 → cond z 0 (cond b (axiomsRefusal f u (axiomNext u k)) 3) ≡ 0
       go true i a b f g e = refl
       go false i true true f g e = g e

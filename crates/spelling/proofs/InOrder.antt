@@ -1,4 +1,4 @@
--- What is written rises strictly, at every depth.
+-- The conjuncts of a spelling rise strictly, at every depth.
 use mathlib.Core.List.{List, [], _∷_, map}
 use mathlib.Core.Path.{subst, sym}
 use Prim.Native.Nat.{ℕ}
@@ -48,13 +48,14 @@ stated-ordered n l h = all-append (classes (n .classes)) (all-append (constraint
 roles-ordered : (ks : Successors) → All OrderedOne (rolesOf ks)
 roles-ordered none = nil
 roles-ordered (successor r n under next) =
-    cons {x = reaches r (putInOrder (stated n (rolesOf under)))} (putInOrder-ordered (stated n (rolesOf under)) (stated-ordered n (rolesOf under) (roles-ordered under))) (roles-ordered next)
+    cons {x = reaches r (putInOrder (stated n (rolesOf under)))}
+    (putInOrder-ordered (stated n (rolesOf under)) (stated-ordered n (rolesOf under) (roles-ordered under))) (roles-ordered next)
 
 pub form-ordered : (t : Form) → Ordered (spelling t)
 unfolding spelling
 form-ordered t = putInOrder-ordered (conjunctsOf t) (stated-ordered (t .node) (rolesOf (t .successors)) (roles-ordered (t .successors)))
 
--- each term of a spelling; and the terms rise (`spelled-rising` of Again)
+-- each term of a spelling; `spelled-rising` of Respelling says that the terms rise
 pub spelled-ordered : (K : Vocabulary) (P : Policy) → All Ordered (spelled K P)
 unfolding spelledTerm
 spelled-ordered K P = all-of (spelled K P) (λ c m. let p = term-of K P c m in subst Ordered (sym (p .3)) (form-ordered (normalForm K (p .0))))

@@ -27,7 +27,7 @@ use Rattle.spelling.specs.Spelling.{withinOf}
 
 -- ---- a spelling is its members
 
--- what is written is read off again
+-- what is put together is read off again
 pub conjuncts-putAll : (l : List Conjunct) → conjuncts (putAll l) ≡ l
 conjuncts-putAll [] = refl
 conjuncts-putAll (isIn a ∷ l) = ap (λ (m : List Conjunct). isIn a ∷ m) (conjuncts-putAll l)
@@ -55,7 +55,8 @@ spelling-inv t u e = putInOrder-inv (conjunctsOf t) (conjunctsOf u) e
 in-roles : (t : Form) (r : ℕ) (c : Chain) → reaches r c ∈ conjunctsOf t → reaches r c ∈ rolesOf (t .successors)
 in-roles t r c h =
     ⊎-elim (λ w. absurd (let e = all-at (classes-slots (t .node .classes)) w in omega arith))
-    (λ w. ⊎-elim (λ v. absurd (let e = all-at (constraints-slots (t .node .constraints)) v in omega arith)) (λ v. v) (any-append (map withinOf (t .node .constraints)) _ w))
+    (λ w. ⊎-elim (λ v. absurd (let e = all-at (constraints-slots (t .node .constraints)) v in omega arith)) (λ v. v)
+    (any-append (map withinOf (t .node .constraints)) _ w))
     (any-append (map isIn (t .node .classes)) _ h)
 
 in-constraints : (t : Form) (f lo hi : ℕ) → within f lo hi ∈ conjunctsOf t → within f lo hi ∈ map withinOf (t .node .constraints)
@@ -74,7 +75,7 @@ fresh-out : {r : ℕ} {c : Chain} (ks : Successors) → Fresh r ks → reaches r
 fresh-out none f h = any-none h
 fresh-out (successor q n under next) f h = ⊎-elim (λ e. f .0 (cc)) (λ w. fresh-out next (f .1) w) (any-cases h)
 
--- the one arm by a functional role is the one that conjuncts are added to
+-- what a functional role reaches is the individual that conjuncts are added to
 start-only : (K : Vocabulary) (r : ℕ) (fresh : Form) (ks : Successors) → TidyBelow K ks → T (isFunctionalRole K r) → (c : Chain) → reaches r c ∈ rolesOf ks →
     c ≡ spelling (startAt (isFunctionalRole K r) r fresh ks)
 unfolding spelling
@@ -92,7 +93,8 @@ start-only K r fresh (successor q n under next) h t c m = go (isFunctionalRole K
     go false e (inr w) f = f w
 
 -- it stands there, or there is none
-pub start-there : (b : Bool) (r : ℕ) (fresh : Form) (ks : Successors) → (reaches r (spelling (startAt b r fresh ks)) ∈ rolesOf ks) ⊎ (startAt b r fresh ks ≡ fresh)
+pub start-there : (b : Bool) (r : ℕ) (fresh : Form) (ks : Successors) →
+    (reaches r (spelling (startAt b r fresh ks)) ∈ rolesOf ks) ⊎ (startAt b r fresh ks ≡ fresh)
 unfolding spelling
 start-there b r fresh none = inr refl
 start-there b r fresh (successor q n under next) = go (b && eqb r q) (λ u. eqb→eq r q (T-and b (eqb r q) u .1)) (start-there b r fresh next)
@@ -111,7 +113,8 @@ start-many r fresh (successor q n under next) = start-many r fresh next
 -- forms with one spelling have one such individual, up to the spelling
 start-same : (K : Vocabulary) (r : ℕ) (fresh : Form) (t u : Form) → Tidy K t → Tidy K u → Same (conjunctsOf t) (conjunctsOf u) →
     spelling (startAt (isFunctionalRole K r) r fresh (t .successors)) ≡ spelling (startAt (isFunctionalRole K r) r fresh (u .successors))
-start-same K r fresh t u h k s = go (isFunctionalRole K r) refl (start-there (isFunctionalRole K r) r fresh (t .successors)) (start-there (isFunctionalRole K r) r fresh (u .successors))
+start-same K r fresh t u h k s =
+    go (isFunctionalRole K r) refl (start-there (isFunctionalRole K r) r fresh (t .successors)) (start-there (isFunctionalRole K r) r fresh (u .successors))
   where
     S : Form
     S = startAt (isFunctionalRole K r) r fresh (t .successors)
@@ -123,8 +126,12 @@ start-same K r fresh t u h k s = go (isFunctionalRole K r) refl (start-there (is
         (reaches r (spelling U) ∈ rolesOf (u .successors)) ⊎ (U ≡ fresh) → spelling S ≡ spelling U
     go false e p q = ap spelling (ap (λ (b : Bool). startAt b r fresh (t .successors)) e ∙ start-many r fresh (t .successors)
         ∙ sym (start-many r fresh (u .successors)) ∙ ap (λ (b : Bool). startAt b r fresh (u .successors)) (sym e))
-    go true e (inl p) q = start-only K r fresh (u .successors) (k .successors) (isTrue e) (spelling S) (in-roles u r (spelling S) (s (reaches r (spelling S)) .0 (roles-in t (reaches r (spelling S)) p)))
-    go true e (inr p) (inl q) = sym (start-only K r fresh (t .successors) (h .successors) (isTrue e) (spelling U) (in-roles t r (spelling U) (s (reaches r (spelling U)) .1 (roles-in u (reaches r (spelling U)) q))))
+    go true e (inl p) q =
+        start-only K r fresh (u .successors) (k .successors) (isTrue e) (spelling S)
+        (in-roles u r (spelling S) (s (reaches r (spelling S)) .0 (roles-in t (reaches r (spelling S)) p)))
+    go true e (inr p) (inl q) =
+        sym (start-only K r fresh (t .successors) (h .successors) (isTrue e) (spelling U)
+        (in-roles t r (spelling U) (s (reaches r (spelling U)) .1 (roles-in u (reaches r (spelling U)) q))))
     go true e (inr p) (inr q) = ap spelling (p ∙ sym q)
 
 -- a functional name stands once in a list
@@ -132,7 +139,8 @@ abbrev pub Once : Vocabulary → List Conjunct → Type 0
 Once K [] = Unit {0}
 Once K (x ∷ l) = (T (isFunctional K x) → All (λ y. slot y ≡ slot x → ⊥) l) × Once K l
 
-once-append : (K : Vocabulary) (l m : List Conjunct) → Once K l → Once K m → All (λ x. T (isFunctional K x) → All (λ y. slot y ≡ slot x → ⊥) m) l → Once K (l ++ m)
+once-append : (K : Vocabulary) (l m : List Conjunct) → Once K l → Once K m → All (λ x. T (isFunctional K x) → All (λ y. slot y ≡ slot x → ⊥) m) l →
+    Once K (l ++ m)
 once-append K [] m h k a = k
 once-append K (x ∷ l) m h k a = (λ t. all-append (h .0 t) (head a t), once-append K l m (h .1) k (tail a))
 
@@ -151,7 +159,8 @@ once-roles K (successor r n under next) h = (λ t. other-roles r next (h .0 t), 
 pub once-all : (K : Vocabulary) (t : Form) → Tidy K t → Once K (conjunctsOf t)
 once-all K t h =
     once-classes K (t .node .classes) (map withinOf (t .node .constraints) ++ rolesOf (t .successors))
-    (once-append K (map withinOf (t .node .constraints)) (rolesOf (t .successors)) (once-constraints K (t .node .constraints) (h .node .distinct)) (once-roles K (t .successors) (h .successors))
+    (once-append K (map withinOf (t .node .constraints)) (rolesOf (t .successors)) (once-constraints K (t .node .constraints) (h .node .distinct))
+    (once-roles K (t .successors) (h .successors))
     (all-of (map withinOf (t .node .constraints)) (λ x m u. all-of (rolesOf (t .successors)) (λ y w e.
     let a = all-at (constraints-slots (t .node .constraints)) m in
     let b = all-at (roles-slots (t .successors)) w in
@@ -215,7 +224,8 @@ meet-same K s t u h k same = go _ _ (meet-view b s (t .node .constraints)) (meet
 
     go : (i j : Constraint) → Met b s (t .node .constraints) i → Met b s (u .node .constraints) j → withinOf i ≡ withinOf j
     go _ _ (met i t₁ m e) (met j t₂ n f) =
-        meet-cong i j s (once-lone K (conjunctsOf u) (once-all K u k) (withinOf i) (withinOf j) (same (withinOf i) .0 (constraints-in t (withinOf i) m)) (constraints-in u (withinOf j) n)
+        meet-cong i j s (once-lone K (conjunctsOf u) (once-all K u k) (withinOf i) (withinOf j)
+        (same (withinOf i) .0 (constraints-in t (withinOf i) m)) (constraints-in u (withinOf j) n)
         (subst (λ (z : ℕ). T (isFunctionalFeature K z)) (sym e) t₁) (omega arith))
     go _ _ (met i t₁ m e) (alone a) =
         absurd (all-at (a t₁) (in-constraints u (i .feature) (i .lo) (i .hi) (same (withinOf i) .0 (constraints-in t (withinOf i) m))) (omega arith))
@@ -241,8 +251,10 @@ module _ (K : Vocabulary) (t u : Form) (h : Tidy K t) (k : Tidy K u) (e : spelli
   role-same r c d grow =
       spelling-same (addOne K (reaches r c) t) (addOne K (reaches r d) u)
       (placed-same (isFunctionalRole K r) (r + r + 2) (placed K (reaches r c) t h) (placed K (reaches r d) u k)
-      (ap (λ (z : Chain). reaches r z) (grow (startAt (isFunctionalRole K r) r (bare (ranges K r)) (t .successors)) (startAt (isFunctionalRole K r) r (bare (ranges K r)) (u .successors))
-      (tidy-start K (isFunctionalRole K r) r (ranges K r) (t .successors) (h .successors)) (tidy-start K (isFunctionalRole K r) r (ranges K r) (u .successors) (k .successors))
+      (ap (λ (z : Chain). reaches r z)
+      (grow (startAt (isFunctionalRole K r) r (bare (ranges K r)) (t .successors)) (startAt (isFunctionalRole K r) r (bare (ranges K r)) (u .successors))
+      (tidy-start K (isFunctionalRole K r) r (ranges K r) (t .successors) (h .successors))
+      (tidy-start K (isFunctionalRole K r) r (ranges K r) (u .successors) (k .successors))
       (start-same K r (bare (ranges K r)) t u h k (spelling-inv t u e)))) (spelling-inv t u e))
 
 pub add-same : (K : Vocabulary) (c : Chain) (t u : Form) → Tidy K t → Tidy K u → spelling t ≡ spelling u → spelling (add K c t) ≡ spelling (add K c u)
@@ -254,4 +266,5 @@ add-same K (some r child next) t u h k e =
     add-same K next (addOne K (reaches r child) t) (addOne K (reaches r child) u) (tidy-addOne K (reaches r child) t h) (tidy-addOne K (reaches r child) u k)
     (role-same K t u h k e r child child (add-same K child))
 add-same K (interval f lo hi next) t u h k e =
-    add-same K next (addOne K (within f lo hi) t) (addOne K (within f lo hi) u) (tidy-addOne K (within f lo hi) t h) (tidy-addOne K (within f lo hi) u k) (constraint-same K t u h k e f lo hi)
+    add-same K next (addOne K (within f lo hi) t) (addOne K (within f lo hi) u) (tidy-addOne K (within f lo hi) t h)
+    (tidy-addOne K (within f lo hi) u k) (constraint-same K t u h k e f lo hi)

@@ -38,11 +38,13 @@ module _ (N R F : ℕ) where
 
   -- ---- a normal form
 
-  constraint-named : (b : Bool) (s : Constraint) → Name F (s .feature) → (l : List Constraint) → All (λ x. Name F (x .feature)) l → All (λ x. Name F (x .feature)) (placeConstraint b s l)
+  constraint-named : (b : Bool) (s : Constraint) → Name F (s .feature) → (l : List Constraint) → All (λ x. Name F (x .feature)) l →
+      All (λ x. Name F (x .feature)) (placeConstraint b s l)
   constraint-named b s n [] h = cons {x = s} n nil
   constraint-named b s n (t ∷ l) h = go (b && eqb (t .feature) (s .feature)) (constraint-named b s n l (tail h))
     where
-      go : (z : Bool) → All (λ x. Name F (x .feature)) (placeConstraint b s l) → All (λ x. Name F (x .feature)) (cond z (meet t s ∷ l) (t ∷ placeConstraint b s l))
+      go : (z : Bool) → All (λ x. Name F (x .feature)) (placeConstraint b s l) →
+          All (λ x. Name F (x .feature)) (cond z (meet t s ∷ l) (t ∷ placeConstraint b s l))
       go true r = cons {x = meet t s} (head h) (tail h)
       go false r = cons {x = t} (head h) r
 
@@ -60,7 +62,8 @@ module _ (N R F : ℕ) where
     add-named : (c : Chain) → NamedChain N R F c → (t : Form) → NamedForm t → NamedForm (add K c t)
     add-named end n t h = h
     add-named (class a next) n t h =
-        add-named next (n .1) (withClass a t) (record { node = record { classes = cons (n .0) (h .node .classes); constraints = h .node .constraints }; successors = h .successors })
+        add-named next (n .1) (withClass a t)
+        (record { node = record { classes = cons (n .0) (h .node .classes); constraints = h .node .constraints }; successors = h .successors })
     add-named (impossible next) n t h = add-named next n t h
     add-named (some r child next) n t h =
         add-named next (n .2) (withSuccessor K r (add K child) t) (record {
@@ -72,7 +75,11 @@ module _ (N R F : ℕ) where
     add-named (interval f lo hi next) n t h =
         let s : Constraint = record { feature = f; lo = lo; hi = hi } in
         add-named next (n .1) (withConstraint K s t) (record {
-          node = record { classes = h .node .classes; constraints = constraint-named (isFunctionalFeature K f) s (n .0) (t .node .constraints) (h .node .constraints) };
+          node = record {
+            classes = h .node .classes;
+            constraints = constraint-named (isFunctionalFeature K f) s (n .0) (t .node .constraints)
+                (h .node .constraints);
+          };
           successors = h .successors;
         })
 
@@ -98,17 +105,21 @@ module _ (N R F : ℕ) where
   roles-named : (ks : Successors) → NamedBelow ks → All NamedOne (rolesOf ks)
   roles-named none h = nil
   roles-named (successor r n under next) h =
-      cons {x = reaches r (putInOrder (stated n (rolesOf under)))} (h .0, putInOrder-named (stated n (rolesOf under)) (stated-named n (rolesOf under) (h .1) (roles-named under (h .2)))) (roles-named next (h .3))
+      cons {x = reaches r (putInOrder (stated n (rolesOf under)))}
+      (h .0, putInOrder-named (stated n (rolesOf under)) (stated-named n (rolesOf under) (h .1) (roles-named under (h .2)))) (roles-named next (h .3))
 
   pub term-named : (K : Vocabulary) → ((r c : ℕ) → c ∈ ranges K r → Name N c) → (p : Chain) → NamedChain N R F p → NamedChain N R F (spelledTerm K p)
   unfolding spelledTerm spelling normalForm
   term-named K ranged p n =
       let h = add-named K ranged p n (bare []) (record { node = record { classes = nil; constraints = nil }; successors = tt }) in
-      putInOrder-named (conjunctsOf (normalForm K p)) (stated-named (normalForm K p .node) (rolesOf (normalForm K p .successors)) (h .node) (roles-named (normalForm K p .successors) (h .successors)))
+      putInOrder-named (conjunctsOf (normalForm K p))
+      (stated-named (normalForm K p .node) (rolesOf (normalForm K p .successors)) (h .node) (roles-named (normalForm K p .successors) (h .successors)))
 
 -- of an accepted policy
 pub spelled-named : (v p : List ℕ) → vocabularyRefusal v ≡ 0 → policyRefusal v p ≡ 0 → All (ChainOf v) (spelled (vocabularyOf v) (policyOf p))
 spelled-named v p a b =
     all-of (spelled (vocabularyOf v) (policyOf p)) (λ c m.
     let t = term-of (vocabularyOf v) (policyOf p) c m in
-    subst (ChainOf v) (sym (t .3)) (term-named (classCount v) (roleCount v) (featureCount v) (vocabularyOf v) (λ r c m. all-stated (vocabularyOf v) (accepted-axioms v a) .ranged r c m .1) (t .0) (all-at (accepted-terms v p b) (t .1))))
+    subst (ChainOf v) (sym (t .3))
+    (term-named (classCount v) (roleCount v) (featureCount v) (vocabularyOf v)
+    (λ r c m. all-stated (vocabularyOf v) (accepted-axioms v a) .ranged r c m .1) (t .0) (all-at (accepted-terms v p b) (t .1))))

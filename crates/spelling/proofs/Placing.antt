@@ -1,4 +1,4 @@
--- What adding one conjunct does to the conjuncts of a normal form: one takes its place, and where its name is functional the one that stood for it goes.
+-- What adding one conjunct does to a normal form's conjuncts: it takes its place, and one of the same functional name goes.
 use Prim.Native.Nat.{_+_, ℕ}
 use mathlib.Core.Bool.{Bool, _&&_, cond, false, true}
 use mathlib.Core.List.{List, [], _++_, _∷_, map}
@@ -86,13 +86,15 @@ module _ (b : Bool) (s : ℕ) (new : Conjunct) where
   placed-behind : {l m : List Conjunct} (front : List Conjunct) → All (Free b s) front → Placed b s new l m → Placed b s new (front ++ l) (front ++ m)
   placed-behind {l} {m} front a p x = (
     λ h. ⊎-elim (λ w. inr (any-left l w, all-at a w)) (λ w. ⊎-elim (λ e. inl e) (λ v. inr (any-right front (v .0), v .1)) (p x .0 w)) (any-append front _ h),
-    λ h. ⊎-elim (λ e. any-right front (p x .1 (inl e))) (λ w. ⊎-elim (λ v. any-left m v) (λ v. any-right front (p x .1 (inr (v, w .1)))) (any-append front _ (w .0))) h,
+    λ h. ⊎-elim (λ e. any-right front (p x .1 (inl e)))
+        (λ w. ⊎-elim (λ v. any-left m v) (λ v. any-right front (p x .1 (inr (v, w .1)))) (any-append front _ (w .0))) h,
   )
 
   placed-before : {l m : List Conjunct} (back : List Conjunct) → All (Free b s) back → Placed b s new l m → Placed b s new (l ++ back) (m ++ back)
   placed-before {l} {m} back a p x = (
     λ h. ⊎-elim (λ w. ⊎-elim (λ e. inl e) (λ v. inr (any-left back (v .0), v .1)) (p x .0 w)) (λ w. inr (any-right l w, all-at a w)) (any-append m _ h),
-    λ h. ⊎-elim (λ e. any-left back (p x .1 (inl e))) (λ w. ⊎-elim (λ v. any-left back (p x .1 (inr (v, w .1)))) (λ v. any-right m v) (any-append l _ (w .0))) h,
+    λ h. ⊎-elim (λ e. any-left back (p x .1 (inl e)))
+        (λ w. ⊎-elim (λ v. any-left back (p x .1 (inr (v, w .1)))) (λ v. any-right m v) (any-append l _ (w .0))) h,
   )
 
 -- ---- the parts of a form
@@ -129,8 +131,10 @@ puts-constraint K s (t ∷ l) d = go (b && eqb (t .feature) (s .feature)) refl (
     b : Bool
     b = isFunctionalFeature K (s .feature)
 
-    go : (z : Bool) → (b && eqb (t .feature) (s .feature)) ≡ z → Puts b (s .feature + s .feature + 1) (withinOf (meetAt b s l)) (map withinOf l) (map withinOf (placeConstraint b s l)) →
-        Puts b (s .feature + s .feature + 1) (withinOf (cond z (meet t s) (meetAt b s l))) (withinOf t ∷ map withinOf l) (map withinOf (cond z (meet t s ∷ l) (t ∷ placeConstraint b s l)))
+    go : (z : Bool) → (b && eqb (t .feature) (s .feature)) ≡ z →
+        Puts b (s .feature + s .feature + 1) (withinOf (meetAt b s l)) (map withinOf l) (map withinOf (placeConstraint b s l)) →
+        Puts b (s .feature + s .feature + 1) (withinOf (cond z (meet t s) (meetAt b s l))) (withinOf t ∷ map withinOf l)
+        (map withinOf (cond z (meet t s ∷ l) (t ∷ placeConstraint b s l)))
     go true e p =
         let w = T-and b (eqb (t .feature) (s .feature)) (subst T (sym e) tt) in
         let q : t .feature ≡ s .feature = eqb→eq (t .feature) (s .feature) (w .1) in
@@ -150,6 +154,7 @@ pub other-roles : (r : ℕ) (ks : Successors) → Fresh r ks → All (λ x. slot
 other-roles r none h = nil
 other-roles r (successor q n under next) h = cons {x = reaches q (putInOrder (stated n (rolesOf under)))} (λ e. h .0 (omega arith)) (other-roles r next (h .1))
 
+-- normal, with no bound on the classes
 abbrev pub Tidy : Vocabulary → Form → Type 0
 Tidy K t = Normal (λ c. Unit {0}) K t
 
@@ -166,17 +171,20 @@ puts-successor K r fresh grow (successor q n under next) h = go (b && eqb r q) r
     b : Bool
     b = isFunctionalRole K r
 
-    go : (z : Bool) → (b && eqb r q) ≡ z → Puts b (r + r + 2) (reaches r (spelling (grow (startAt b r fresh next)))) (rolesOf next) (rolesOf (placeSuccessor b r fresh grow next)) →
+    go : (z : Bool) → (b && eqb r q) ≡ z →
+        Puts b (r + r + 2) (reaches r (spelling (grow (startAt b r fresh next)))) (rolesOf next) (rolesOf (placeSuccessor b r fresh grow next)) →
         Puts b (r + r + 2) (reaches r (spelling (grow (cond z (record { node = n; successors = under }) (startAt b r fresh next)))))
         (reaches q (spelling (record { node = n; successors = under })) ∷ rolesOf next)
         (rolesOf (cond z (graft q (grow (record { node = n; successors = under })) next) (successor q n under (placeSuccessor b r fresh grow next))))
     go true e p =
         let w = T-and b (eqb r q) (subst T (sym e) tt) in
         let i : r ≡ q = eqb→eq r q (w .1) in
-        subst (λ (z : ℕ). Puts b (r + r + 2) (reaches r (spelling (grow (record { node = n; successors = under })))) (reaches q (spelling (record { node = n; successors = under })) ∷ rolesOf next)
+        subst (λ (z : ℕ). Puts b (r + r + 2) (reaches r (spelling (grow (record { node = n; successors = under }))))
+        (reaches q (spelling (record { node = n; successors = under })) ∷ rolesOf next)
         (reaches z (spelling (grow (record { node = n; successors = under }))) ∷ rolesOf next)) i
         (atThis {y = reaches q (putInOrder (stated n (rolesOf under)))} (w .0) (omega arith)
-        (subst (λ (z : ℕ). All (λ x. slot x ≡ z + z + 2 → ⊥) (rolesOf next)) (sym i) (other-roles q next (h .0 (subst (λ (z : ℕ). T (isFunctionalRole K z)) i (w .0))))))
+        (subst (λ (z : ℕ). All (λ x. slot x ≡ z + z + 2 → ⊥) (rolesOf next)) (sym i)
+        (other-roles q next (h .0 (subst (λ (z : ℕ). T (isFunctionalRole K z)) i (w .0))))))
     go false e p = further {y = reaches q (putInOrder (stated n (rolesOf under)))} (λ u v. notTrue e (and-T b (eqb r q) u (eqb-of r q (omega arith)))) p
 
 -- ---- one step
@@ -200,18 +208,23 @@ new-slot K (isIn a) t = refl
 new-slot K (within f lo hi) t = let e = meet-feature (isFunctionalFeature K f) (record { feature = f; lo = lo; hi = hi }) (t .node .constraints) in omega arith
 new-slot K (reaches r child) t = refl
 
-pub placed : (K : Vocabulary) (x : Conjunct) (t : Form) → Tidy K t → Placed (isFunctional K x) (slot x) (newOf K x t) (conjunctsOf t) (conjunctsOf (addOne K x t))
+pub placed : (K : Vocabulary) (x : Conjunct) (t : Form) → Tidy K t →
+    Placed (isFunctional K x) (slot x) (newOf K x t) (conjunctsOf t) (conjunctsOf (addOne K x t))
 placed K (isIn a) t h = λ x. (
   λ m. ⊎-elim (λ e. inl e) (λ w. inr (w, λ u. absurd u)) (any-cases m),
   λ m. ⊎-elim (λ e. here e) (λ w. there (w .0)) m,
 )
 placed K (within f lo hi) t h =
-    placed-behind (isFunctionalFeature K f) _ _ (map isIn (t .node .classes)) (all-of (map isIn (t .node .classes)) (λ x m u v. let e = all-at (classes-slots (t .node .classes)) m in omega arith))
-    (placed-before (isFunctionalFeature K f) _ _ (rolesOf (t .successors)) (all-of (rolesOf (t .successors)) (λ x m u v. let e = all-at (roles-slots (t .successors)) m in omega arith))
+    placed-behind (isFunctionalFeature K f) _ _ (map isIn (t .node .classes))
+    (all-of (map isIn (t .node .classes)) (λ x m u v. let e = all-at (classes-slots (t .node .classes)) m in omega arith))
+    (placed-before (isFunctionalFeature K f) _ _ (rolesOf (t .successors))
+    (all-of (rolesOf (t .successors)) (λ x m u v. let e = all-at (roles-slots (t .successors)) m in omega arith))
     (puts-placed (puts-constraint K (record { feature = f; lo = lo; hi = hi }) (t .node .constraints) (h .node .distinct))))
 placed K (reaches r child) t h =
-    placed-behind (isFunctionalRole K r) _ _ (map isIn (t .node .classes)) (all-of (map isIn (t .node .classes)) (λ x m u v. let e = all-at (classes-slots (t .node .classes)) m in omega arith))
-    (placed-behind (isFunctionalRole K r) _ _ (map withinOf (t .node .constraints)) (all-of (map withinOf (t .node .constraints)) (λ x m u v. let e = all-at (constraints-slots (t .node .constraints)) m in omega arith))
+    placed-behind (isFunctionalRole K r) _ _ (map isIn (t .node .classes))
+    (all-of (map isIn (t .node .classes)) (λ x m u v. let e = all-at (classes-slots (t .node .classes)) m in omega arith))
+    (placed-behind (isFunctionalRole K r) _ _ (map withinOf (t .node .constraints))
+    (all-of (map withinOf (t .node .constraints)) (λ x m u v. let e = all-at (constraints-slots (t .node .constraints)) m in omega arith))
     (puts-placed (puts-successor K r (bare (ranges K r)) (add K child) (t .successors) (h .successors))))
 
 -- ---- forms stay tidy

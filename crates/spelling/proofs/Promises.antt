@@ -1,4 +1,4 @@
--- What Spell promises, a sentence a theorem: of the words of a spelling, and of what the operation answers and writes, whatever its slices hold.
+-- What Spell promises, a sentence a theorem: of the words of a spelling, and of what the operation answers, whatever its slices hold.
 use Prim.Native.Nat.{_≤_, ℕ}
 use mathlib.Core.Bool.{Bool, _||_, false, true}
 use mathlib.Core.List.{List, [], _∷_}
@@ -123,7 +123,7 @@ abbrev pub Wrote : List ℕ → List ℕ → ℕ → ℕ → ℕ → Type 0
 Wrote v p w o n = spell v p w o .answer ≡ result (wrote n)
 
 -- nothing was refused
-record Written (v p : List ℕ) (o n : ℕ) (r : Outcome FillingResult) : Type 0 where
+record Unrefused (v p : List ℕ) (o n : ℕ) (r : Outcome FillingResult) : Type 0 where
   vocabulary : vocabularyRefusal v ≡ 0
   policy : policyRefusal v p ≡ 0
   short : tooLong (spelled (vocabularyOf v) (policyOf p)) ≡ false
@@ -131,15 +131,15 @@ record Written (v p : List ℕ) (o n : ℕ) (r : Outcome FillingResult) : Type 0
   number : n ≡ length (r .words)
   fits : n ≤ o
 
-written-of : {v p : List ℕ} {w o n : ℕ} (r : Outcome FillingResult) → Told v p w o r → r .answer ≡ result (wrote n) → Written v p o n r
-written-of r (refuses-it k) e = absurd (let z : _≡_ {A = ℕ} 0 1 = cc in omega arith)
-written-of {v} {p} {n = n} r (writes-it a b c t l) e =
+unrefused : {v p : List ℕ} {w o n : ℕ} (r : Outcome FillingResult) → Told v p w o r → r .answer ≡ result (wrote n) → Unrefused v p o n r
+unrefused r (refuses-it k) e = absurd (let z : _≡_ {A = ℕ} 0 1 = cc in omega arith)
+unrefused {v} {p} {n = n} r (writes-it a b c t l) e =
     let z : n ≡ length (spellingWords v p) = cc in
     record { vocabulary = a; policy = b; short = t; whole = refl; number = z; fits = omega arith }
 
 module _ (v p : List ℕ) (w o n : ℕ) (e : Wrote v p w o n) where
-  told : Written v p o n (spell v p w o)
-  told = written-of (spell v p w o) (spell-told v p w o) e
+  told : Unrefused v p o n (spell v p w o)
+  told = unrefused (spell v p w o) (spell-told v p w o) e
 
   pub spell-whole : spell v p w o .words ≡ spellingWords v p
   spell-whole = told .whole

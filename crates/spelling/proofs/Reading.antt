@@ -62,7 +62,8 @@ module _ (p : List ℕ) (k : ℕ) where
     pub nextIs : nextOf p k ≡ next
     pub rest : drop (6 * suc k) p ≡ l
 
-  pub written-at : {kind a lo hi child next : ℕ} {l : List ℕ} → drop (6 * k) p ≡ kind ∷ (a ∷ (lo ∷ (hi ∷ (child ∷ (next ∷ l))))) → Written kind a lo hi child next l
+  pub written-at : {kind a lo hi child next : ℕ} {l : List ℕ} → drop (6 * k) p ≡ kind ∷ (a ∷ (lo ∷ (hi ∷ (child ∷ (next ∷ l))))) →
+      Written kind a lo hi child next l
   written-at e = record {
     kindIs = rw add-zero at (word-at 6 p k e 0);
     nameIs = word-at 6 p k e 1;
@@ -120,7 +121,8 @@ module _ (p : List ℕ) where
   reads-chain k (impossible next) l h g e =
       let w = written-at p k e in
       let r = reads-chain (suc k) next l (omega arith) (omega arith) (w .rest) in
-      reads-impossible (here-at k (w .childIs) (w .nextIs) (h, omega arith) (inl refl) (chain-onward last (suc k) k next (omega arith) (omega arith))) (w .kindIs)
+      reads-impossible (here-at k (w .childIs) (w .nextIs) (h, omega arith) (inl refl)
+      (chain-onward last (suc k) k next (omega arith) (omega arith))) (w .kindIs)
       (subst (λ (z : ℕ). Reads p z next) (sym (w .nextIs)) r)
   reads-chain k (some r child next) l h g e =
       let w = written-at p k e in
@@ -128,14 +130,16 @@ module _ (p : List ℕ) where
       let q = reads-chain (suc k) child more (omega arith) (omega arith) (w .rest) in
       let s = reads-chain (suc k + count child) next l (omega arith) (omega arith) (behind p (suc k) child more (w .rest)) in
       subst (λ (z : ℕ). Reads p k (some z child next)) (w .nameIs)
-      (reads-some (here-at k (w .childIs) (w .nextIs) (h, omega arith) (chain-onward last (suc k) k child (omega arith) (omega arith)) (chain-onward last (suc k + count child) k next (omega arith) (omega arith)))
+      (reads-some (here-at k (w .childIs) (w .nextIs) (h, omega arith) (chain-onward last (suc k) k child (omega arith) (omega arith))
+      (chain-onward last (suc k + count child) k next (omega arith) (omega arith)))
       (w .kindIs) (subst (λ (z : ℕ). Reads p z child) (sym (w .childIs)) q) (subst (λ (z : ℕ). Reads p z next) (sym (w .nextIs)) s))
   reads-chain k (interval f lo hi next) l h g e =
       let w = written-at p k e in
       let r = reads-chain (suc k) next l (omega arith) (omega arith) (w .rest) in
       let x : interval (nameOf p k) (loOf p k) (hiOf p k) next ≡ interval f lo hi next = cc in
       subst (λ (z : Chain). Reads p k z) x
-      (reads-interval (here-at k (w .childIs) (w .nextIs) (h, omega arith) (inl refl) (chain-onward last (suc k) k next (omega arith) (omega arith))) (w .kindIs)
+      (reads-interval (here-at k (w .childIs) (w .nextIs) (h, omega arith) (inl refl) (chain-onward last (suc k) k next (omega arith) (omega arith)))
+      (w .kindIs)
       (subst (λ (z : ℕ). Reads p z next) (sym (w .nextIs)) r))
 
   reads-terms : (k : ℕ) (P : Policy) → 1 ≤ k → k + total P ≤ suc last → drop (6 * k) p ≡ termWords k P → ReadsTerms p (linkTo k P) P
@@ -145,7 +149,8 @@ module _ (p : List ℕ) where
       let more = termWords (suc k + count c) P in
       let q = reads-chain (suc k) c more (omega arith) (omega arith) (w .rest) in
       let s = reads-terms (suc k + count c) P (omega arith) (omega arith) (behind p (suc k) c more (w .rest)) in
-      reads-term (here-at k (w .childIs) (w .nextIs) (h, omega arith) (chain-onward last (suc k) k c (omega arith) (omega arith)) (term-onward last (suc k + count c) k P (omega arith) (omega arith)))
+      reads-term (here-at k (w .childIs) (w .nextIs) (h, omega arith) (chain-onward last (suc k) k c (omega arith) (omega arith))
+      (term-onward last (suc k + count c) k P (omega arith) (omega arith)))
       (w .kindIs, w .nameIs) (subst (λ (z : ℕ). Reads p z c) (sym (w .childIs)) q) (subst (λ (z : ℕ). ReadsTerms p z P) (sym (w .nextIs)) s)
 
 -- the policy that is read is the one written
@@ -198,7 +203,8 @@ module _ (v p : List ℕ) where
   no-fuel d k i n seen a h = record { seen = seen; ends = refl; below = more-below h a }
 
   -- what a record is, by its kind
-  class-fits : (d k : ℕ) {a next : ℕ} {l : List ℕ} → Written p k 1 a 0 0 0 next l → Name (classCount v) a → Onward (lastOf 6 p) k next → soundRecord v p (suc d) k ≡ true
+  class-fits : (d k : ℕ) {a next : ℕ} {l : List ℕ} → Written p k 1 a 0 0 0 next l → Name (classCount v) a → Onward (lastOf 6 p) k next →
+      soundRecord v p (suc d) k ≡ true
   class-fits d k w n o =
       simp (eqb·suc-zero, w .kindIs, w .nameIs, w .loIs, w .hiIs, w .childIs, w .nextIs, tests) ((n, (refl, (refl, refl))), (inl refl, o))
 
@@ -206,32 +212,38 @@ module _ (v p : List ℕ) where
   impossible-fits d k w o =
       simp (eqb·suc-zero, w .kindIs, w .nameIs, w .loIs, w .hiIs, w .childIs, w .nextIs, tests) ((refl, (refl, (refl, refl))), (inl refl, o))
 
-  some-fits : (d k : ℕ) {r child next : ℕ} {l : List ℕ} → Written p k 3 r 0 0 child next l → Name (roleCount v) r → Onward (lastOf 6 p) k child → Onward (lastOf 6 p) k next →
+  some-fits : (d k : ℕ) {r child next : ℕ} {l : List ℕ} → Written p k 3 r 0 0 child next l → Name (roleCount v) r → Onward (lastOf 6 p) k child →
+      Onward (lastOf 6 p) k next →
       soundRecord v p (suc d) k ≡ true
   some-fits d k w n q o = simp (eqb·suc-zero, w .kindIs, w .nameIs, w .loIs, w .hiIs, w .childIs, w .nextIs, tests) ((n, (refl, refl)), (q, o))
 
-  interval-fits : (d k : ℕ) {f lo hi next : ℕ} {l : List ℕ} → Written p k 4 f lo hi 0 next l → Name (featureCount v) f → Onward (lastOf 6 p) k next → soundRecord v p (suc d) k ≡ true
+  interval-fits : (d k : ℕ) {f lo hi next : ℕ} {l : List ℕ} → Written p k 4 f lo hi 0 next l → Name (featureCount v) f → Onward (lastOf 6 p) k next →
+      soundRecord v p (suc d) k ≡ true
   interval-fits d k w n o = simp (eqb·suc-zero, w .kindIs, w .nameIs, w .loIs, w .hiIs, w .childIs, w .nextIs, tests) ((refl, (n, refl)), (inl refl, o))
 
-  term-fits : (k : ℕ) {child next : ℕ} {l : List ℕ} → Written p k 5 0 0 0 child next l → Onward (lastOf 6 p) k child → Onward (lastOf 6 p) k next → soundRecord v p 0 k ≡ true
+  term-fits : (k : ℕ) {child next : ℕ} {l : List ℕ} → Written p k 5 0 0 0 child next l → Onward (lastOf 6 p) k child → Onward (lastOf 6 p) k next →
+      soundRecord v p 0 k ≡ true
   term-fits k w q o = simp (w .kindIs, w .nameIs, w .loIs, w .hiIs, w .childIs, w .nextIs, tests) ((refl, (refl, (refl, refl))), (q, o))
 
   -- a chain that is written from record k on, at depth d + 1
-  chain-walk : (c : Chain) (f d k m : ℕ) (seen l : List ℕ) → 1 ≤ k → k + count c ≤ suc (lastOf 6 p) → drop (6 * k) p ≡ chainWords k c l → ChainOf v c → depth c + suc d ≤ suc mostDepth →
+  chain-walk : (c : Chain) (f d k m : ℕ) (seen l : List ℕ) → 1 ≤ k → k + count c ≤ suc (lastOf 6 p) → drop (6 * k) p ≡ chainWords k c l →
+      ChainOf v c → depth c + suc d ≤ suc mostDepth →
       All (λ j. j < k) seen → k + count c ≤ m → Reaches m (walk f v p (suc d) (chainLink k c) seen)
   chain-walk end f d k m seen l h g e n s a b = still f (suc d) k m seen a (omega arith)
   chain-walk (class x next) zero d k m seen l h g e n s a b = no-fuel (suc d) k k m seen a (omega arith)
   chain-walk (class x next) (suc f) d k m seen l h g e n s a b =
       let w = written-at p k e in
       let o = chain-onward (lastOf 6 p) (suc k) k next (omega arith) (omega arith) in
-      walk-on f (suc d) k 0 (chainLink (suc k) next) seen (w .childIs) (w .nextIs) h a (class-fits d k w (n .0) o) (ne-eqb (suc d) (suc mostDepth) (λ z. omega arith))
+      walk-on f (suc d) k 0 (chainLink (suc k) next) seen (w .childIs) (w .nextIs) h a (class-fits d k w (n .0) o)
+      (ne-eqb (suc d) (suc mostDepth) (λ z. omega arith))
       (still f (suc (suc d)) (suc k) (suc k) (k ∷ seen) (cons {x = k} (omega arith) (more-below (omega arith) a)) (omega arith))
       (λ t c. chain-walk next f d (suc k) m t l (omega arith) (omega arith) (w .rest) (n .1) (omega arith) c (omega arith))
   chain-walk (impossible next) zero d k m seen l h g e n s a b = no-fuel (suc d) k k m seen a (omega arith)
   chain-walk (impossible next) (suc f) d k m seen l h g e n s a b =
       let w = written-at p k e in
       let o = chain-onward (lastOf 6 p) (suc k) k next (omega arith) (omega arith) in
-      walk-on f (suc d) k 0 (chainLink (suc k) next) seen (w .childIs) (w .nextIs) h a (impossible-fits d k w o) (ne-eqb (suc d) (suc mostDepth) (λ z. omega arith))
+      walk-on f (suc d) k 0 (chainLink (suc k) next) seen (w .childIs) (w .nextIs) h a (impossible-fits d k w o)
+      (ne-eqb (suc d) (suc mostDepth) (λ z. omega arith))
       (still f (suc (suc d)) (suc k) (suc k) (k ∷ seen) (cons {x = k} (omega arith) (more-below (omega arith) a)) (omega arith))
       (λ t c. chain-walk next f d (suc k) m t l (omega arith) (omega arith) (w .rest) (n) (omega arith) c (omega arith))
   chain-walk (some r child next) zero d k m seen l h g e n s a b = no-fuel (suc d) k k m seen a (omega arith)
@@ -240,18 +252,23 @@ module _ (v p : List ℕ) where
       let more = chainWords (suc k + count child) next l in
       let q = chain-onward (lastOf 6 p) (suc k) k child (omega arith) (omega arith) in
       let o = chain-onward (lastOf 6 p) (suc k + count child) k next (omega arith) (omega arith) in
-      walk-on f (suc d) k (chainLink (suc k) child) (chainLink (suc k + count child) next) seen (w .childIs) (w .nextIs) h a (some-fits d k w (n .0) q o) (ne-eqb (suc d) (suc mostDepth) (λ z. omega arith))
-      (chain-walk child f (suc d) (suc k) (suc k + count child) (k ∷ seen) more (omega arith) (omega arith) (w .rest) (n .1) (omega arith) (cons {x = k} (omega arith) (more-below (omega arith) a)) (omega arith))
-      (λ t c. chain-walk next f d (suc k + count child) m t l (omega arith) (omega arith) (behind p (suc k) child more (w .rest)) (n .2) (omega arith) c (omega arith))
+      walk-on f (suc d) k (chainLink (suc k) child) (chainLink (suc k + count child) next) seen (w .childIs) (w .nextIs) h a
+      (some-fits d k w (n .0) q o) (ne-eqb (suc d) (suc mostDepth) (λ z. omega arith))
+      (chain-walk child f (suc d) (suc k) (suc k + count child) (k ∷ seen) more (omega arith) (omega arith) (w .rest) (n .1) (omega arith)
+      (cons {x = k} (omega arith) (more-below (omega arith) a)) (omega arith))
+      (λ t c. chain-walk next f d (suc k + count child) m t l (omega arith) (omega arith) (behind p (suc k) child more (w .rest)) (n .2)
+      (omega arith) c (omega arith))
   chain-walk (interval x lo hi next) zero d k m seen l h g e n s a b = no-fuel (suc d) k k m seen a (omega arith)
   chain-walk (interval x lo hi next) (suc f) d k m seen l h g e n s a b =
       let w = written-at p k e in
       let o = chain-onward (lastOf 6 p) (suc k) k next (omega arith) (omega arith) in
-      walk-on f (suc d) k 0 (chainLink (suc k) next) seen (w .childIs) (w .nextIs) h a (interval-fits d k w (n .0) o) (ne-eqb (suc d) (suc mostDepth) (λ z. omega arith))
+      walk-on f (suc d) k 0 (chainLink (suc k) next) seen (w .childIs) (w .nextIs) h a (interval-fits d k w (n .0) o)
+      (ne-eqb (suc d) (suc mostDepth) (λ z. omega arith))
       (still f (suc (suc d)) (suc k) (suc k) (k ∷ seen) (cons {x = k} (omega arith) (more-below (omega arith) a)) (omega arith))
       (λ t c. chain-walk next f d (suc k) m t l (omega arith) (omega arith) (w .rest) (n .1) (omega arith) c (omega arith))
 
-  terms-walk : (P : Policy) (f k m : ℕ) (seen : List ℕ) → 1 ≤ k → k + total P ≤ suc (lastOf 6 p) → drop (6 * k) p ≡ termWords k P → All (ChainOf v) P → All (λ c. depth c ≤ mostDepth) P →
+  terms-walk : (P : Policy) (f k m : ℕ) (seen : List ℕ) → 1 ≤ k → k + total P ≤ suc (lastOf 6 p) → drop (6 * k) p ≡ termWords k P →
+      All (ChainOf v) P → All (λ c. depth c ≤ mostDepth) P →
       All (λ j. j < k) seen → k + total P ≤ m → Reaches m (walk f v p 0 (linkTo k P) seen)
   terms-walk [] f k m seen h g e n s a b = still f 0 k m seen a (omega arith)
   terms-walk (c ∷ P) zero k m seen h g e n s a b = no-fuel 0 k k m seen a (omega arith)
@@ -262,11 +279,13 @@ module _ (v p : List ℕ) where
       let q = chain-onward (lastOf 6 p) (suc k) k c (omega arith) (omega arith) in
       let o = term-onward (lastOf 6 p) (suc k + count c) k P (omega arith) (omega arith) in
       walk-on f 0 k (chainLink (suc k) c) (linkTo (suc k + count c) P) seen (w .childIs) (w .nextIs) h a (term-fits k w q o) refl
-      (chain-walk c f 0 (suc k) (suc k + count c) (k ∷ seen) more (omega arith) (omega arith) (w .rest) (head n) (omega arith) (cons {x = k} (omega arith) (more-below (omega arith) a)) (omega arith))
+      (chain-walk c f 0 (suc k) (suc k + count c) (k ∷ seen) more (omega arith) (omega arith) (w .rest) (head n) (omega arith)
+      (cons {x = k} (omega arith) (more-below (omega arith) a)) (omega arith))
       (λ t i. terms-walk P f (suc k + count c) m t (omega arith) (omega arith) (behind p (suc k) c more (w .rest)) (tail n) (tail s) i (omega arith))
 
--- names in range, at most 512 records, at most 16 levels
-pub policy-words-accepted : (v : List ℕ) (P : Policy) → All (ChainOf v) P → total P ≤ mostRecords → All (λ c. depth c ≤ mostDepth) P → policyRefusal v (policyWords P) ≡ 0
+-- with names of their series, and no more records and levels than a policy may have
+pub policy-words-accepted : (v : List ℕ) (P : Policy) → All (ChainOf v) P → total P ≤ mostRecords → All (λ c. depth c ≤ mostDepth) P →
+    policyRefusal v (policyWords P) ≡ 0
 unfolding policyRefusal policyWords
 policy-words-accepted v P n few s =
     let p = policyWords P in

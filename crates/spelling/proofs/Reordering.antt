@@ -32,12 +32,14 @@ add-two K x y c t = add-put K x (put y c) t ∙ add-put K y c (addOne K x t)
 impossible-behind : (K : Vocabulary) (x : Conjunct) (c : Chain) (t : Form) → add K (put x (impossible c)) t ≡ add K (impossible (put x c)) t
 impossible-behind K x c t = add-put K x (impossible c) t ∙ sym (add-put K x c t)
 
-pub reordered-add : (K : Vocabulary) {c d : Chain} → Reordered c d → (t u : Form) → Tidy K t → Tidy K u → spelling t ≡ spelling u → spelling (add K c t) ≡ spelling (add K d u)
+pub reordered-add : (K : Vocabulary) {c d : Chain} → Reordered c d → (t u : Form) → Tidy K t → Tidy K u → spelling t ≡ spelling u →
+    spelling (add K c t) ≡ spelling (add K d u)
 reordered-add K (unmoved c) t u h k e = add-same K c t u h k e
 reordered-add K (swapped x y c) t u h k e =
     add-same K (put x (put y c)) t u h k e
     ∙ ap spelling (add-two K x y c u)
-    ∙ add-same K c (addOne K y (addOne K x u)) (addOne K x (addOne K y u)) (tidy-addOne K y (addOne K x u) (tidy-addOne K x u k)) (tidy-addOne K x (addOne K y u) (tidy-addOne K y u k))
+    ∙ add-same K c (addOne K y (addOne K x u)) (addOne K x (addOne K y u)) (tidy-addOne K y (addOne K x u) (tidy-addOne K x u k))
+    (tidy-addOne K x (addOne K y u) (tidy-addOne K y u k))
     (addOne-swap K y x u k (yields K y x (yields-all K y)))
     ∙ ap spelling (sym (add-two K y x c u))
 reordered-add K (raised x c) t u h k e = add-same K (put x (impossible c)) t u h k e ∙ ap spelling (impossible-behind K x c u)
@@ -49,7 +51,8 @@ reordered-add K (inOrAfterSome r {b = b} {c = c} n m) t u h k e =
     reordered-add K m (addOne K (reaches r b) t) (addOne K (reaches r c) u) (tidy-addOne K (reaches r b) t h) (tidy-addOne K (reaches r c) u k)
     (role-same K t u h k e r b c (λ v w i j q. reordered-add K n v w i j q))
 reordered-add K (afterInterval f lo hi m) t u h k e =
-    reordered-add K m (addOne K (within f lo hi) t) (addOne K (within f lo hi) u) (tidy-addOne K (within f lo hi) t h) (tidy-addOne K (within f lo hi) u k) (constraint-same K t u h k e f lo hi)
+    reordered-add K m (addOne K (within f lo hi) t) (addOne K (within f lo hi) u) (tidy-addOne K (within f lo hi) t h)
+    (tidy-addOne K (within f lo hi) u k) (constraint-same K t u h k e f lo hi)
 reordered-add K (inTurn m n) t u h k e = reordered-add K m t u h k e ∙ reordered-add K n u u k k refl
 
 pub reordered-term : (K : Vocabulary) {c d : Chain} → Reordered c d → spelledTerm K c ≡ spelledTerm K d
@@ -114,7 +117,8 @@ module _ (K : Vocabulary) where
   terms-same (firstTerm {c = c} {d = d} {P = P} {Q = Q} m n) z = go (possible K c) (possible K d) (reordered-possible K m) (terms-same n z)
     where
       go : (a b : Bool) → a ≡ b → (z ∈ terms P) ↔ (z ∈ terms Q) →
-          (z ∈ map (spelledTerm K) (cond a (c ∷ filter (possible K) P) (filter (possible K) P))) ↔ (z ∈ map (spelledTerm K) (cond b (d ∷ filter (possible K) Q) (filter (possible K) Q)))
+          (z ∈ map (spelledTerm K) (cond a (c ∷ filter (possible K) P) (filter (possible K) P))) ↔
+          (z ∈ map (spelledTerm K) (cond b (d ∷ filter (possible K) Q) (filter (possible K) Q)))
       go true true e r = (
         λ h. ⊎-elim (λ i. here (i ∙ reordered-term K m)) (λ w. there (r .0 w)) (any-cases h),
         λ h. ⊎-elim (λ i. here (i ∙ sym (reordered-term K m))) (λ w. there (r .1 w)) (any-cases h),
@@ -125,15 +129,17 @@ module _ (K : Vocabulary) where
   terms-same (swappedTerms c d P) z = (go (possible K c) (possible K d) c d, go (possible K d) (possible K c) d c)
     where
       go : (a b : Bool) (x y : Chain) →
-          z ∈ map (spelledTerm K) (cond a (x ∷ cond b (y ∷ filter (possible K) P) (filter (possible K) P)) (cond b (y ∷ filter (possible K) P) (filter (possible K) P))) →
-          z ∈ map (spelledTerm K) (cond b (y ∷ cond a (x ∷ filter (possible K) P) (filter (possible K) P)) (cond a (x ∷ filter (possible K) P) (filter (possible K) P)))
+          z ∈ map (spelledTerm K) (cond a (x ∷ cond b (y ∷ filter (possible K) P) (filter (possible K) P))
+          (cond b (y ∷ filter (possible K) P) (filter (possible K) P))) →
+          z ∈ map (spelledTerm K) (cond b (y ∷ cond a (x ∷ filter (possible K) P) (filter (possible K) P))
+          (cond a (x ∷ filter (possible K) P) (filter (possible K) P)))
       go true true x y h = ⊎-elim (λ i. there (here i)) (λ w. ⊎-elim (λ i. here i) (λ v. there (there v)) (any-cases w)) (any-cases h)
       go true false x y h = h
       go false true x y h = h
       go false false x y h = h
   terms-same (termsInTurn m n) z = let r = terms-same m z in let s = terms-same n z in (λ h. s .0 (r .0 h), λ h. r .1 (s .1 h))
 
-  -- "reordering conjuncts beforehand changes none"
+  -- the order of conjuncts, at every depth, and of terms changes no spelling
   pub spelling-reordered : {P Q : Policy} → ReorderedTerms P Q → spelled K P ≡ spelled K Q
   unfolding spelled
   spelling-reordered {P} {Q} m = sorted-eq termKey term-apart (terms P) (terms Q) (λ z. terms-same m z)

@@ -28,7 +28,8 @@ meet-twice : (b : Bool) (s : Constraint) (l : List Constraint) → withinOf (mee
 meet-twice b s [] = same-within refl (omega arith) (omega arith)
 meet-twice b s (t ∷ l) = go (b && eqb (t .feature) (s .feature)) (meet-twice b s l)
   where
-    go : (z : Bool) → withinOf (meet (meetAt b s l) s) ≡ withinOf (meetAt b s l) → withinOf (meet (cond z (meet t s) (meetAt b s l)) s) ≡ withinOf (cond z (meet t s) (meetAt b s l))
+    go : (z : Bool) → withinOf (meet (meetAt b s l) s) ≡ withinOf (meetAt b s l) →
+        withinOf (meet (cond z (meet t s) (meetAt b s l)) s) ≡ withinOf (cond z (meet t s) (meetAt b s l))
     go true h = same-within refl (omega arith) (omega arith)
     go false h = h
 
@@ -39,7 +40,9 @@ joined-twice K (within f lo hi) t h k w =
     ap withinOf (meet-joined (isFunctionalFeature K f) s s k refl (t .node .constraints)) ∙ meet-twice (isFunctionalFeature K f) s (t .node .constraints)
 joined-twice K (reaches r c) t h k w =
     ap (λ (x : Form). reaches r (spelling (add K c x))) (start-joined (isFunctionalRole K r) r (bare (ranges K r)) (add K c) k (t .successors))
-    ∙ ap (λ (x : Chain). reaches r x) (w (startAt (isFunctionalRole K r) r (bare (ranges K r)) (t .successors)) (tidy-start K (isFunctionalRole K r) r (ranges K r) (t .successors) (h .successors)))
+    ∙ ap (λ (x : Chain). reaches r x)
+    (w (startAt (isFunctionalRole K r) r (bare (ranges K r)) (t .successors))
+    (tidy-start K (isFunctionalRole K r) r (ranges K r) (t .successors) (h .successors)))
 
 new-twice : (K : Vocabulary) (x : Conjunct) (t : Form) → Tidy K t → Twice K x → newOf K x (addOne K x t) ≡ newOf K x t
 new-twice K x t h w = go (isFunctional K x) refl
@@ -59,12 +62,14 @@ addOne-twice K x t h w =
     ))
 
 -- x, then a chain that may be said twice
-step-twice : (K : Vocabulary) (x : Conjunct) (c : Chain) (t : Form) → Tidy K t → Twice K x → ((v : Form) → Tidy K v → spelling (add K c (add K c v)) ≡ spelling (add K c v)) →
+step-twice : (K : Vocabulary) (x : Conjunct) (c : Chain) (t : Form) → Tidy K t → Twice K x →
+    ((v : Form) → Tidy K v → spelling (add K c (add K c v)) ≡ spelling (add K c v)) →
     spelling (add K c (addOne K x (add K c (addOne K x t)))) ≡ spelling (add K c (addOne K x t))
 step-twice K x c t h w f =
     let u = addOne K x t in
     let tidy = tidy-addOne K x t h in
-    add-same K c (addOne K x (add K c u)) (add K c (addOne K x u)) (tidy-addOne K x (add K c u) (tidy-add K c u tidy)) (tidy-add K c (addOne K x u) (tidy-addOne K x u tidy)) (past K x (yields-all K x) c u tidy)
+    add-same K c (addOne K x (add K c u)) (add K c (addOne K x u)) (tidy-addOne K x (add K c u) (tidy-add K c u tidy))
+    (tidy-add K c (addOne K x u) (tidy-addOne K x u tidy)) (past K x (yields-all K x) c u tidy)
     ∙ f (addOne K x u) (tidy-addOne K x u tidy)
     ∙ add-same K c (addOne K x u) u (tidy-addOne K x u tidy) tidy (addOne-twice K x t h w)
 
@@ -80,11 +85,12 @@ twice-all K (isIn a) = tt
 twice-all K (within f lo hi) = tt
 twice-all K (reaches r c) = add-twice K c
 
--- "Of equal conjuncts .. one stays"; by `Reordered` also where they stand apart
+-- of equal conjuncts one stays; by `Reordered` also where they stand apart
 pub said-twice : (K : Vocabulary) (x : Conjunct) (c : Chain) → spelledTerm K (put x (put x c)) ≡ spelledTerm K (put x c)
 unfolding spelledTerm normalForm
 said-twice K x c =
     ap spelling (add-put K x (put x c) (bare []) ∙ add-put K x c (addOne K x (bare [])))
-    ∙ add-same K c (addOne K x (addOne K x (bare []))) (addOne K x (bare [])) (tidy-addOne K x (addOne K x (bare [])) (tidy-addOne K x (bare []) (tidy-bare K []))) (tidy-addOne K x (bare []) (tidy-bare K []))
+    ∙ add-same K c (addOne K x (addOne K x (bare []))) (addOne K x (bare []))
+    (tidy-addOne K x (addOne K x (bare [])) (tidy-addOne K x (bare []) (tidy-bare K []))) (tidy-addOne K x (bare []) (tidy-bare K []))
     (addOne-twice K x (bare []) (tidy-bare K []) (twice-all K x))
     ∙ ap spelling (sym (add-put K x c (bare [])))

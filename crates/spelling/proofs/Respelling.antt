@@ -42,7 +42,9 @@ new-vacant K (within f lo hi) t n s = go _ (meet-view (isFunctionalFeature K f) 
     go : (i : Constraint) → Met (isFunctionalFeature K f) (record { feature = f; lo = lo; hi = hi }) (t .node .constraints) i → withinOf i ≡ within f lo hi
     go _ (met u k m e) = absurd (all-at (n k) (constraints-in t (withinOf u) m) (omega arith))
     go _ (alone a) = refl
-new-vacant K (reaches r c) t n s = ap (λ (x : Form). reaches r (spelling (add K c x))) (go (isFunctionalRole K r) refl (start-there (isFunctionalRole K r) r (bare (ranges K r)) (t .successors))) ∙ ap (λ (x : Chain). reaches r x) s
+new-vacant K (reaches r c) t n s =
+    ap (λ (x : Form). reaches r (spelling (add K c x)))
+    (go (isFunctionalRole K r) refl (start-there (isFunctionalRole K r) r (bare (ranges K r)) (t .successors))) ∙ ap (λ (x : Chain). reaches r x) s
   where
     S : Form
     S = startAt (isFunctionalRole K r) r (bare (ranges K r)) (t .successors)
@@ -79,11 +81,13 @@ module _ (K : Vocabulary) where
 
       clear : Clear l (conjunctsOf (addOne K x t))
       clear = all-of l (λ y m k. all-of (conjunctsOf (addOne K x t)) (λ z w e.
-          ⊎-elim (λ i. all-at (o .0 (subst T (functional-slot K y x (sym e ∙ ap slot i)) k)) m (sym e ∙ ap slot i)) (λ v. all-at (all-at (tail n) m k) v e) (any-cases (one-more z .0 w))))
+          ⊎-elim (λ i. all-at (o .0 (subst T (functional-slot K y x (sym e ∙ ap slot i)) k)) m (sym e ∙ ap slot i))
+          (λ v. all-at (all-at (tail n) m k) v e) (any-cases (one-more z .0 w))))
 
       moved : Same (l ++ conjunctsOf (addOne K x t)) (x ∷ (l ++ conjunctsOf t))
       moved z = (
-        λ m. ⊎-elim (λ w. there (any-left (conjunctsOf t) w)) (λ w. ⊎-elim (λ i. here i) (λ v. there (any-right l v)) (any-cases (one-more z .0 w))) (any-append l _ m),
+        λ m. ⊎-elim (λ w. there (any-left (conjunctsOf t) w)) (λ w. ⊎-elim (λ i. here i) (λ v. there (any-right l v)) (any-cases (one-more z .0 w)))
+            (any-append l _ m),
         λ m.
             ⊎-elim (λ i. any-right l (one-more z .1 (here i)))
             (λ w. ⊎-elim (λ v. any-left (conjunctsOf (addOne K x t)) v) (λ v. any-right l (one-more z .1 (there v))) (any-append l _ w)) (any-cases m),
@@ -148,7 +152,8 @@ module _ (K : Vocabulary) where
         λ m.
             ⊎-elim (λ w. w)
             (λ w. let c = classes-only x w in subst (λ (z : Conjunct). z ∈ l) (sym (c .2))
-            (members (isIn (c .0)) .0 (any-left (map withinOf (t .node .constraints) ++ rolesOf (t .successors)) (in-map isIn (all-at a (c .1)))))) (any-append l _ m),
+            (members (isIn (c .0)) .0 (any-left (map withinOf (t .node .constraints) ++ rolesOf (t .successors)) (in-map isIn (all-at a (c .1))))))
+            (any-append l _ m),
         λ m. any-left (conjunctsOf (bare cs)) m,
       )
 
@@ -157,7 +162,8 @@ module _ (K : Vocabulary) where
   roles-stable none h = nil
   roles-stable (successor r n under next) h =
       cons {x = reaches r (putInOrder (stated n (rolesOf under)))}
-      (form-again (record { node = n; successors = under }) (record { node = h .2; successors = h .3 }) (roles-stable under (h .3)) (ranges K r) (h .1)) (roles-stable next (h .4))
+      (form-again (record { node = n; successors = under }) (record { node = h .2; successors = h .3 }) (roles-stable under (h .3)) (ranges K r)
+      (h .1)) (roles-stable next (h .4))
 
   pub term-again : (p : Chain) → spelledTerm K (spelledTerm K p) ≡ spelledTerm K p
   unfolding spelledTerm normalForm
@@ -183,17 +189,18 @@ pub spelled-rising : (K : Vocabulary) (P : Policy) → Rising termKey (spelled K
 unfolding spelled
 spelled-rising K P = sorted-rising termKey term-apart (map (spelledTerm K) (filter (possible K) P))
 
--- a spelling is possible, and spelled as it stands
+-- its terms are possible, and spelled as they stand
 spelled-possible : (K : Vocabulary) (P : Policy) → All (λ c. T (possible K c)) (spelled K P)
 spelled-possible K P = all-of (spelled K P) (λ c m.
     let p = term-of K P c m in
     subst (λ (q : Chain). T (possible K q)) (sym (p .3))
-    (possible-spelling K (spelledTerm K (p .0)) .1 (spelled-open K (p .0), subst (CleanChain K) (sym (term-again K (p .0))) (possible-spelling K (p .0) .0 (p .2) .1))))
+    (possible-spelling K (spelledTerm K (p .0)) .1
+    (spelled-open K (p .0), subst (CleanChain K) (sym (term-again K (p .0))) (possible-spelling K (p .0) .0 (p .2) .1))))
 
 spelled-terms : (K : Vocabulary) (P : Policy) → All (λ c. spelledTerm K c ≡ c) (spelled K P)
 spelled-terms K P = all-of (spelled K P) (λ c m. let p = term-of K P c m in ap (spelledTerm K) (p .3) ∙ term-again K (p .0) ∙ sym (p .3))
 
--- "writing it again changes no word"
+-- a spelling is spelled as it stands
 pub spelling-again : (K : Vocabulary) (P : Policy) → spelled K (spelled K P) ≡ spelled K P
 spelling-again K P =
     open-spelled (spelled K P)

@@ -22,7 +22,8 @@ before-self (x ∷ l) t =
 -- what it is for two heads
 heads : (x y : ℕ) (l m : List ℕ) → T (isBefore (x ∷ l) (y ∷ m)) → (x < y) ⊎ ((x ≡ y) × T (isBefore l m))
 heads x y l m t =
-    ⊎-elim (λ h. inl (ltb→lt x y h)) (λ h. let w = T-and (eqb x y) (isBefore l m) h in inr (eqb→eq x y (w .0), w .1)) (T-or (ltb x y) (eqb x y && isBefore l m) t)
+    ⊎-elim (λ h. inl (ltb→lt x y h)) (λ h. let w = T-and (eqb x y) (isBefore l m) h in inr (eqb→eq x y (w .0), w .1))
+    (T-or (ltb x y) (eqb x y && isBefore l m) t)
 
 by-head : (x y : ℕ) (l m : List ℕ) → x < y → T (isBefore (x ∷ l) (y ∷ m))
 by-head x y l m h = or-left (ltb x y) (eqb x y && isBefore l m) (lt→ltb x y h)
@@ -147,7 +148,9 @@ module _ {A : Type 0} (k : A → List ℕ) (apart : (x y : A) → k x ≡ k y �
   rising-same [] [] r s e = refl
   rising-same [] (y ∷ m) r s e = absurd (any-none (e y .1 (here refl)))
   rising-same (x ∷ l) [] r s e = absurd (any-none (e x .0 (here refl)))
-  rising-same (x ∷ l) (y ∷ m) r s e = ap₂′ same-head (rising-same l m (r .1) (s .1) (λ z. (λ h. only h (r .0) (e z .0 (there h)) (sym same-head), λ h. only h (s .0) (e z .1 (there h)) same-head)))
+  rising-same (x ∷ l) (y ∷ m) r s e =
+      ap₂′ same-head (rising-same l m (r .1) (s .1)
+      (λ z. (λ h. only h (r .0) (e z .0 (there h)) (sym same-head), λ h. only h (s .0) (e z .1 (there h)) same-head)))
     where
       ap₂′ : {u v : A} {a b : List A} → u ≡ v → a ≡ b → (u ∷ a) ≡ (v ∷ b)
       ap₂′ p q = cc

@@ -58,7 +58,8 @@ items-flat d (class a next) rest = ap (λ (w : List ℕ). 1 ∷ (a ∷ (0 ∷ (0
 items-flat d (impossible next) rest = ap (λ (w : List ℕ). 2 ∷ (0 ∷ (0 ∷ (0 ∷ (d ∷ w))))) (items-flat d next rest)
 items-flat d (some r child next) rest =
     ap (λ (w : List ℕ). 3 ∷ (r ∷ (0 ∷ (0 ∷ (d ∷ w)))))
-    (ap (items (suc d) child) (items-flat d next rest) ∙ items-flat (suc d) child (flat (itemsOf d next) rest) ∙ sym (flat-append (itemsOf (suc d) child) (itemsOf d next) rest))
+    (ap (items (suc d) child) (items-flat d next rest) ∙ items-flat (suc d) child (flat (itemsOf d next) rest) ∙ sym
+    (flat-append (itemsOf (suc d) child) (itemsOf d next) rest))
 items-flat d (interval f lo hi next) rest = ap (λ (w : List ℕ). 4 ∷ (f ∷ (lo ∷ (hi ∷ (d ∷ w))))) (items-flat d next rest)
 
 -- a record's five fields, and then the rest
@@ -124,4 +125,5 @@ deeper-before (x ∷ l) (y ∷ m) = rw (leb·suc-suc (suc (x .depth)) (y .depth)
 
 pub any-depth : (d : ℕ) (b c : Chain) → areBefore (itemsOf (suc d) b) (itemsOf (suc d) c) ≡ areBefore (itemsOf 1 b) (itemsOf 1 c)
 any-depth zero b c = refl
-any-depth (suc d) b c = ap₂ areBefore (items-deeper (suc d) b) (items-deeper (suc d) c) ∙ deeper-before (itemsOf (suc d) b) (itemsOf (suc d) c) ∙ any-depth d b c
+any-depth (suc d) b c =
+    ap₂ areBefore (items-deeper (suc d) b) (items-deeper (suc d) c) ∙ deeper-before (itemsOf (suc d) b) (itemsOf (suc d) c) ∙ any-depth d b c

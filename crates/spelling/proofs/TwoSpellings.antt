@@ -21,7 +21,8 @@ halves = interval 1 0 4 end ∷ (interval 1 5 9 end ∷ [])
 
 pub no-telling : (K : Vocabulary) → Indistinct K whole halves
 no-telling K I proper s d i = (
-  λ h. ⊎-elim (λ w. let v = w .0 in ⊎-elim (λ l. here ((v .0, v .1, omega arith), tt)) (λ l. there (here ((v .0, v .1, omega arith), tt))) (order (v .0) 5)) (λ w. absurd (any-none w)) (any-cases h),
+  λ h. ⊎-elim (λ w. let v = w .0 in ⊎-elim (λ l. here ((v .0, v .1, omega arith), tt)) (λ l. there (here ((v .0, v .1, omega arith), tt)))
+      (order (v .0) 5)) (λ w. absurd (any-none w)) (any-cases h),
   λ h.
       ⊎-elim (λ w. let v = w .0 in here ((v .0, v .1, omega arith), tt))
       (λ w. ⊎-elim (λ x. let v = x .0 in here ((v .0, v .1, omega arith), tt)) (λ x. absurd (any-none x)) (any-cases w)) (any-cases h),
