@@ -19,8 +19,8 @@ whole = interval 1 0 9 end ∷ []
 abbrev halves : Policy
 halves = interval 1 0 4 end ∷ (interval 1 5 9 end ∷ [])
 
-pub no-telling : (K : Vocabulary) → Indistinct K whole halves
-no-telling K I proper s d i = (
+pub halves-equal : (K : Vocabulary) → Indistinct K whole halves
+halves-equal K I proper s d i = (
   λ h. ⊎-elim (λ w. let v = w .0 in ⊎-elim (λ l. here ((v .0, v .1, omega arith), tt)) (λ l. there (here ((v .0, v .1, omega arith), tt)))
       (order (v .0) 5)) (λ w. absurd (any-none w)) (any-cases h),
   λ h.

@@ -2,11 +2,14 @@
 use Prim.Native.Nat.{ℕ}
 use mathlib.Core.Bool.{cond}
 use mathlib.Core.List.{List}
-use Rattle.meaning.specs.Answers.{FillingResult, wrote}
-use Rattle.meaning.specs.Operations.{Outcome, refuses, unless, workRefusal, written}
+use mathlib.Core.Path.{_≡_}
+use lib.ListN.{length}
+use Rattle.meaning.specs.Answers.{FillingResult, fillingAnswer, wrote}
+use Rattle.meaning.specs.Operations.{Outcome, outputAfter, refuses, unless, workAfter, workRefusal, written}
 use Rattle.meaning.specs.Policy.{Policy, policyOf, policyRefusal}
 use Rattle.meaning.specs.Records.{orElse}
 use Rattle.meaning.specs.Vocabulary.{Vocabulary, vocabularyOf, vocabularyRefusal}
+use Rattle.meaning.specs.declared.Filling.{Filling}
 use Rattle.spelling.specs.Spelling.{spelled, tooLong}
 use Rattle.spelling.specs.Words.{policyWords}
 
@@ -25,3 +28,9 @@ unfoldable pub spell : List ℕ → List ℕ → ℕ → ℕ → Outcome Filling
 spell v p w o =
     let told = spellOf (vocabularyOf v) (policyOf p) o in
     unless refuses (orElse (vocabularyRefusal v) (orElse (policyRefusal v p) (workRefusal w))) told
+
+-- what the operation leaves behind, whatever its slices held: the answer is the definition's, and so are the output and the work slice
+pub record SpellPost (v p w w′ o o′ : List ℕ) (r : Filling) : Type 0 where
+  pub answer : fillingAnswer r ≡ spell v p (length w) (length o) .answer
+  pub output : o′ ≡ outputAfter (spell v p (length w) (length o) .words) o
+  pub work : w′ ≡ workAfter (fillingAnswer r) w
