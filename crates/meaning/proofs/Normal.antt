@@ -98,7 +98,7 @@ add-keeps K (some r child next) t c m = add-keeps K next (withSuccessor K r (add
 add-keeps K (interval f lo hi next) t c m = add-keeps K next (withConstraint K (record { feature = f; lo = lo; hi = hi }) t) c m
 
 module _ (B : ℕ → Type 0) (K : Vocabulary) (ranged : (r c : ℕ) → c ∈ ranges K r → B c) where
-  add-normal : (p : Chain) → ClassesIn B p → (t : Form) → Normal B K t → Normal B K (add K p t)
+  pub add-normal : (p : Chain) → ClassesIn B p → (t : Form) → Normal B K t → Normal B K (add K p t)
   add-normal end b t k = k
   add-normal (class a next) b t k =
       add-normal next (b .1) (withClass a t)
@@ -117,7 +117,7 @@ module _ (B : ℕ → Type 0) (K : Vocabulary) (ranged : (r c : ℕ) → c ∈ r
   normalForm-normal p b = add-normal p b (bare []) (record { node = record { bounded = nil; distinct = tt }; successors = tt })
 
 -- with no bound on the classes
-unbounded : (p : Chain) → ClassesIn (λ c. Unit {0}) p
+pub unbounded : (p : Chain) → ClassesIn (λ c. Unit {0}) p
 unbounded end = tt
 unbounded (class a next) = (tt, unbounded next)
 unbounded (impossible next) = unbounded next

@@ -1,0 +1,21 @@
+-- From the order of lists to what is promised. The examples first: where an edit of a definition makes one wrong, that is the first error.
+pub mod Answered
+pub mod Lists
+pub mod Rising
+pub mod Keys
+pub mod Placing
+pub mod Members
+pub mod Commuting
+pub mod Equal
+pub mod InOrder
+pub mod Clean
+pub mod Respelling
+pub mod Reordering
+pub mod Repeated
+pub mod TwoSpellings
+pub mod Reading
+pub mod Names
+pub mod Promises
+pub mod Flattened
+pub mod Arranging
+pub mod Runs
