@@ -1,0 +1,3 @@
+-- The items that conjuncts are listed as, and one listed after another in order.
+pub mod Runs
+pub mod Insertion

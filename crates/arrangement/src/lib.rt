@@ -1,0 +1,1 @@
+// What stands in the tables of the work slice, put into the order in which it is written.

@@ -1,0 +1,2 @@
+-- The words that items are written as.
+pub mod Written
