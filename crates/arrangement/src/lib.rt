@@ -1,1 +1,124 @@
-// What stands in the tables of the work slice, put into the order in which it is written.
+// What stands in the tables of the work slice, put into the order in which a policy is written. Entries go to the end of the order one
+// after another, the last one first: so each finds those below it behind it in order, and behind these the runs of its own individual.
+use entries::CONSTRAINT_ENTRIES;
+use entries::Order;
+use entries::compare_runs;
+use entries::depth_of;
+use layout::Tables;
+use layout::holder_of;
+use layout::parent_of;
+use meaning::limits::MOST_RECORDS;
+use records::word;
+use words::place;
+ghost use Prim.Native.Nat.{_+_, _≤_};
+ghost use mathlib.Core.Path.{_≡_};
+ghost use lib.ListN.{length};
+ghost use Rattle.arrangement.specs.Steps.{Depths, FindsPlace, Listable, Ready, Rotatable, RunEnds, Settled, isNext, rotated};
+ghost use Rattle.frames.specs.Rows.{putAt, rowAt};
+
+// A place for individual 0, of which the terms are, and for each that there may be.
+pub const DEPTHS: usize = MOST_RECORDS + 1;
+
+// The depth of each individual's conjuncts: those of individual 0, the terms, stand at 0.
+pub fn find_depths(work: &[u32], n: u32, depths: &mut [u32])
+    requires { ⌜ Listable (now work) n (now depths) ⌝ }
+    ensures { λ _. ⌜ Depths (now (work .entry)) n (now (depths .exit)) ⌝ }
+{
+    depths[0] = 0;
+    for i in 0..n {
+        let parent = parent_of(work, place(i));
+        depths[place(i) + 1] = word(depths, place(parent)) + 1;
+    }
+}
+
+// The end of the run at place i.
+fn run_end(work: &[u32], depths: &[u32], order: &[u32], i: usize) -> usize
+    requires { ⌜ Ready (now work) (now order) i ⌝ }
+    ensures { λ r. ⌜ RunEnds (now (work .entry)) (now (depths .entry)) (now (order .entry)) i r ⌝ }
+{
+    let d = depth_of(work, depths, word(order, i));
+    let mut at = i + 1;
+    while at < order.len() {
+        if depth_of(work, depths, word(order, at)) <= d {
+            return at;
+        }
+        at += 1;
+    }
+    at
+}
+
+// A place in the order, and whether an equal run stands there.
+struct Place {
+    at: usize,
+    found: bool,
+}
+
+// Whether an entry of depth d stands at a place.
+fn is_at(work: &[u32], depths: &[u32], order: &[u32], at: usize, d: u32) -> bool
+    requires { ⌜ Ready (now work) (now order) 0 ⌝ }
+    ensures { λ r. ⌜ r ≡ isNext (now (work .entry)) (now (depths .entry)) (now (order .entry)) at d ⌝ }
+{
+    at < order.len() && depth_of(work, depths, word(order, at)) == d
+}
+
+// Of the runs behind the one from a to before b, of the same individual, the first that it does not go behind.
+fn find_place(work: &[u32], depths: &[u32], order: &[u32], a: usize, b: usize) -> Place
+    requires { ⌜ Ready (now work) (now order) a × RunEnds (now work) (now depths) (now order) a b ⌝ }
+    ensures { λ r. ⌜ FindsPlace (now (work .entry)) (now (depths .entry)) (now (order .entry)) a b r ⌝ }
+{
+    let d = depth_of(work, depths, word(order, a));
+    let mut at = b;
+    while is_at(work, depths, order, at, d) {
+        let end = run_end(work, depths, order, at);
+        match compare_runs(work, depths, order, a, b, at, end) {
+            Order::Before => {
+                return Place { at, found: false };
+            }
+            Order::Same => {
+                return Place { at, found: true };
+            }
+            Order::After => {
+                at = end;
+            }
+        }
+    }
+    Place { at, found: false }
+}
+
+// n words, from place i of one slice to place j of another.
+fn copy(from: &[u32], i: usize, to: &mut [u32], j: usize, n: usize)
+    requires { ⌜ (i + n ≤ length (now from)) × (j + n ≤ length (now to)) ⌝ }
+    ensures { λ _. ⌜ now (to .exit) ≡ putAt (now (to .entry)) j (rowAt n (now (from .entry)) i) ⌝ }
+{
+    for k in 0..n {
+        to[j + k] = from[i + k];
+    }
+}
+
+// The entries from a to before b go behind those from b to before c.
+fn rotate(order: &mut [u32], a: usize, b: usize, c: usize)
+    requires { ⌜ Rotatable (now order) a b c ⌝ }
+    ensures { λ _. ⌜ now (order .exit) ≡ rotated (now (order .entry)) a b c ⌝ }
+{
+    let mut spare = [0; MOST_RECORDS];
+    copy(order, b, &mut spare[..], 0, c - b);
+    copy(order, a, &mut spare[..], c - b, b - a);
+    copy(&spare[..], 0, order, a, c - a);
+}
+
+// The run at place top goes to its place among those behind it, or is dropped where an equal one stands there; where the order starts then.
+fn settle(work: &[u32], depths: &[u32], order: &mut [u32], top: usize) -> usize
+    requires { ⌜ Ready (now work) (now order) top ⌝ }
+    ensures { λ r. ⌜ Settled (now (work .entry)) (now (depths .entry)) top (now (order .entry)) (now (order .exit)) r ⌝ }
+{
+    let b = run_end(work, depths, order, top);
+    let p = find_place(work, depths, order, top, b);
+    if p.found {
+        return b;
+    }
+    let at = p.at;
+    if b < at {
+        rotate(order, top, b, at);
+    }
+    top
+}

@@ -1,15 +1,15 @@
 -- Runs of entries compared, one entry after another. Assumes nothing.
 use Prim.Native.Nat.{_*_, _+_, _-_, _<_, _≤_, suc, ℕ}
 use mathlib.Core.Bool.{Bool, cond, false, true}
-use mathlib.Core.List.{List, [], _∷_, map}
+use mathlib.Core.List.{List, [], _++_, _∷_, map, map-append}
 use mathlib.Core.Path.{_∙_, _≡_, ap, ap₂, refl, subst, sym}
 use lib.Dec.{T, ltb}
 use lib.ListN.{drop, getD, length, take}
-use lib.Seq.{drop-cons}
+use lib.Seq.{drop-cons, drop-drop, take-add}
 use native.Mathlib.Omega.{arith}
 use borrow.Author.Tests.{le-ltb, lt-ltb, ltb-false, ltb-true}
 use Rattle.entries.proofs.Ordering.{beginnings, depth-same, other-then, same-lists, same-then}
-use Rattle.entries.specs.Entries.{Beside, Comparable, ComparesClasses, ComparesNext, HasItem, Item, Known, Steps, classFields, classesAt, fieldsAt, itemAt, itemsIn, listed}
+use Rattle.entries.specs.Entries.{Beside, Comparable, ComparesClasses, ComparesNext, HasItem, Item, Known, Steps, classFields, classesAt, depthAt, fieldsAt, itemAt, itemsIn, listed}
 use Rattle.entries.specs.Entries.{rankOf, restFields, runFields, runKey, siblingFields}
 use Rattle.entries.specs.Order.{Continues, andThen, isSame, orderOf}
 use Rattle.entries.specs.declared.Fields.{Fields}
@@ -29,6 +29,22 @@ module _ (w ds o : List ℕ) where
 
   pub items-none : (i b : ℕ) → b ≤ i → itemsIn w ds o i b ≡ []
   items-none i b h = let e : b - i ≡ 0 = omega arith in rw e
+
+  pub items-split : (a b c : ℕ) → a ≤ b → b ≤ c → itemsIn w ds o a c ≡ itemsIn w ds o a b ++ itemsIn w ds o b c
+  items-split a b c h g =
+      let e : c - a ≡ (b - a) + (c - b) = omega arith in
+      let f : a + (b - a) ≡ b = omega arith in
+      ap (λ (n : ℕ). map (itemAt w ds) (take n (drop a o))) e
+      ∙ ap (map (itemAt w ds)) (take-add (b - a) (c - b) (drop a o) ∙ ap (λ (l : List ℕ). take (b - a) (drop a o) ++ take (c - b) l) (drop-drop (b - a) a o ∙ ap (λ (n : ℕ). drop n o) f))
+      ∙ map-append (itemAt w ds) (take (b - a) (drop a o)) (take (c - b) (drop b o))
+
+  pub item-depth : (e : ℕ) → itemAt w ds e .fields .depth ≡ depthAt w ds e
+  unfolding itemAt fieldsAt
+  item-depth e = go (ltb e mostRecords) _ _ refl refl
+    where
+      go : {d : ℕ} (b : Bool) (r c : Fields) → r .depth ≡ d → c .depth ≡ d → cond b r c .depth ≡ d
+      go true r c p q = p
+      go false r c p q = q
 
   pub entry-known : {b d : ℕ} → Known w o b d → (i : ℕ) {e : ℕ} → e ≡ getD o i 0 → HasItem e w
   entry-known k i e = record { known = subst (λ (n : ℕ). n < 2 * mostRecords) (sym e) (k .entries i); long = k .long }
