@@ -1,1 +1,2 @@
--- Why.
+-- Why an item put in front of runs in order goes to its place, and why the individuals of a normal form are arranged so as it is spelled.
+pub mod Comparing

@@ -1,5 +1,5 @@
 -- Why entries are read as they stand, and compare as the records do that they are written as.
 mod Reading
-mod Ordering
+pub mod Ordering
 mod Classes
 mod Runs
