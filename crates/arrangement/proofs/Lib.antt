@@ -2,3 +2,4 @@
 pub mod Comparing
 pub mod Inserting
 pub mod Arranging
+pub mod Spelled

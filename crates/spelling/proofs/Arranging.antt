@@ -196,17 +196,19 @@ children-sorted : (l : Policy) → sorted key (map (λ c. reaches 0 c) l) ≡ ma
 children-sorted [] = refl
 children-sorted (c ∷ l) = ap (place key (reaches 0 c)) (children-sorted l) ∙ children-place c (sorted termKey l)
 
+-- its roles in order are the spelling's terms
+pub forest-sorted : (K : Vocabulary) (P : Policy) → sorted key (rolesOf (forest K (filter (possible K) P))) ≡ map (reaches 0) (spelled K P)
+unfolding spelled
+forest-sorted K P =
+    let Q = filter (possible K) P in
+    ap (sorted key) (forest-roles K Q) ∙ children-sorted (map (spelledTerm K) Q)
+
 children-map : (l : Policy) → children (map (λ c. reaches 0 c) l) ≡ l
 children-map [] = refl
 children-map (c ∷ l) = ap (λ (m : Policy). c ∷ m) (children-map l)
 
 pub forest-spelled : (K : Vocabulary) (P : Policy) → children (sorted key (rolesOf (forest K (filter (possible K) P)))) ≡ spelled K P
-unfolding spelled
-forest-spelled K P =
-    let Q = filter (possible K) P in
-    ap (λ (l : List Conjunct). children (sorted key l)) (forest-roles K Q)
-    ∙ ap children (children-sorted (map (spelledTerm K) Q))
-    ∙ children-map (sorted termKey (map (spelledTerm K) Q))
+forest-spelled K P = ap children (forest-sorted K P) ∙ children-map (spelled K P)
 
 -- those of the one, then those of the other
 abbrev pub followedBy : Successors → Successors → Successors
