@@ -1,6 +1,6 @@
 -- The items of a normal form's individuals, arranged, are the runs of its spelled conjuncts in order.
 use Prim.Native.Nat.{suc, ℕ}
-use mathlib.Core.Bool.{Bool, cond, false, true}
+use mathlib.Core.Bool.{Bool, false, true}
 use mathlib.Core.List.{List, [], _++_, _∷_, append-nil, map}
 use mathlib.Core.Logic.{⊎-elim}
 use mathlib.Core.Path.{_∙_, _≡_, ap, ap₂, refl, subst, sym}
@@ -13,9 +13,10 @@ use Rattle.meaning.proofs.Rules.{all-append, all-at, all-of, head, tail}
 use Rattle.meaning.specs.Intervals.{Constraint}
 use Rattle.meaning.specs.Lists.{All, cons, nil}
 use Rattle.meaning.specs.NormalForm.{Node, Successors, none, successor}
+use Rattle.spelling.proofs.Arranging.{sorted-map}
 use Rattle.spelling.proofs.Keys.{key-apart}
 use Rattle.spelling.proofs.Rising.{place-out}
-use Rattle.spelling.specs.Order.{isBefore, place, sorted}
+use Rattle.spelling.specs.Order.{place, sorted}
 use Rattle.spelling.specs.Spelling.{Conjunct, isIn, key, putAll, putInOrder, reaches, rolesOf, stated, within, withinOf}
 
 -- ---- one after another, the last one first
@@ -54,24 +55,14 @@ sorted-all (x ∷ l) g = place-all x (sorted key l) (head g) (sorted-all l (tail
 
 -- ---- classes go in front
 
-place-class : (a : ℕ) (cs : List ℕ) (m : List Conjunct) → All HasRun m → place key (isIn a) (map isIn cs ++ m) ≡ map isIn (place classKey a cs) ++ m
-place-class a [] [] h = refl
-place-class a [] (isIn b ∷ m) h = absurd (head h)
-place-class a [] (within f lo hi ∷ m) h = refl
-place-class a [] (reaches r c ∷ m) h = refl
-place-class a (b ∷ cs) m h = go (isBefore (classKey a) (classKey b)) (isBefore (classKey b) (classKey a)) (place-class a cs m h)
-  where
-    go : (p q : Bool) → place key (isIn a) (map isIn cs ++ m) ≡ map isIn (place classKey a cs) ++ m →
-        cond p (isIn a ∷ (isIn b ∷ (map isIn cs ++ m))) (cond q (isIn b ∷ place key (isIn a) (map isIn cs ++ m)) (isIn b ∷ (map isIn cs ++ m)))
-        ≡ map isIn (cond p (a ∷ (b ∷ cs)) (cond q (b ∷ place classKey a cs) (b ∷ cs))) ++ m
-    go true q e = refl
-    go false true e = ap (λ (w : List Conjunct). isIn b ∷ w) e
-    go false false e = refl
+class-first : (a : ℕ) (m : List Conjunct) → All HasRun m → place key (isIn a) m ≡ isIn a ∷ m
+class-first a [] h = refl
+class-first a (isIn b ∷ m) h = absurd (head h)
+class-first a (within f lo hi ∷ m) h = refl
+class-first a (reaches r c ∷ m) h = refl
 
 sorted-classes : (cs : List ℕ) (m : List Conjunct) → All HasRun m → sorted key (map isIn cs ++ m) ≡ map isIn (sorted classKey cs) ++ sorted key m
-sorted-classes [] m h = refl
-sorted-classes (c ∷ cs) m h =
-    ap (place key (isIn c)) (sorted-classes cs m h) ∙ place-class c (sorted classKey cs) (sorted key m) (sorted-all m h)
+sorted-classes cs m h = sorted-map classKey key isIn (λ a b. refl) cs m (λ c. class-first c (sorted key m) (sorted-all m h))
 
 -- ---- of a chain that is put from conjuncts
 

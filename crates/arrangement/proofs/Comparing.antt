@@ -113,7 +113,9 @@ keys-compare d (reaches r b) (isIn a) g h = absurd h
 keys-compare d (reaches r b) (within f lo hi) g h = refl
 keys-compare d (reaches r b) (reaches r′ c) g h =
     ap (byThen r r′)
-    (alike d (restFields (runOf d (reaches r b))) (restFields (runOf d (reaches r′ c))) ∙ ap₂ orderOf (below-fields (suc d) b g) (below-fields (suc d) c h) ∙ any-depth d b c)
+    (alike d (restFields (runOf d (reaches r b))) (restFields (runOf d (reaches r′ c)))
+    ∙ ap₂ orderOf (below-fields (suc d) b g) (below-fields (suc d) c h)
+    ∙ any-depth d b c)
 
 pub runs-compare : {A : Type 0} (d : ℕ) (x y : Conjunct) → HasRun x → HasRun y → (a b c : A) →
     pick (orderOf (runKey (runOf d x)) (runKey (runOf d y))) a b c ≡ cond (isBefore (key x) (key y)) a (cond (isBefore (key y) (key x)) c b)

@@ -103,7 +103,8 @@ insert-placed zero d x (y ∷ l) m g h i j = absurd (omega arith)
 insert-placed (suc most) d x (y ∷ l) m g h i j =
     ap (insertRun (suc most) d (runOf d x)) (append-assoc (runOf d y) (runsOf d l) m)
     ∙ insert-first most d (runOf d x) (runOf d y) (runsOf d l ++ m) (is-run d y (head h)) (runs-low d l m (tail h) i)
-    ∙ runs-compare d x y g (head h) (runOf d x ++ (runOf d y ++ (runsOf d l ++ m))) (runOf d y ++ (runsOf d l ++ m)) (runOf d y ++ insertRun most d (runOf d x) (runsOf d l ++ m))
+    ∙ runs-compare d x y g (head h) (runOf d x ++ (runOf d y ++ (runsOf d l ++ m))) (runOf d y ++ (runsOf d l ++ m))
+    (runOf d y ++ insertRun most d (runOf d x) (runsOf d l ++ m))
     ∙ go (isBefore (key x) (key y)) (isBefore (key y) (key x)) (insert-placed most d x l m g (tail h) i (omega arith))
   where
     go : (a b : Bool) → insertRun most d (runOf d x) (runsOf d l ++ m) ≡ runsOf d (place key x l) ++ m →
