@@ -1,5 +1,10 @@
--- Why the order is that of the spelling: the laws that the functions' proofs cite, then the order of what is listed.
+-- The laws of items that go to their places, up to a spelling's; then those that the functions' proofs cite.
+pub mod Comparing
+pub mod Inserting
+pub mod Arranging
+pub mod Spelled
 mod Deepening
 mod Ends
 mod Finding
 mod Moving
+mod Settling

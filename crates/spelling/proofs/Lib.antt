@@ -18,4 +18,3 @@ pub mod Names
 pub mod Promises
 pub mod Flattened
 pub mod Arranging
-pub mod Runs
