@@ -2,3 +2,4 @@
 pub mod Runs
 pub mod Insertion
 pub mod Steps
+pub mod Listing

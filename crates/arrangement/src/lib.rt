@@ -13,6 +13,7 @@ use words::place;
 ghost use Prim.Native.Nat.{_+_, _≤_};
 ghost use mathlib.Core.Path.{_≡_};
 ghost use lib.ListN.{length};
+ghost use Rattle.arrangement.specs.Listing.{Arrangeable, Arranged, HasLast, lastEntry};
 ghost use Rattle.arrangement.specs.Steps.{Depths, FindsPlace, Listable, Ready, Rotatable, RunEnds, Settled, isNext, rotated};
 ghost use Rattle.frames.specs.Rows.{putAt, rowAt};
 
@@ -119,6 +120,40 @@ fn settle(work: &[u32], depths: &[u32], order: &mut [u32], top: usize) -> usize
     let at = p.at;
     if b < at {
         rotate(order, top, b, at);
+    }
+    top
+}
+
+// The last entry of the first i individuals and m constraints: a constraint stands behind its individual and in front of those below it.
+fn last_entry(work: &[u32], i: u32, m: usize) -> u32
+    requires { ⌜ HasLast i m (now work) ⌝ }
+    ensures { λ r. ⌜ r ≡ lastEntry (now (work .entry)) i m ⌝ }
+{
+    if 0 < m && holder_of(work, m - 1) == i {
+        return CONSTRAINT_ENTRIES + (m - 1) as u32;
+    }
+    i - 1
+}
+
+// The entries of the tables in order, at the end of the slice; where they start. Time grows with the entries, times those of one
+// individual, times the depth.
+pub fn arrange(work: &[u32], t: Tables, depths: &[u32], order: &mut [u32]) -> usize
+    requires { ⌜ Arrangeable (now work) t (now order) ⌝ }
+    ensures { λ r. ⌜ Arranged (now (work .entry)) (now (depths .entry)) t (now (order .entry)) (now (order .exit)) r ⌝ }
+{
+    let mut top = order.len();
+    let mut i = t.individuals;
+    let mut m = t.constraints;
+    while i != 0 {
+        let e = last_entry(work, i, m);
+        top -= 1;
+        order[top] = e;
+        top = settle(work, depths, order, top);
+        if e < CONSTRAINT_ENTRIES {
+            i -= 1;
+        } else {
+            m -= 1;
+        }
     }
     top
 }

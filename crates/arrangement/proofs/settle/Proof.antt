@@ -1,49 +1,20 @@
 use borrow.Author.Needs.{needs}
+use borrow.Author.Tests.{not-false, not-true}
+use mathlib.Core.Path.{_∙_, ap, refl}
+use Rattle.arrangement.proofs.Settling.{place-rotatable, settled-dropped, settled-left, settled-moved}
 use Rattle.arrangement.proofs.settle.Statement.{statement}
 use Rattle.arrangement.proofs.settle.Tie as tie
-use Rattle.arrangement.proofs.settle.Reads as reads
-use Rattle.arrangement.proofs.settle.Lts as lts
-use Rattle.arrangement.proofs.find_place.Reads as find-place-reads
-use Rattle.arrangement.proofs.rotate.Reads as rotate-reads
-use Rattle.arrangement.proofs.run_end.Reads as run-end-reads
-
-run-end-requires : tie.Need-run-end-requires
-run-end-requires c κs = search needs
-
-find-place-requires : tie.Need-find-place-requires
-find-place-requires c κs = search needs
-
-same-length : tie.Need-same-length
-same-length c = search needs
-
-returns : tie.Need-returns
-returns c = search needs
-
-rotate-requires : tie.Need-rotate-requires
-rotate-requires c κs = search needs
-
-same-length-2 : tie.Need-same-length-2
-same-length-2 c = search needs
-
-returns-2 : tie.Need-returns-2
-returns-2 c = search needs
-
-same-length-3 : tie.Need-same-length-3
-same-length-3 c = search needs
-
-returns-3 : tie.Need-returns-3
-returns-3 c = search needs
 
 pub settle-spec : {M : Type 1} → statement M
 settle-spec =
     tie.close
     (tie.spec
-    run-end-requires
-    find-place-requires
-    same-length
-    returns
-    rotate-requires
-    same-length-2
-    returns-2
-    same-length-3
-    returns-3)
+    (λ c κs. c .before .before .before .before .pre)
+    (λ c κs. (c .before .before .before .before .before .before .pre, c .before .run-end .ensures))
+    (λ c. search needs)
+    (λ c. settled-dropped (c .before .before .before .before .before .before .before .before .pre) (c .before .before .before .run-end .ensures) (c .before .find-place .ensures) (c .if1 .taken))
+    (λ c κs. place-rotatable (c .before .before .before .before .before .before .before .before .before .before .pre) (c .before .before .before .before .before .run-end .ensures) (c .before .before .before .find-place .ensures))
+    (λ c. search needs)
+    (λ c. settled-moved (c .before .before .before .before .before .before .before .before .before .before .before .before .before .pre) (c .before .before .before .before .before .before .before .before .run-end .ensures) (c .before .before .before .before .before .before .find-place .ensures) (c .before .before .before .before .before .if1 .left) (c .before .before .rotate .ensures))
+    (λ c. search needs)
+    (λ c. settled-left (c .before .before .before .before .before .before .before .before .before .pre) (c .before .before .before .before .run-end .ensures) (c .before .before .find-place .ensures) (c .before .if1 .left) (c .if2 .left)))
