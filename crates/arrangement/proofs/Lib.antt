@@ -8,3 +8,4 @@ mod Ends
 mod Finding
 mod Moving
 mod Settling
+mod Emptying

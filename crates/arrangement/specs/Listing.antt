@@ -1,6 +1,6 @@
 -- The entries of the tables as they stand, each individual before its constraints and those below it: found from the last one on.
-use Prim.Native.Nat.{_+_, _*_, _<_, _≤_, suc, zero, ℕ}
-use mathlib.Core.Bool.{cond}
+use Prim.Native.Nat.{_*_, _+_, _-_, _<_, _≤_, suc, zero, ℕ}
+use mathlib.Core.Bool.{Bool, cond, false}
 use mathlib.Core.List.{List, [], _∷_, map}
 use mathlib.Core.Path.{_≡_}
 use lib.Dec.{eqb}
@@ -12,11 +12,14 @@ use Rattle.layout.specs.Tables.{holderAt}
 use Rattle.layout.specs.declared.Tables.{Tables}
 use Rattle.meaning.specs.Limits.{mostRecords}
 
+-- the last of m constraints is individual i's
+abbrev pub ownsLast : List ℕ → ℕ → ℕ → Bool
+ownsLast w zero i = false
+ownsLast w (suc m) i = eqb (holderAt w m) i
+
 -- the last entry of the first i individuals and m constraints
 abbrev pub lastEntry : List ℕ → ℕ → ℕ → ℕ
-lastEntry w zero m = 0
-lastEntry w (suc i) zero = i
-lastEntry w (suc i) (suc m) = cond (eqb (holderAt w m) (suc i)) (mostRecords + m) i
+lastEntry w i m = cond (ownsLast w m i) (mostRecords + (m - 1)) (i - 1)
 
 -- there is one, and it has a row
 pub record HasLast (i m : ℕ) (w : List ℕ) : Type 0 where

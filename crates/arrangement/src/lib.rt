@@ -13,7 +13,7 @@ use words::place;
 ghost use Prim.Native.Nat.{_+_, _≤_};
 ghost use mathlib.Core.Path.{_≡_};
 ghost use lib.ListN.{length};
-ghost use Rattle.arrangement.specs.Listing.{Arrangeable, Arranged, HasLast, lastEntry};
+ghost use Rattle.arrangement.specs.Listing.{Arrangeable, Arranged, HasLast, lastEntry, ownsLast};
 ghost use Rattle.arrangement.specs.Steps.{Depths, FindsPlace, Listable, Ready, Rotatable, RunEnds, Settled, isNext, rotated};
 ghost use Rattle.frames.specs.Rows.{putAt, rowAt};
 
@@ -124,12 +124,20 @@ fn settle(work: &[u32], depths: &[u32], order: &mut [u32], top: usize) -> usize
     top
 }
 
+// Whether the last of m constraints is individual i's.
+fn owns_last(work: &[u32], i: u32, m: usize) -> bool
+    requires { ⌜ HasLast i m (now work) ⌝ }
+    ensures { λ r. ⌜ r ≡ ownsLast (now (work .entry)) m i ⌝ }
+{
+    0 < m && holder_of(work, m - 1) == i
+}
+
 // The last entry of the first i individuals and m constraints: a constraint stands behind its individual and in front of those below it.
 fn last_entry(work: &[u32], i: u32, m: usize) -> u32
     requires { ⌜ HasLast i m (now work) ⌝ }
     ensures { λ r. ⌜ r ≡ lastEntry (now (work .entry)) i m ⌝ }
 {
-    if 0 < m && holder_of(work, m - 1) == i {
+    if owns_last(work, i, m) {
         return CONSTRAINT_ENTRIES + (m - 1) as u32;
     }
     i - 1

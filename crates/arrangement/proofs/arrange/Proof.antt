@@ -1,58 +1,15 @@
 use borrow.Author.Needs.{needs}
+use Prim.Native.Nat.{_+_}
+use native.Mathlib.Omega.{arith}
+use Rattle.arrangement.proofs.Emptying.{Emptied, emptied-constraint, emptied-ends, emptied-individual, emptied-last, emptied-ready, emptied-some, emptied-starts}
 use Rattle.arrangement.proofs.arrange.Statement.{statement}
 use Rattle.arrangement.proofs.arrange.Tie as tie
-use Rattle.arrangement.proofs.arrange.Reads as reads
-use Rattle.arrangement.proofs.arrange.Lts as lts
-use Rattle.arrangement.proofs.last_entry.Reads as last-entry-reads
-use Rattle.arrangement.proofs.settle.Reads as settle-reads
 
 abbrev Inv-loop : tie.InvT-loop
-Inv-loop work depths order₀ top₀ i₀ m₀ order top i m = ?
+Inv-loop work depths order₀ top₀ i₀ m₀ order top i m = Emptied work depths i₀ m₀ order₀ i m top order
 
 abbrev μ-loop : tie.MeasureT-loop
-μ-loop work depths order₀ top₀ i₀ m₀ order top i m = ?
-
-loop-holds : tie.Need-loop-holds Inv-loop μ-loop
-loop-holds c = search needs
-
-last-entry-requires : tie.Need-last-entry-requires Inv-loop μ-loop
-last-entry-requires c κs = search needs
-
-sub-top : tie.Need-sub-top Inv-loop μ-loop
-sub-top c = search needs
-
-mul-order : tie.Need-mul-order Inv-loop μ-loop
-mul-order c = search needs
-
-slice-write-order : tie.Need-slice-write-order Inv-loop μ-loop
-slice-write-order c = search needs
-
-settle-requires : tie.Need-settle-requires Inv-loop μ-loop
-settle-requires c κs = search needs
-
-sub-i : tie.Need-sub-i Inv-loop μ-loop
-sub-i c = search needs
-
-loop-less : tie.Need-loop-less Inv-loop μ-loop
-loop-less c = search needs
-
-loop-again : tie.Need-loop-again Inv-loop μ-loop
-loop-again c = search needs
-
-sub-m : tie.Need-sub-m Inv-loop μ-loop
-sub-m c = search needs
-
-loop-less-2 : tie.Need-loop-less-2 Inv-loop μ-loop
-loop-less-2 c = search needs
-
-loop-again-2 : tie.Need-loop-again-2 Inv-loop μ-loop
-loop-again-2 c = search needs
-
-same-length : tie.Need-same-length Inv-loop μ-loop
-same-length c = search needs
-
-returns : tie.Need-returns Inv-loop μ-loop
-returns c = search needs
+μ-loop work depths order₀ top₀ i₀ m₀ order top i m = i + m
 
 pub arrange-spec : {M : Type 1} → statement M
 arrange-spec =
@@ -60,17 +17,17 @@ arrange-spec =
     (tie.spec
     Inv-loop
     μ-loop
-    loop-holds
-    last-entry-requires
-    sub-top
-    mul-order
-    slice-write-order
-    settle-requires
-    sub-i
-    loop-less
-    loop-again
-    sub-m
-    loop-less-2
-    loop-again-2
-    same-length
-    returns)
+    (λ c. emptied-starts (c .before .before .before .pre))
+    (λ c κs. emptied-last (c .before .before .before .before .before .pre) (c .before .loop .inv) (c .loop-test .taken))
+    (λ c. let r = c .before .before .loop .inv .room in omega arith)
+    (λ c. search needs)
+    (λ c. let r = c .before .before .loop .inv .room in let w = c .before .before .loop .inv .within in omega arith)
+    (λ c κs. emptied-ready (c .before .before .before .before .before .before .before .pre) (c .before .before .before .loop .inv) (c .before .before .loop-test .taken) (c .before .last-entry .ensures))
+    (λ c. let n = c .before .before .before .before .before .before .loop-test .taken in omega arith)
+    (λ c. let n = c .before .before .before .before .before .before .loop-test .taken in omega arith)
+    (λ c. emptied-individual (c .before .before .before .before .before .before .before .before .before .before .before .pre) (c .before .before .before .before .before .before .before .loop .inv) (c .before .before .before .before .before .before .loop-test .taken) (c .before .before .before .before .before .last-entry .ensures) (c .before .before .before .settle .ensures) (c .if1 .taken))
+    (λ c. let s = emptied-some (c .before .before .before .before .before .before .before .before .before .before .before .pre) (c .before .before .before .before .before .before .before .loop .inv) (c .before .before .before .before .before .before .loop-test .taken) (c .before .before .before .before .before .last-entry .ensures) (c .if1 .left) in omega arith)
+    (λ c. let s = emptied-some (c .before .before .before .before .before .before .before .before .before .before .before .pre) (c .before .before .before .before .before .before .before .loop .inv) (c .before .before .before .before .before .before .loop-test .taken) (c .before .before .before .before .before .last-entry .ensures) (c .if1 .left) in omega arith)
+    (λ c. emptied-constraint (c .before .before .before .before .before .before .before .before .before .before .before .pre) (c .before .before .before .before .before .before .before .loop .inv) (c .before .before .before .before .before .before .loop-test .taken) (c .before .before .before .before .before .last-entry .ensures) (c .before .before .before .settle .ensures) (c .if1 .left))
+    (λ c. c .before .loop .inv .same)
+    (λ c. emptied-ends (c .before .before .before .before .before .pre) (c .before .loop .inv) (c .loop-test .left)))
