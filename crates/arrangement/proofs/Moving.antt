@@ -1,4 +1,4 @@
--- Words copied one by one, and the run at a place moved behind others. Assumes nothing.
+-- The run at a place moved behind others, by way of spare words. Assumes nothing.
 use Prim.Native.Nat.{_*_, _+_, _-_, _<_, _≤_, ℕ}
 use mathlib.Core.List.{List, _++_}
 use mathlib.Core.Path.{_∙_, _≡_, ap, refl, sym}
@@ -11,15 +11,6 @@ use Rattle.frames.proofs.Frames.{row-word}
 use Rattle.frames.proofs.Rows.{length-put, length-row, put-append, put-row}
 use Rattle.frames.specs.Rows.{putAt, rowAt}
 use Rattle.words.proofs.Steps.{stored-all}
-
-module _ (from : List ℕ) (i : ℕ) (to : List ℕ) (j n : ℕ) (f : i + n ≤ length from) (t : j + n ≤ length to) where
-  pub copied-more : (ts : List ℕ) (k : ℕ) → k < n → ts ≡ paste to j (rowAt n from i) k → set ts (j + k) (getD from (i + k) 0) ≡ paste to j (rowAt n from i) (k + 1)
-  copied-more ts k h e =
-      let l = length-row n from i f in
-      rw (e, add-one k) (ap (λ (x : ℕ). set (paste to j (rowAt n from i) k) (j + k) x) (sym (row-word n from i k h)) ∙ paste-suc to j (rowAt n from i) k 0 (omega arith) (omega arith))
-
-  pub copied-all : (ts : List ℕ) (k : ℕ) → k ≡ n → ts ≡ paste to j (rowAt n from i) k → ts ≡ putAt to j (rowAt n from i)
-  copied-all ts k e g = stored-all to ts j (rowAt n from i) k (e ∙ sym (length-row n from i f)) g
 
 -- what is put together in the spare words: the runs the other way round
 module _ {o : List ℕ} {a b c : ℕ} (g : Rotatable o a b c) where

@@ -4,6 +4,7 @@ use entries::CONSTRAINT_ENTRIES;
 use entries::Order;
 use entries::compare_runs;
 use entries::depth_of;
+use frames::copy;
 use layout::Tables;
 use layout::holder_of;
 use layout::parent_of;
@@ -15,7 +16,6 @@ ghost use mathlib.Core.Path.{_≡_};
 ghost use lib.ListN.{length};
 ghost use Rattle.arrangement.specs.Listing.{Arrangeable, Arranged, HasLast, lastEntry, ownsLast};
 ghost use Rattle.arrangement.specs.Steps.{Depths, FindsPlace, Listable, Ready, Rotatable, RunEnds, Settled, isNext, rotated};
-ghost use Rattle.frames.specs.Rows.{putAt, rowAt};
 
 // A place for individual 0, of which the terms are, and for each that there may be.
 pub const DEPTHS: usize = MOST_RECORDS + 1;
@@ -84,16 +84,6 @@ fn find_place(work: &[u32], depths: &[u32], order: &[u32], a: usize, b: usize) -
         }
     }
     Place { at, found: false }
-}
-
-// n words, from place i of one slice to place j of another.
-fn copy(from: &[u32], i: usize, to: &mut [u32], j: usize, n: usize)
-    requires { ⌜ (i + n ≤ length (now from)) × (j + n ≤ length (now to)) ⌝ }
-    ensures { λ _. ⌜ now (to .exit) ≡ putAt (now (to .entry)) j (rowAt n (now (from .entry)) i) ⌝ }
-{
-    for k in 0..n {
-        to[j + k] = from[i + k];
-    }
 }
 
 // The entries from a to before b go behind those from b to before c.

@@ -1,10 +1,11 @@
 -- Sets in a longer row of words: a part of a slice, what was put there, and what stands beside it. Assumes nothing.
-use Prim.Native.Nat.{_+_, _-_, _≤_, ℕ}
-use lib.ListN.{drop, length, length-append, length-drop, length-take, take, take-append-drop}
-use lib.Seq.{drop-append-add, drop-at, drop-drop, length-take-le, take-append-le, take-at, take-take}
+use Prim.Native.Nat.{_+_, _-_, _<_, _≤_, ℕ}
+use lib.ListN.{drop, getD, length, length-append, length-drop, length-take, set, take, take-append-drop}
+use lib.Seq.{drop-append-add, drop-at, drop-drop, getD-drop, getD-take, length-take-le, paste, paste-suc, take-append-le, take-at, take-length, take-take}
 use mathlib.Core.List.{List, [], _++_, append-assoc}
 use mathlib.Core.Path.{_∙_, _≡_, ap, sym}
 use native.Mathlib.Nat.{add-zero}
+use native.Mathlib.Numerals.{add-one}
 use native.Mathlib.Omega.{arith}
 use Rattle.frames.specs.Rows.{putAt, rowAt}
 
@@ -65,3 +66,17 @@ put-nil ws at = rw add-zero (take-append-drop at ws)
 pub put-self : (n : ℕ) (ws : List ℕ) (at : ℕ) → at + n ≤ length ws → putAt ws at (rowAt n ws at) ≡ ws
 put-self n ws at h =
     rw (length-row n ws at h, ← drop-drop n at ws, take-append-drop n (drop at ws)) (take-append-drop at ws)
+
+-- ---- a copy, word by word
+
+module _ (from : List ℕ) (i : ℕ) (to : List ℕ) (j n : ℕ) (f : i + n ≤ length from) (t : j + n ≤ length to) where
+  pub copied-more : (ts : List ℕ) (k : ℕ) → k < n → ts ≡ paste to j (rowAt n from i) k → set ts (j + k) (getD from (i + k) 0) ≡ paste to j (rowAt n from i) (k + 1)
+  copied-more ts k h e =
+      let l = length-row n from i f in
+      let w : getD (rowAt n from i) k 0 ≡ getD from (i + k) 0 = getD-take n (drop i from) k 0 h ∙ getD-drop i from k 0 in
+      rw (e, add-one k) (ap (λ (x : ℕ). set (paste to j (rowAt n from i) k) (j + k) x) (sym w) ∙ paste-suc to j (rowAt n from i) k 0 (omega arith) (omega arith))
+
+  pub copied-all : (ts : List ℕ) (k : ℕ) → k ≡ n → ts ≡ paste to j (rowAt n from i) k → ts ≡ putAt to j (rowAt n from i)
+  copied-all ts k e g =
+      let l : k ≡ length (rowAt n from i) = e ∙ sym (length-row n from i f) in
+      g ∙ rw (l, take-length (rowAt n from i)) (append-assoc (take j to) (rowAt n from i) (drop (j + length (rowAt n from i)) to))

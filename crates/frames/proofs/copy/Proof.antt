@@ -4,10 +4,10 @@ use mathlib.Core.Path.{_∙_, _≡_, refl}
 use lib.ListN.{length, length-set}
 use lib.Seq.{paste, paste-zero}
 use native.Mathlib.Omega.{arith}
 use Rattle.frames.specs.Rows.{rowAt}
-use Rattle.arrangement.proofs.Moving.{copied-all, copied-more}
-use Rattle.arrangement.proofs.copy.Statement.{statement}
-use Rattle.arrangement.proofs.copy.Tie as tie
+use Rattle.frames.proofs.Rows.{copied-all, copied-more}
+use Rattle.frames.proofs.copy.Statement.{statement}
+use Rattle.frames.proofs.copy.Tie as tie
 
 abbrev Inv-loop : tie.InvT-loop
 Inv-loop from i to₀ j n k₀ to k = (k ≤ n) × (length to ≡ length to₀) × (to ≡ paste to₀ j (rowAt n from i) k)
