@@ -3,6 +3,7 @@ pub mod Comparing
 pub mod Inserting
 pub mod Arranging
 pub mod Spelled
+pub mod Standing
 mod Deepening
 mod Ends
 mod Finding
