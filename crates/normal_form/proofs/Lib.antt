@@ -9,3 +9,4 @@ pub mod Growing
 pub mod Building
 pub mod Forms
 pub mod Callers
+pub mod Several

@@ -1,6 +1,7 @@
 // The normal form of a term, as flat tables of the work slice: one walk, no tree, no numbering afterwards.
 use closure::above;
 use closure::range_above;
+use frames::copy;
 use functional::Functional;
 use layout::PENDING;
 use layout::Tables;
@@ -23,6 +24,7 @@ ghost use mathlib.Core.Path.{_≡_};
 ghost use Prim.Native.Nat.{_≤_, max, min};
 ghost use lib.Dec.{eqb};
 ghost use lib.ListN.{length};
+ghost use Rattle.frames.specs.Rows.{rowAt};
 ghost use Rattle.layout.specs.Places.{tablesEnd};
 ghost use Rattle.layout.specs.Tables.{HasEntry};
 ghost use Rattle.meaning.specs.Limits.{mostRoles};
@@ -31,7 +33,7 @@ ghost use Rattle.normal_form.specs.Parts.{armAt, joins};
 ghost use Rattle.policy.specs.Terms.{conjunctOf, conjunctsAt};
 ghost use Rattle.normal_form.specs.Steps.{Adding, BuiltFrom, Gatherable, Gathered, Good, HasRoomFor, NodedFrom, Placed, Room, Single, Waiting, front};
 ghost use Rattle.normal_form.specs.Steps.{startOf};
-ghost use Rattle.normal_form.specs.Tables.{Fit, Normalised};
+ghost use Rattle.normal_form.specs.Tables.{Fit, FitAll, Normalised, NormalisedAll};
 ghost use Rattle.words.specs.Sets.{inSet};
 
 // What the conjuncts of an individual have given: its classes, the ends of the pending roles and of the constraints, and whether
@@ -309,6 +311,28 @@ pub fn normalise(p: &[u32], work: &mut [u32], f: Functional, s: u32) -> Tables
         f,
         PENDING,
         PENDING + 1,
+        0,
+        Tables {
+            individuals: 0,
+            constraints: 0,
+            impossible: false,
+        },
+    )
+}
+
+// The terms at the first n records of a list, one behind another: individuals by no role, below none.
+pub fn normalise_all(p: &[u32], work: &mut [u32], f: Functional, terms: &[u32], n: usize) -> Tables
+    requires { ⌜ FitAll (now p) (now work) (rowAt n (now terms) 0) × (n ≤ length (now terms)) ⌝ }
+    ensures { λ r. ⌜ NormalisedAll f (now (p .entry)) (rowAt n (now (terms .entry)) 0) (now (work .entry)) (now (work .exit)) r ⌝ }
+{
+    copy(terms, 0, work, PENDING, n);
+    let stop = PENDING + n;
+    successors(
+        p,
+        work,
+        f,
+        PENDING,
+        stop,
         0,
         Tables {
             individuals: 0,
