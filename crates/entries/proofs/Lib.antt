@@ -2,4 +2,4 @@
 mod Reading
 mod Ordering
 mod Classes
-mod Runs
+pub mod Runs

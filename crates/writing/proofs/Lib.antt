@@ -1,1 +1,3 @@
 -- Why the words are those.
+mod Counting
+mod Linking
