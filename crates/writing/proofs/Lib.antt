@@ -1,3 +1,4 @@
 -- Why the words are those.
 mod Counting
 mod Linking
+mod Words
