@@ -22,6 +22,9 @@ use Rattle.writing.specs.Written.{CountsEntry, Ordered, areTooLong, isDe
 pub entry-known : {w o : List ℕ} {i : ℕ} → Ordered w o i → (j : ℕ) {e : ℕ} → e ≡ getD o j 0 → HasItem e w
 entry-known r j e = record { known = subst (λ (n : ℕ). n < 2 * mostRecords) (sym e) (r .entries j); long = r .long }
 
+pub place-known : {w o : List ℕ} {i j : ℕ} → Ordered w o i → j ≤ length o → Ordered w o j
+place-known r h = record { long = r .long; entries = r .entries; few = r .few; within = h }
+
 pub later : {w o : List ℕ} {i : ℕ} → Ordered w o i → i < length o → Ordered w o (i + 1)
 later r h = record { long = r .long; entries = r .entries; few = r .few; within = omega arith }
 

@@ -2,3 +2,4 @@
 mod Counting
 mod Linking
 mod Words
+mod Whole

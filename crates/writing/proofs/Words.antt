@@ -94,14 +94,6 @@ module _ {ws : List ℕ} {first last : ℕ} {o₀ : List ℕ} {k c : ℕ} {o : L
 
 -- ---- an entry: its own record, then its classes'
 
-class-words : (k : ℕ) (cs : List ℕ) (last : ℕ) → length (classRecords k cs last []) ≡ 6 * length cs
-class-words k [] last = refl
-class-words k (c ∷ cs) last = omega (arith, class-words (suc k) cs last)
-
-class-append : (k : ℕ) (cs : List ℕ) (last : ℕ) (rest : List ℕ) → classRecords k cs last rest ≡ classRecords k cs last [] ++ rest
-class-append k [] last rest = refl
-class-append k (c ∷ cs) last rest = ap (recordWords 1 c 0 0 0 (whereAny cs (suc k) last)) (class-append (suc k) cs last rest)
-
 fields-here : (w ds : List ℕ) (e : ℕ) → itemAt w ds e .fields ≡ fieldsAt w ds e
 unfolding itemAt
 fields-here w ds e = refl

@@ -1,55 +1,34 @@
 use borrow.Author.Needs.{needs}
+use Prim.Native.Nat.{_-_}
+use native.Mathlib.Omega.{arith}
+use lib.ListN.{length}
+use Rattle.writing.proofs.Counting.{entry-known, place-known}
+use Rattle.writing.proofs.Whole.{Writing, writing-ends, writing-more, writing-room, writing-starts}
 use Rattle.writing.proofs.write.Statement.{statement}
 use Rattle.writing.proofs.write.Tie as tie
-use Rattle.writing.proofs.write.Reads as reads
-use Rattle.writing.proofs.write.Lts as lts
-use Rattle.records.proofs.word.Reads as word-reads
-use Rattle.writing.proofs.count_at.Reads as count-at-reads
-use Rattle.writing.proofs.first_link.Reads as first-link-reads
-use Rattle.writing.proofs.put.Reads as put-reads
-use Rattle.writing.proofs.write_entry.Reads as write-entry-reads
 
 abbrev Inv-loop : tie.InvT-loop
-Inv-loop work depths order top out₀ k₀ i₀ i-end out k i = ?
+Inv-loop work depths order top out₀ k₀ i₀ i-end out k i = Writing work depths order top out₀ i k out
 
 abbrev μ-loop : tie.MeasureT-loop
-μ-loop work depths order top out₀ k₀ i₀ i-end out k i = ?
-
-first-link-requires : tie.Need-first-link-requires Inv-loop μ-loop
-first-link-requires c κs = search needs
-
-put-requires : tie.Need-put-requires Inv-loop μ-loop
-put-requires c κs = search needs
-
-loop-holds : tie.Need-loop-holds Inv-loop μ-loop
-loop-holds c = search needs
+μ-loop work depths order top out₀ k₀ i₀ i-end out k i = length order - i
 
 write-entry-requires : tie.Need-write-entry-requires Inv-loop μ-loop
-write-entry-requires c κs = search needs
-
-word-requires : tie.Need-word-requires Inv-loop μ-loop
-word-requires c κs = search needs
-
-count-at-requires : tie.Need-count-at-requires Inv-loop μ-loop
-count-at-requires c κs = search needs
-
-add-k : tie.Need-add-k Inv-loop μ-loop
-add-k c = search needs
-
-add-i : tie.Need-add-i Inv-loop μ-loop
-add-i c = search needs
-
-loop-less : tie.Need-loop-less Inv-loop μ-loop
-loop-less c = search needs
+write-entry-requires c κs =
+    let s = c .before .before .before .before .before .before .before .before .before .before .before .before in
+    let l = c .before .before .loop in
+    (place-known (s .pre .0) (l .inv .within), c .before .loop-test .taken, writing-room (l .inv) (s .args .out .now) (s .pre .1) (search needs) (c .before .loop-test .taken))
 
 loop-again : tie.Need-loop-again Inv-loop μ-loop
-loop-again c = search needs
-
-same-length : tie.Need-same-length Inv-loop μ-loop
-same-length c = search needs
+loop-again c =
+    let s = c .before .before .before .before .before .before .before .before .before .before .before .before .before .before .before .before .before in
+    writing-more (c .before .before .before .before .before .before .before .loop .inv) (s .args .out .now) (s .pre .1) (search needs) (c .before .before .before .before .before .before .loop-test .taken) (c .before .word .ensures) (c .count-at .ensures) (search needs) (c .before .before .before .before .write-entry .ensures)
 
 returns : tie.Need-returns Inv-loop μ-loop
-returns c = search needs
+returns c =
+    let s = c .before .before .before .before .before .before .before .before .before .before .before in
+    let a = s .args in
+    writing-ends (c .before .loop .inv) (a .out .now) (s .pre .1) (search needs) (c .loop-test .left) (c .before .before .before .before .before .first-link .ensures (a .work .now) (a .depths .now)) (c .before .before .before .before .put .ensures)
 
 pub write-spec : {M : Type 1} → statement M
 write-spec =
@@ -57,15 +36,15 @@ write-spec =
     (tie.spec
     Inv-loop
     μ-loop
-    first-link-requires
-    put-requires
-    loop-holds
+    (λ c κs. search needs)
+    (λ c κs. search needs)
+    (λ c. writing-starts _ (c .before .before .before .before .before .before .before .before .before .pre .0))
     write-entry-requires
-    word-requires
-    count-at-requires
-    add-k
-    add-i
-    loop-less
+    (λ c κs. search needs)
+    (λ c κs. entry-known (c .before .before .before .before .before .before .before .before .before .before .before .before .before .before .before .before .pre .0) (c .before .before .before .before .before .before .loop .i) (c .word .ensures))
+    (λ c. omega (arith, c .before .before .before .before .before .before .before .loop .inv .count, c .before .before .before .before .before .before .before .before .before .before .before .before .before .before .before .before .before .pre .1 .few, c .count-at .ensures .few))
+    (λ c. search needs)
+    (λ c. search needs)
     loop-again
-    same-length
+    (λ c. search needs)
     returns)
