@@ -3,3 +3,4 @@ mod Counting
 mod Linking
 mod Words
 mod Whole
+pub mod Spelled
