@@ -3,10 +3,10 @@ use Prim.Native.Nat.{_*_, _+_, _<_, _≤_, suc, ℕ}
 use mathlib.Core.Bool.{Bool, _||_, cond, false, true}
 use mathlib.Core.List.{List, [], _∷_}
 use mathlib.Core.Path.{_∙_, _≡_, ap, refl, subst, sym}
-use lib.Dec.{eqb, leb, ltb}
+use lib.Dec.{leb, ltb}
 use lib.ListN.{getD, length}
 use native.Mathlib.Omega.{arith}
-use borrow.Author.Tests.{le-leb, leb-false, leb-true, le-ltb, lt-leb, lt-ltb}
+use borrow.Author.Tests.{le-ltb, leb-false, leb-true, lt-ltb}
 use Rattle.entries.proofs.Runs.{items-first, items-none}
 use Rattle.entries.specs.Entries.{HasItem, Item, classesAt, depthAt, fieldsAt, itemAt}
 use Rattle.entries.specs.declared.Fields.{Fields}
@@ -15,7 +15,7 @@ use Rattle.meaning.specs.Lists.{any}
 use Rattle.words.proofs.Laws.{members-few}
 use Rattle.words.specs.Members.{members}
 use Rattle.words.specs.Rows.{classWords}
-use Rattle.writing.specs.Written.{CountsEntry, Ordered, areTooLong, isDeep, itemsFrom, recordCount, recordsIn, whereAny}
+use Rattle.writing.specs.Written.{CountsEntry, Ordered, areTooLong, isDeep, itemsFrom, recordsIn, whereAny}
 
 -- ---- an entry
 
@@ -25,52 +25,53 @@ entry-known r j e = record { known = subst (λ (n : ℕ). n < 2 * mostRecords) (
 pub place-known : {w o : List ℕ} {i j : ℕ} → Ordered w o i → j ≤ length o → Ordered w o j
 place-known r h = record { long = r .long; entries = r .entries; few = r .few; within = h }
 
-pub later : {w o : List ℕ} {i : ℕ} → Ordered w o i → i < length o → Ordered w o (i + 1)
-later r h = record { long = r .long; entries = r .entries; few = r .few; within = omega arith }
+pub next-known : {w o : List ℕ} {i : ℕ} → Ordered w o i → i < length o → Ordered w o (i + 1)
+next-known r h = place-known r (omega arith)
 
-pub depth-here : (w ds : List ℕ) (e : ℕ) → itemAt w ds e .fields .depth ≡ depthAt w ds e
-unfolding itemAt fieldsAt
-depth-here w ds e = go (ltb e mostRecords) _ _ refl refl
+-- `a ≤ b` is the test `a < b + 1`
+suc-suc : (a b : ℕ) → leb a b ≡ ltb a (suc b)
+suc-suc a b = go (leb a b) refl
   where
-    go : (b : Bool) (r c : Fields) {d : ℕ} → r .depth ≡ d → c .depth ≡ d → cond b r c .depth ≡ d
-    go true r c p q = p
-    go false r c p q = q
+    go : (t : Bool) → leb a b ≡ t → t ≡ ltb a (suc b)
+    go true h = sym (lt-ltb a (suc b) (let g = leb-true a b h in omega arith))
+    go false h = sym (le-ltb a (suc b) (let g = leb-false a b h in omega arith))
 
-pub classes-here : (w ds : List ℕ) (e : ℕ) → itemAt w ds e .classes ≡ members (classesAt w e)
-unfolding itemAt
-classes-here w ds e = refl
+module _ (w ds : List ℕ) (e : ℕ) where
+  pub depth-here : itemAt w ds e .fields .depth ≡ depthAt w ds e
+  unfolding itemAt fieldsAt
+  depth-here = go (ltb e mostRecords) _ _ refl refl
+    where
+      go : (b : Bool) (r c : Fields) {d : ℕ} → r .depth ≡ d → c .depth ≡ d → cond b r c .depth ≡ d
+      go true r c p q = p
+      go false r c p q = q
 
-pub entry-counted : (w : List ℕ) (e : ℕ) {s : List ℕ} {n : ℕ} → s ≡ classesAt w e → n ≡ length (members s) → length s ≡ classWords → CountsEntry w e (1 + n)
+  module _ {s : List ℕ} {n : ℕ} (p : s ≡ classesAt w e) (q : n ≡ length (members s)) where
+    count-here : n ≡ length (itemAt w ds e .classes)
+    unfolding itemAt
+    count-here = q ∙ ap (λ (t : List ℕ). length (members t)) p
+
+    module _ {d : ℕ} (t : d ≡ depthAt w ds e) where
+      -- no classes
+      pub deep-own : n ≡ 0 → ltb mostDepth d ≡ isDeep (itemAt w ds e)
+      deep-own z = rw (t, ← depth-here) (go (itemAt w ds e .classes) (itemAt w ds e .fields .depth) (sym count-here ∙ z))
+        where
+          go : (cs : List ℕ) (b : ℕ) → length cs ≡ 0 → ltb mostDepth b ≡ ltb mostDepth (whereAny cs (suc b) b)
+          go [] b h = refl
+          go (c ∷ cs) b h = absurd (omega arith)
+
+      pub deep-classes : (n ≡ 0 → ⊥) → leb mostDepth d ≡ isDeep (itemAt w ds e)
+      deep-classes z = rw (t, ← depth-here) (go (itemAt w ds e .classes) (itemAt w ds e .fields .depth) (λ h. z (count-here ∙ h)))
+        where
+          go : (cs : List ℕ) (b : ℕ) → (length cs ≡ 0 → ⊥) → leb mostDepth b ≡ ltb mostDepth (whereAny cs (suc b) b)
+          go [] b h = absurd (h refl)
+          go (c ∷ cs) b h = suc-suc mostDepth b
+
+pub entry-counted : (w : List ℕ) (e : ℕ) {s : List ℕ} {n : ℕ} → s ≡ classesAt w e → n ≡ length (members s) → length s ≡ classWords →
+    CountsEntry w e (1 + n)
 entry-counted w e {s} {n} p q r = record {
-  says = λ ds. (let z : n ≡ length (itemAt w ds e .classes) = q ∙ ap (λ (t : List ℕ). length (members t)) p ∙ ap length (sym (classes-here w ds e)) in omega arith);
+  says = λ ds. omega (arith, count-here w ds e p q);
   few = omega (arith, members-few s);
 }
-
--- ---- how deep
-
-pub any-none : (cs : List ℕ) (x y : ℕ) → length cs ≡ 0 → whereAny cs x y ≡ y
-any-none [] x y h = refl
-any-none (c ∷ cs) x y h = absurd (omega arith)
-
-pub any-some : (cs : List ℕ) (x y : ℕ) → (length cs ≡ 0 → ⊥) → whereAny cs x y ≡ x
-any-some [] x y h = absurd (h refl)
-any-some (c ∷ cs) x y h = refl
-
-module _ (w ds : List ℕ) (e : ℕ) {s : List ℕ} {d n : ℕ} (p : d ≡ depthAt w ds e) (q : s ≡ classesAt w e) (r : n ≡ length (members s)) where
-  pub deep-own : n ≡ 0 → ltb mostDepth d ≡ isDeep (itemAt w ds e)
-  deep-own z =
-      let k : length (itemAt w ds e .classes) ≡ 0 = ap length (classes-here w ds e) ∙ ap (λ (t : List ℕ). length (members t)) (sym q) ∙ sym r ∙ z in
-      rw (any-none (itemAt w ds e .classes) (suc (itemAt w ds e .fields .depth)) (itemAt w ds e .fields .depth) k, depth-here w ds e, p)
-
-  pub deep-classes : (n ≡ 0 → ⊥) → leb mostDepth d ≡ isDeep (itemAt w ds e)
-  deep-classes z =
-      let f : n ≡ length (itemAt w ds e .classes) = r ∙ ap (λ (t : List ℕ). length (members t)) q ∙ ap length (sym (classes-here w ds e)) in
-      rw (any-some (itemAt w ds e .classes) (suc (itemAt w ds e .fields .depth)) (itemAt w ds e .fields .depth) (λ k. z (f ∙ k)), depth-here w ds e, p)
-      (go (leb mostDepth (depthAt w ds e)) refl)
-    where
-      go : (b : Bool) → leb mostDepth (depthAt w ds e) ≡ b → b ≡ ltb mostDepth (suc (depthAt w ds e))
-      go true h = sym (lt-ltb mostDepth (suc (depthAt w ds e)) (let g = leb-true mostDepth (depthAt w ds e) h in omega arith))
-      go false h = sym (le-ltb mostDepth (suc (depthAt w ds e)) (let g = leb-false mostDepth (depthAt w ds e) h in omega arith))
 
 -- ---- entry after entry
 
@@ -92,16 +93,14 @@ counting-starts r = record { within = r .within; few = omega arith; says = λ ds
 
 module _ {w o : List ℕ} {top i n : ℕ} (x : Counting w o top i n) where
   pub counting-more : {e m : ℕ} → i < length o → e ≡ getD o i 0 → CountsEntry w e m → Counting w o top (i + 1) (n + m)
-  counting-more {e} {m} h p q = record {
+  counting-more h p q = record {
     within = omega arith;
     few = omega (arith, x .few, q .few);
-    says = λ ds.
-        (let z : recordsIn (itemsFrom w ds o i) ≡ recordCount (itemAt w ds e) + recordsIn (itemsFrom w ds o (i + 1)) = ap recordsIn (from-first w ds o i p h) in
-        omega (arith, q .says ds, x .says ds));
+    says = λ ds. omega (arith, ap recordsIn (from-first w ds o i p h), q .says ds, x .says ds);
   }
 
   pub counting-ends : length o ≤ i → (ds : List ℕ) → n ≡ recordsIn (itemsFrom w ds o top)
-  counting-ends h ds = let z : recordsIn (itemsFrom w ds o i) ≡ 0 = ap recordsIn (from-none w ds o i h) in omega (arith, x .says ds)
+  counting-ends h ds = omega (arith, ap recordsIn (from-none w ds o i h), x .says ds)
 
 -- no entry before place i is deep
 pub record Passing (w ds o : List ℕ) (top i : ℕ) : Type 0 where
@@ -113,14 +112,14 @@ passing-starts r = record { within = r .within; says = refl }
 
 module _ {w ds o : List ℕ} {top i : ℕ} (x : Passing w ds o top i) where
   module _ {e : ℕ} {b : Bool} (h : i < length o) (p : e ≡ getD o i 0) (q : b ≡ isDeep (itemAt w ds e)) where
-    told : b || any isDeep (itemsFrom w ds o (i + 1)) ≡ any isDeep (itemsFrom w ds o top)
-    told = ap (λ (t : Bool). t || any isDeep (itemsFrom w ds o (i + 1))) q ∙ ap (any isDeep) (sym (from-first w ds o i p h)) ∙ x .says
+    told : (c : Bool) → b ≡ c → c || any isDeep (itemsFrom w ds o (i + 1)) ≡ any isDeep (itemsFrom w ds o top)
+    told c t = rw (← t, q) (ap (any isDeep) (sym (from-first w ds o i p h)) ∙ x .says)
 
     pub passing-found : b ≡ true → true ≡ any isDeep (itemsFrom w ds o top)
-    passing-found t = ap (λ (y : Bool). y || any isDeep (itemsFrom w ds o (i + 1))) (sym t) ∙ told
+    passing-found t = told true t
 
     pub passing-more : b ≡ false → Passing w ds o top (i + 1)
-    passing-more t = record { within = omega arith; says = ap (λ (y : Bool). y || any isDeep (itemsFrom w ds o (i + 1))) (sym t) ∙ told }
+    passing-more t = record { within = omega arith; says = told false t }
 
   pub passing-ends : length o ≤ i → false ≡ any isDeep (itemsFrom w ds o top)
   passing-ends h = ap (any isDeep) (sym (from-none w ds o i h)) ∙ x .says

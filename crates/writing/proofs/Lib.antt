@@ -1,6 +1,6 @@
--- Why the words are those.
+-- Why the words are those of the items, and the items' those of the policy.
 mod Counting
 mod Linking
 mod Words
-mod Whole
+pub mod Whole
 pub mod Spelled

@@ -1,13 +1,13 @@
 -- The links to the entries that follow. Assumes nothing.
-use Prim.Native.Nat.{_*_, _+_, _<_, _≤_, suc, ℕ}
-use mathlib.Core.Bool.{Bool, cond}
-use mathlib.Core.List.{List, [], _∷_}
+use Prim.Native.Nat.{_*_, _+_, _<_, _≤_, ℕ}
+use mathlib.Core.Bool.{cond}
+use mathlib.Core.List.{List}
 use mathlib.Core.Path.{_∙_, _≡_, ap, refl, sym}
 use lib.Dec.{eqb, ltb}
 use lib.ListN.{getD, length}
 use native.Mathlib.Omega.{arith}
 use borrow.Author.Tests.{eq-eqb, le-ltb, lt-ltb, ne-eqb}
-use Rattle.entries.specs.Entries.{Item, depthAt, itemAt}
+use Rattle.entries.specs.Entries.{depthAt, itemAt}
 use Rattle.meaning.specs.Limits.{mostClasses, mostRecords}
 use Rattle.meaning.specs.Records.{linkTo}
 use Rattle.writing.proofs.Counting.{depth-here, from-first, from-none}

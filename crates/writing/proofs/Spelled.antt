@@ -1,6 +1,6 @@
 -- The items of a policy whose classes stand in front: they are as many records as its own, as deep, and their words are the policy's.
 -- Assumes nothing.
-use Prim.Native.Nat.{_*_, _+_, _<_, _≤_, max, suc, zero, ℕ}
+use Prim.Native.Nat.{_+_, _<_, max, suc, ℕ}
 use mathlib.Core.Bool.{Bool, _||_, cond, false, true}
 use mathlib.Core.List.{List, [], _++_, _∷_, append-assoc}
 use mathlib.Core.Path.{_∙_, _≡_, ap, ap₂, refl, sym}
@@ -9,7 +9,7 @@ use lib.ListN.{length}
 use native.Mathlib.Nat.{add-zero}
 use native.Mathlib.Omega.{arith}
 use borrow.Author.Tests.{eq-eqb, le-ltb, lt-ltb, ltb-false, ltb-true, ne-eqb}
-use Rattle.arrangement.specs.Runs.{Fronted, chainItems, classesOf, constraintItem, policyItems, roleItem}
+use Rattle.arrangement.specs.Runs.{Fronted, chainItems, classesOf, policyItems, roleItem}
 use Rattle.entries.specs.Entries.{Item}
 use Rattle.meaning.specs.Accepted.{count, depth, total}
 use Rattle.meaning.specs.Limits.{mostDepth, mostRecords}
@@ -18,8 +18,8 @@ use Rattle.meaning.specs.Policy.{Chain, Policy, class, end, impossible, interva
 use Rattle.meaning.specs.Records.{linkTo}
 use Rattle.spelling.specs.Spelling.{tooLong}
 use Rattle.spelling.specs.Words.{chainLink, chainWords, policyWords, recordWords, termWords}
-use Rattle.writing.specs.Written.{areTooLong, classRecords, deepest, firstRecords, isDeep, itemRecords, itemWords, kindOf, linkBelow, linkBeside, recordsIn}
-use Rattle.writing.specs.Written.{whereAny}
+use Rattle.writing.specs.Written.{areTooLong, classRecords, deepest, firstRecords, isDeep, itemRecords, itemWords, linkBelow}
+use Rattle.writing.specs.Written.{linkBeside, recordsIn, whereAny}
 
 -- ---- how many
 
@@ -209,8 +209,15 @@ chain-words (some r child next) b k d l f h =
 chain-words (interval a lo hi next) b k d l f h =
     let n : k + suc (count next) ≡ suc k + count next = omega arith in
     let m : k + 1 ≡ suc k = omega arith in
-    rw (add-zero k, n, eqb·suc-zero d, m, below-none (suc k) (suc d) (chainItems (suc d) next ++ l) (above-chain next (suc d) l h),
-    beside-here next (suc k) (suc d) l f h, plain-words (suc k) d next l f (chain-words next false (suc k) d l f h))
+    rw (
+      add-zero k,
+      n,
+      eqb·suc-zero d,
+      m,
+      below-none (suc k) (suc d) (chainItems (suc d) next ++ l) (above-chain next (suc d) l h),
+      beside-here next (suc k) (suc d) l f h,
+      plain-words (suc k) d next l f (chain-words next false (suc k) d l f h),
+    )
 
 term-words : (P : Policy) (k : ℕ) → All (Fronted true) P → itemRecords k (policyItems P) ≡ termWords k P
 unfolding itemRecords

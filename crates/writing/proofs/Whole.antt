@@ -2,7 +2,7 @@
 use Prim.Native.Nat.{_*_, _+_, _<_, _≤_, suc, ℕ}
 use mathlib.Core.List.{List, [], _++_, _∷_}
 use mathlib.Core.Path.{_∙_, _≡_, ap, ap₂, refl, sym}
-use lib.ListN.{drop, getD, length, length-append}
+use lib.ListN.{drop, getD, length}
 use native.Mathlib.Nat.{zero-add}
 use native.Mathlib.Omega.{arith}
 use Rattle.entries.specs.Entries.{Item, itemAt}
@@ -13,7 +13,8 @@ use Rattle.meaning.specs.Records.{linkTo}
 use Rattle.spelling.specs.Words.{recordWords}
 use Rattle.writing.proofs.Counting.{from-first, from-none}
 use Rattle.writing.proofs.Words.{record-then}
-use Rattle.writing.specs.Written.{CountsEntry, Ordered, Room, classRecords, firstRecords, itemRecords, itemWords, itemsFrom, linkBelow, recordCount, recordsIn, whereAny}
+use Rattle.writing.specs.Written.{CountsEntry, Ordered, RoomFrom, Writable, classRecords, entryAt, firstRecords, itemRecords, itemWords}
+use Rattle.writing.specs.Written.{itemsFrom, linkBelow, recordCount, recordsIn, whereAny}
 
 -- ---- how many words
 
@@ -68,19 +69,21 @@ pub record Writing (w ds o : List ℕ) (top : ℕ) (out₀ : List ℕ) (i k : �
 pub writing-starts : {w ds o : List ℕ} {top : ℕ} (out : List ℕ) → Ordered w o top → Writing w ds o top out top 1 out
 writing-starts out r = record { within = r .within; count = refl; long = refl; says = refl }
 
-module _ {w ds o : List ℕ} {top : ℕ} {out₀ : List ℕ} {i k : ℕ} {out : List ℕ} (x : Writing w ds o top out₀ i k out)
-    (o₀ : List ℕ) (room : Room 1 (recordsIn (itemsFrom w ds o top)) o₀) (same : length out₀ ≡ length o₀) where
+module _ {w ds o : List ℕ} {top : ℕ} {out₀ : List ℕ} {i k : ℕ} {out o₀ : List ℕ} (x : Writing w ds o top out₀ i k out)
+    (room : Writable w ds o top o₀) (same : length out₀ ≡ length o₀) where
   module _ (h : i < length o) where
-    left : itemsFrom w ds o i ≡ itemAt w ds (getD o i 0) ∷ itemsFrom w ds o (i + 1)
+    left : itemsFrom w ds o i ≡ entryAt w ds o i ∷ itemsFrom w ds o (i + 1)
     left = from-first w ds o i refl h
 
-    pub writing-room : Room k (recordCount (itemAt w ds (getD o i 0))) out
-    writing-room = let n = ap recordsIn left in record { long = omega (arith, x .count, x .long, room .long); few = omega (arith, x .count, room .few) }
+    pub writing-room : RoomFrom k (recordCount (entryAt w ds o i)) out
+    writing-room =
+        let n = ap recordsIn left in
+        record { long = omega (arith, x .count, x .long, room .long); few = omega (arith, x .count, room .few) }
 
     pub writing-more : {e m : ℕ} {out′ : List ℕ} → e ≡ getD o i 0 → CountsEntry w e m → length out′ ≡ length out →
-        out′ ≡ putAt out (6 * k) (firstRecords k (itemAt w ds (getD o i 0)) (itemsFrom w ds o (i + 1)) []) → Writing w ds o top out₀ (i + 1) (k + m) out′
-    writing-more {e} {m} {out′} p q g v =
-        let y = itemAt w ds (getD o i 0) in
+        out′ ≡ putAt out (6 * k) (firstRecords k (entryAt w ds o i) (itemsFrom w ds o (i + 1)) []) → Writing w ds o top out₀ (i + 1) (k + m) out′
+    writing-more {e} {m} p q g v =
+        let y = entryAt w ds o i in
         let l = itemsFrom w ds o (i + 1) in
         let c : m ≡ recordCount y = q .says ds ∙ ap (λ (j : ℕ). recordCount (itemAt w ds j)) p in
         let n = ap recordsIn left in
@@ -91,19 +94,18 @@ module _ {w ds o : List ℕ} {top : ℕ} {out₀ : List ℕ} {i k : ℕ} {out : 
           says =
               ap₂ (λ (z : List ℕ) (j : ℕ). putAt z (6 * (k + j)) (itemRecords (k + j) l)) v c
               ∙ first-then out k y l (itemRecords (k + recordCount y) l) (omega (arith, writing-room .long))
-              ∙ ap (putAt out (6 * k)) (records-more k y l)
-              ∙ ap (λ (z : List Item). putAt out (6 * k) (itemRecords k z)) (sym left)
+              ∙ ap (putAt out (6 * k)) (records-more k y l ∙ ap (itemRecords k) (sym left))
               ∙ x .says;
         }
 
-  pub writing-ends : {first : ℕ} → length o ≤ i → first ≡ linkTo 1 (itemsFrom w ds o top) →
-      out₀ ≡ putAt o₀ 0 (recordWords first 0 0 0 0 0 []) → out ≡ outputAfter (itemWords (itemsFrom w ds o top)) o₀
+  pub writing-ends : {first : ℕ} → length o ≤ i → first ≡ linkTo 1 (itemsFrom w ds o top) → out₀ ≡ putAt o₀ 0 (recordWords first 0 0 0 0 0 []) →
+      out ≡ outputAfter (itemWords (itemsFrom w ds o top)) o₀
   unfolding itemWords itemRecords outputAfter
   writing-ends {first} h p v =
-      let l = itemsFrom w ds o top in
+      let ws = itemRecords 1 (itemsFrom w ds o top) in
       sym (put-nil out (6 * k))
-      ∙ ap (λ (z : List Item). putAt out (6 * k) (itemRecords k z)) (sym (from-none w ds o i h))
+      ∙ ap (λ (l : List Item). putAt out (6 * k) (itemRecords k l)) (sym (from-none w ds o i h))
       ∙ x .says
-      ∙ ap (λ (z : List ℕ). putAt z 6 (itemRecords 1 l)) v
-      ∙ record-then o₀ 0 first 0 0 0 0 0 (omega (arith, room .long)) (itemRecords 1 l)
-      ∙ ap₂ (λ (f n : ℕ). recordWords f 0 0 0 0 0 (itemRecords 1 l) ++ drop n o₀) p (zero-add (length (recordWords first 0 0 0 0 0 (itemRecords 1 l))))
+      ∙ ap (λ (z : List ℕ). putAt z 6 ws) v
+      ∙ record-then o₀ 0 first 0 0 0 0 0 (omega (arith, room .long)) ws
+      ∙ ap₂ (λ (f n : ℕ). recordWords f 0 0 0 0 0 ws ++ drop n o₀) p (zero-add (length (recordWords first 0 0 0 0 0 ws)))

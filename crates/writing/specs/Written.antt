@@ -66,8 +66,9 @@ unfoldable pub firstRecords : ℕ → Item → List Item → List ℕ → List �
 firstRecords k x l rest =
     let after = k + recordCount x in
     let below = linkBelow after (x .fields .depth) l in
-    recordWords (kindOf x) (x .fields .name) (x .fields .lo) (x .fields .hi) (whereAny (x .classes) (suc k) below) (linkBeside after (x .fields .depth) l)
-    (classRecords (suc k) (x .classes) below rest)
+    let child = whereAny (x .classes) (suc k) below in
+    let beside = linkBeside after (x .fields .depth) l in
+    recordWords (kindOf x) (x .fields .name) (x .fields .lo) (x .fields .hi) child beside (classRecords (suc k) (x .classes) below rest)
 
 -- the records of items from record k on
 unfoldable pub itemRecords : ℕ → List Item → List ℕ
@@ -80,7 +81,11 @@ itemWords l = recordWords (linkTo 1 l) 0 0 0 0 0 (itemRecords 1 l)
 
 -- ---- what the functions ask and say
 
--- the items of the order's entries from a place on
+-- the item of the order's entry at a place
+abbrev pub entryAt : List ℕ → List ℕ → List ℕ → ℕ → Item
+entryAt w ds o i = itemAt w ds (getD o i 0)
+
+-- the items of its entries from a place on
 abbrev pub itemsFrom : List ℕ → List ℕ → List ℕ → ℕ → List Item
 itemsFrom w ds o i = itemsIn w ds o i (length o)
 
@@ -92,9 +97,15 @@ pub record Ordered (w o : List ℕ) (i : ℕ) : Type 0 where
   pub within : i ≤ length o
 
 -- there is room for n records from record k on, and they are no more than a policy may have
-pub record Room (k n : ℕ) (out : List ℕ) : Type 0 where
+pub record RoomFrom (k n : ℕ) (out : List ℕ) : Type 0 where
   pub long : 6 * (n + k) ≤ length out
   pub few : n + k ≤ mostRecords + 1
+
+-- there is room for the header and the records of the entries from a place on, and they are no more than a policy may have
+pub record Writable (w ds o : List ℕ) (top : ℕ) (out : List ℕ) : Type 0 where
+  pub ordered : Ordered w o top
+  pub long : 6 * (recordsIn (itemsFrom w ds o top) + 1) ≤ length out
+  pub few : recordsIn (itemsFrom w ds o top) ≤ mostRecords
 
 -- n is how many records entry e is written as
 pub record CountsEntry (w : List ℕ) (e n : ℕ) : Type 0 where

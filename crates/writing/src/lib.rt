@@ -13,7 +13,7 @@ ghost use mathlib.Core.Bool.{cond};
 ghost use mathlib.Core.List.{List, []};
 ghost use mathlib.Core.Path.{_≡_};
 ghost use lib.Dec.{eqb};
-ghost use lib.ListN.{getD, length};
+ghost use lib.ListN.{length};
 ghost use Rattle.entries.specs.Entries.{HasItem, itemAt};
 ghost use Rattle.frames.specs.Rows.{putAt};
 ghost use Rattle.meaning.specs.Limits.{mostRecords};
@@ -22,8 +22,8 @@ ghost use Rattle.meaning.specs.Operations.{outputAfter};
 ghost use Rattle.meaning.specs.Records.{linkTo};
 ghost use Rattle.spelling.specs.Words.{recordWords};
 ghost use Rattle.words.specs.Members.{members};
-ghost use Rattle.writing.specs.Written.{CountsEntry, Ordered, Room, areTooLong, classRecords, firstRecords, isDeep, itemWords, itemsFrom, linkBelow, linkBeside};
-ghost use Rattle.writing.specs.Written.{recordCount, recordsIn};
+ghost use Rattle.writing.specs.Written.{CountsEntry, Ordered, RoomFrom, Writable, areTooLong, classRecords, entryAt, firstRecords};
+ghost use Rattle.writing.specs.Written.{isDeep, itemWords, itemsFrom, linkBelow, linkBeside, recordCount, recordsIn};
 
 // ---- how many, and how deep
 
@@ -108,7 +108,11 @@ fn link_below(work: &[u32], depths: &[u32], order: &[u32], i: usize, d: u32, k: 
     if order.len() <= i {
         return 0;
     }
-    if d < depth_of(work, depths, word(order, i)) { k } else { 0 }
+    if d < depth_of(work, depths, word(order, i)) {
+        k
+    } else {
+        0
+    }
 }
 
 // A link to the next entry of depth d, from place i on, whose records are numbered from first on: 0 where one of a smaller depth comes
@@ -147,7 +151,7 @@ fn put(out: &mut [u32], k: u32, kind: u32, a: u32, lo: u32, hi: u32, child: u32,
 
 // The records of the classes from record first on, each with a link to the next, and the last with a link to what follows.
 fn write_classes(out: &mut [u32], s: ClassSet, first: u32, last: u32)
-    requires { ⌜ Room first (length (members (s .words))) (now out) ⌝ }
+    requires { ⌜ RoomFrom first (length (members (s .words))) (now out) ⌝ }
     ensures { λ _. ⌜ now (out .exit) ≡ putAt (now (out .entry)) (6 * first) (classRecords first (members (s .words)) last []) ⌝ }
 {
     let mut k = first;
@@ -162,22 +166,24 @@ fn write_classes(out: &mut [u32], s: ClassSet, first: u32, last: u32)
 
 // The records of the entry at place i, from record k on. A term's is of kind 5.
 fn write_entry(work: &[u32], depths: &[u32], order: &[u32], i: usize, k: u32, out: &mut [u32])
-    requires { ⌜ Ordered (now work) (now order) i × (i < length (now order)) × Room k (recordCount (itemAt (now work) (now depths) (getD (now order) i 0))) (now out) ⌝ }
+    requires { ⌜ Ordered (now work) (now order) i × (i < length (now order)) ⌝ }
+    requires { ⌜ RoomFrom k (recordCount (entryAt (now work) (now depths) (now order) i)) (now out) ⌝ }
     ensures { λ _. ⌜ now (out .exit) ≡ putAt (now (out .entry)) (6 * k)
-        (firstRecords k (itemAt (now (work .entry)) (now (depths .entry)) (getD (now (order .entry)) i 0))
+        (firstRecords k (entryAt (now (work .entry)) (now (depths .entry)) (now (order .entry)) i)
         (itemsFrom (now (work .entry)) (now (depths .entry)) (now (order .entry)) (i + 1)) []) ⌝ }
 {
     let e = word(order, i);
     let x = fields_of(work, depths, e);
     let s = classes_at(work, e);
     let n = s.count();
-    let after = k + 1 + n;
+    let first = k + 1;
+    let after = first + n;
     let below = link_below(work, depths, order, i + 1, x.depth, after);
     let beside = link_beside(work, depths, order, i + 1, x.depth, after);
     let kind = where_any(x.depth, x.kind, 5);
-    let child = where_any(n, k + 1, below);
+    let child = where_any(n, first, below);
     put(out, k, kind, x.name, x.lo, x.hi, child, beside);
-    write_classes(out, s, k + 1, below);
+    write_classes(out, s, first, below);
 }
 
 // A link to the first record, where there is an entry from place top on.
@@ -189,8 +195,9 @@ fn first_link(order: &[u32], top: usize) -> u32
 
 // The header, and the records of the entries from place top on. Time grows with the records, times the depth.
 pub fn write(work: &[u32], depths: &[u32], order: &[u32], top: usize, out: &mut [u32])
-    requires { ⌜ Ordered (now work) (now order) top × Room 1 (recordsIn (itemsFrom (now work) (now depths) (now order) top)) (now out) ⌝ }
-    ensures { λ _. ⌜ now (out .exit) ≡ outputAfter (itemWords (itemsFrom (now (work .entry)) (now (depths .entry)) (now (order .entry)) top)) (now (out .entry)) ⌝ }
+    requires { ⌜ Writable (now work) (now depths) (now order) top (now out) ⌝ }
+    ensures { λ _. ⌜ now (out .exit)
+        ≡ outputAfter (itemWords (itemsFrom (now (work .entry)) (now (depths .entry)) (now (order .entry)) top)) (now (out .entry)) ⌝ }
 {
     put(out, 0, first_link(order, top), 0, 0, 0, 0, 0);
     let mut k = 1;

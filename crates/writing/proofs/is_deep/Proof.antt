@@ -10,5 +10,5 @@ is-deep-spec =
     (λ c κs. search needs)
     (λ c κs. search needs)
     (λ c κs. search needs)
-    (λ c. deep-own _ _ _ (c .before .before .before .depth-of .ensures) (c .before .before .classes-at .ensures) (c .before .count .ensures) (c .if1 .taken))
-    (λ c. deep-classes _ _ _ (c .before .before .before .depth-of .ensures) (c .before .before .classes-at .ensures) (c .before .count .ensures) (c .if1 .left)))
+    (λ c. deep-own _ _ _ (c .before .before .classes-at .ensures) (c .before .count .ensures) (c .before .before .before .depth-of .ensures) (c .if1 .taken))
+    (λ c. deep-classes _ _ _ (c .before .before .classes-at .ensures) (c .before .count .ensures) (c .before .before .before .depth-of .ensures) (c .if1 .left)))

@@ -1,5 +1,4 @@
 use borrow.Author.Needs.{needs}
-use mathlib.Core.Path.{_∙_, ap}
 use native.Mathlib.Omega.{arith}
 use Rattle.writing.proofs.size.Statement.{statement}
 use Rattle.writing.proofs.size.Tie as tie

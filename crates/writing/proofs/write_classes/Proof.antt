@@ -1,6 +1,5 @@
 -- `write_classes`: at class c its record and those of the classes above it are left.
 use borrow.Author.Needs.{needs}
-use mathlib.Core.Path.{refl}
 use native.Mathlib.Omega.{arith}
 use lib.ListN.{length}
 use Rattle.words.specs.Members.{membersFrom}
