@@ -22,7 +22,7 @@ use Rattle.meaning.specs.Vocabulary.{Vocabulary}
 
 module _ (K : Vocabulary) (w : List ℕ) where
   -- the rows below individual i, from n on: each has i or a later one for a parent, which stands before it
-  rows-from : (ks : Successors) (i n : ℕ) → i ≤ n → RowsStand K w ks i n → (j : ℕ) → n ≤ j → j < n + size ks → (i ≤ parentAt w j) × (parentAt w j ≤ j)
+  pub rows-from : (ks : Successors) (i n : ℕ) → i ≤ n → RowsStand K w ks i n → (j : ℕ) → n ≤ j → j < n + size ks → (i ≤ parentAt w j) × (parentAt w j ≤ j)
   rows-from none i n h s j p q = absurd (omega arith)
   rows-from (successor r m under next) i n h s j p q =
       go (order n j) (order j (suc n + size under)) (λ c d. rows-from under (suc n) (suc n) (omega arith) (s .1) j c d)

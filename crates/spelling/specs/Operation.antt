@@ -17,11 +17,13 @@ use Rattle.spelling.specs.Words.{policyWords}
 unfoldable pub spellingWords : List ℕ → List ℕ → List ℕ
 spellingWords v p = policyWords (spelled (vocabularyOf v) (policyOf p))
 
--- Spell after 21, o the length of the output: 43, then the words, with 23 where the output is too short for them
+-- a policy to write, o the length of the output: 43, then the words, with 23 where the output is too short for them
+abbrev pub filed : Policy → ℕ → Outcome FillingResult
+filed P o = let told = written o wrote (policyWords P) in cond (tooLong P) (refuses 43) told
+
+-- Spell after 21
 unfoldable pub spellOf : Vocabulary → Policy → ℕ → Outcome FillingResult
-spellOf K P o =
-    let told = written o wrote (policyWords (spelled K P)) in
-    cond (tooLong (spelled K P)) (refuses 43) told
+spellOf K P o = filed (spelled K P) o
 
 -- Spell, SPECIFICATION 9.13: w is the length of the work slice
 unfoldable pub spell : List ℕ → List ℕ → ℕ → ℕ → Outcome FillingResult

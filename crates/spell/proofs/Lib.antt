@@ -1,0 +1,5 @@
+-- The possible terms collected, laid out in the tables, and written.
+mod Collecting
+mod Laying
+mod Filling
+mod Whole
