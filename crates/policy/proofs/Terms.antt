@@ -17,7 +17,7 @@ use Rattle.policy.specs.Terms.{TermOf, termLinks}
 use Rattle.records.proofs.Chains.{Walking, walking-ends, walking-falls, walking-found, walking-on, walking-sound, walking-starts}
 use Rattle.records.specs.Chains.{Along, along-end, along-more}
 
-total-length : (P : Policy) → length P ≤ total P
+pub total-length : (P : Policy) → length P ≤ total P
 total-length [] = omega arith
 total-length (c ∷ P) = let h = total-length P in omega arith
 

@@ -7,20 +7,21 @@ use lib.ListN.{length, length-append, length-map, take}
 use native.Mathlib.Omega.{arith}
 use Rattle.arrangement.proofs.Spelled.{arranged-spelled, spelled-fronted}
 use Rattle.arrangement.proofs.Standing.{entries-stand}
+use Rattle.arrangement.specs.Insertion.{arranged}
 use Rattle.flattening.proofs.Laws.{flat-below, flat-chain, flat-normal}
 use Rattle.flattening.specs.Flat.{flatWords}
 use Rattle.functional.specs.declared.Functional.{Functional}
 use Rattle.layout.proofs.Nesting.{rows-from}
 use Rattle.layout.specs.Places.{tablesEnd}
 use Rattle.layout.specs.declared.Tables.{Tables}
-use Rattle.meaning.proofs.Rules.{all-map, head, tail}
+use Rattle.meaning.proofs.Rules.{head, tail}
 use Rattle.meaning.proofs.Sizes.{normal-weight, weight}
 use Rattle.meaning.proofs.Wellformed.{accepted}
 use Rattle.meaning.specs.Accepted.{ChainOf, count, total}
 use Rattle.meaning.specs.Countermodel.{size}
 use Rattle.meaning.specs.Limits.{mostRecords}
 use Rattle.meaning.specs.Lists.{All, cons, filter, nil}
-use Rattle.meaning.specs.NormalForm.{Form, Successors, none, normalForm, possible, successor}
+use Rattle.meaning.specs.NormalForm.{Form, Successors, add, bare, none, normalForm, placeSuccessor, possible, successor}
 use Rattle.meaning.specs.Policy.{Chain, Policy, policyOf, policyRefusal, termAt}
 use Rattle.meaning.specs.Splitting.{constraintsBelow}
 use Rattle.meaning.specs.Stated.{isFunctionalRole, ranges}
@@ -65,7 +66,7 @@ weight-split (successor r n under next) =
 
 module _ {v p : List ℕ} where
   arm-term : {k : ℕ} → TermOf v p k → armAt p k ≡ record { role = 0; child = termAt p k }
-  arm-term t = ap (λ (r : ℕ). record { role = r; child = termAt p _ }) (t .nameless)
+  arm-term {k} t = ap (λ (r : ℕ). record { role = r; child = termAt p k }) (t .nameless)
 
   weigh-terms : (ts : List ℕ) → length ts + weigh (map (armAt p) ts) ≡ total (map (termAt p) ts)
   weigh-terms [] = refl
@@ -73,4 +74,76 @@ module _ {v p : List ℕ} where
 
   arms-terms : (K : Vocabulary) (ts : List ℕ) (ks : Successors) → All (TermOf v p) ts → placeAll K (map (armAt p) ts) ks ≡ placeTerms K (map (termAt p) ts) ks
   arms-terms K [] ks a = refl
-  arms-terms K (k ∷ ts) ks a = ?
+  arms-terms K (k ∷ ts) ks a =
+      ap (λ (x : Arm). placeAll K (map (armAt p) ts) (placeSuccessor (isFunctionalRole K (x .role)) (x .role) (bare (ranges K (x .role))) (add K (x .child)) ks)) (arm-term (head a))
+      ∙ arms-terms K ts (placeSuccessor (isFunctionalRole K 0) 0 (bare (ranges K 0)) (add K (termAt p k)) ks) (tail a)
+
+  entries-of : {ts w : List ℕ} → vocabularyRefusal v ≡ 0 → tablesEnd ≤ length w → All (λ k. k ≡ 0 → ⊥) ts → All (TermOf v p) ts → All (Entry p) ts
+  entries-of r l nil nil = nil
+  entries-of {w = w} r l (cons {x = k} n h) (cons t a) =
+      let f = term-fits {w = w} t n r l in
+      let z = t .nameless in
+      cons {x = k} (record { role = omega arith; good = record { reads = f .reads; named = f .named } }) (entries-of {w = w} r l h a)
+
+  arms-named : {ts : List ℕ} → All (TermOf v p) ts → All (ArmOf (flatWords v)) (map (armAt p) ts)
+  arms-named nil = nil
+  arms-named (cons {x = k} t a) = cons {x = armAt p k} ((let z = t .nameless in omega arith), flat-chain v (termAt p k) (t .named)) (arms-named a)
+
+-- the same forest by either vocabulary
+forest-flat : (v : List ℕ) → vocabularyRefusal v ≡ 0 → (P : Policy) → forest (vocabularyOf (flatWords v)) P ≡ forest (vocabularyOf v) P
+forest-flat v a [] = refl
+forest-flat v a (c ∷ P) =
+    ap₂ (λ (t : Form) (ks : Successors). successor 0 (t .node) (t .successors) ks) (flat-normal v a c) (forest-flat v a P)
+
+-- no role has the number 0
+unfunctional : {v w : List ℕ} {f : Functional} → Prepared v w f → isFunctionalRole (vocabularyOf v) 0 ≡ false
+unfolding inSet
+unfunctional q = sym (q .functional .role 0)
+
+module _ {v p : List ℕ} (a : vocabularyRefusal v ≡ 0) (b : policyRefusal v p ≡ 0) {ts : List ℕ} (g : Collected v p ts) where
+  abbrev kept : Policy
+  kept = filter (possible (vocabularyOf v)) (policyOf p)
+
+  few-kept : total kept ≤ mostRecords
+  few-kept = let x = accepted v p b in let f = x .few in let s = x .small in let t = total-filter (possible (vocabularyOf v)) (policyOf p) in omega arith
+
+  pub laying-fit : {w : List ℕ} → tablesEnd ≤ length w → FitAll p w ts
+  laying-fit {w} l = record {
+    long = l;
+    here = g .here;
+    entries = entries-of {w = w} a l (g .here) (g .terms);
+    few = (let e = weigh-terms {v} {p} ts in let f : total (map (termAt p) ts) ≡ total kept = ap total (g .possible) in let h = few-kept in omega arith);
+  }
+
+  module _ {f : Functional} {w w′ : List ℕ} {t : Tables} (q : Prepared (flatWords v) w f) (x : NormalisedAll f p ts w w′ t) where
+    abbrev K° : Vocabulary
+    K° = vocabularyOf (flatWords v)
+
+    abbrev F : Successors
+    F = forest (vocabularyOf v) kept
+
+    grown : Grown K° F 0 0 0 w′ t
+    unfolding successorsOf
+    grown = subst (λ (ks : Successors). Grown K° ks 0 0 0 w′ t) same (x .grown (flatWords v) q (arms-named (g .terms)))
+      where
+        same : successorsOf K° (map (armAt p) ts) ≡ F
+        same =
+            arms-terms K° ts none (g .terms)
+            ∙ forest-placed K° (unfunctional q) (unranged q) (map (termAt p) ts)
+            ∙ forest-flat v a (map (termAt p) ts)
+            ∙ ap (forest (vocabularyOf v)) (g .possible)
+
+    pub laid-out : tablesEnd ≤ length w′ → LaidOut v p w′ t
+    laid-out long = record {
+      listed = record {
+        long = long;
+        before = λ j h. rows-from K° w′ F 0 0 (omega arith) (grown .rows) j (omega arith) (let e = grown .count in omega arith) .1;
+        few = (let c = grown .count in let d = grown .top in let s = weight-split F in let h = forest-weight (vocabularyOf v) kept in let k = few-kept in omega arith);
+      };
+      holds = record {
+        items = λ ds h.
+            ap arranged (entries-stand K° w′ ds t F (flat-below v a) (grown .rows) (grown .held) (let c = grown .count in omega arith) (let d = grown .top in omega arith) (x .individuals) h)
+            ∙ arranged-spelled (vocabularyOf v) (policyOf p);
+        fronted = spelled-fronted (vocabularyOf v) (policyOf p);
+      };
+    }
