@@ -51,6 +51,10 @@ module _ {v p : List ℕ} where
     unfolding termLinks
     collecting-ends z = record { here = x .here; terms = x .terms; possible = sym (append-nil (map (termAt p) (take n ts))) ∙ walking-ends (x .walk) z .1 }
 
+    pub collecting-few : k ≡ 0 → n ≤ mostRecords
+    unfolding termLinks
+    collecting-few z = let r = walking-ends (x .walk) z .0 in omega arith
+
     module _ (some : k ≡ 0 → ⊥) where
       pub collecting-term : TermOf v p k
       unfolding termLinks

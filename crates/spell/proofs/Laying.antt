@@ -64,13 +64,13 @@ weight-split (successor r n under next) =
 
 -- ---- the records of terms
 
+weigh-terms : (p ts : List ℕ) → length ts + weigh (map (armAt p) ts) ≡ total (map (termAt p) ts)
+weigh-terms p [] = refl
+weigh-terms p (k ∷ ts) = let a = weigh-terms p ts in omega arith
+
 module _ {v p : List ℕ} where
   arm-term : {k : ℕ} → TermOf v p k → armAt p k ≡ record { role = 0; child = termAt p k }
   arm-term {k} t = ap (λ (r : ℕ). record { role = r; child = termAt p k }) (t .nameless)
-
-  weigh-terms : (ts : List ℕ) → length ts + weigh (map (armAt p) ts) ≡ total (map (termAt p) ts)
-  weigh-terms [] = refl
-  weigh-terms (k ∷ ts) = let a = weigh-terms ts in omega arith
 
   arms-terms : (K : Vocabulary) (ts : List ℕ) (ks : Successors) → All (TermOf v p) ts → placeAll K (map (armAt p) ts) ks ≡ placeTerms K (map (termAt p) ts) ks
   arms-terms K [] ks a = refl
@@ -78,12 +78,12 @@ module _ {v p : List ℕ} where
       ap (λ (x : Arm). placeAll K (map (armAt p) ts) (placeSuccessor (isFunctionalRole K (x .role)) (x .role) (bare (ranges K (x .role))) (add K (x .child)) ks)) (arm-term (head a))
       ∙ arms-terms K ts (placeSuccessor (isFunctionalRole K 0) 0 (bare (ranges K 0)) (add K (termAt p k)) ks) (tail a)
 
-  entries-of : {ts w : List ℕ} → vocabularyRefusal v ≡ 0 → tablesEnd ≤ length w → All (λ k. k ≡ 0 → ⊥) ts → All (TermOf v p) ts → All (Entry p) ts
-  entries-of r l nil nil = nil
-  entries-of {w = w} r l (cons {x = k} n h) (cons t a) =
+  entries-of : (w : List ℕ) {ts : List ℕ} → vocabularyRefusal v ≡ 0 → tablesEnd ≤ length w → All (λ k. k ≡ 0 → ⊥) ts → All (TermOf v p) ts → All (Entry p) ts
+  entries-of w r l nil nil = nil
+  entries-of w r l (cons {x = k} n h) (cons t a) =
       let f = term-fits {w = w} t n r l in
       let z = t .nameless in
-      cons {x = k} (record { role = omega arith; good = record { reads = f .reads; named = f .named } }) (entries-of {w = w} r l h a)
+      cons {x = k} (record { role = omega arith; good = record { reads = f .reads; named = f .named } }) (entries-of w r l h a)
 
   arms-named : {ts : List ℕ} → All (TermOf v p) ts → All (ArmOf (flatWords v)) (map (armAt p) ts)
   arms-named nil = nil
@@ -111,8 +111,8 @@ module _ {v p : List ℕ} (a : vocabularyRefusal v ≡ 0) (b : policyRefusal v p
   laying-fit {w} l = record {
     long = l;
     here = g .here;
-    entries = entries-of {w = w} a l (g .here) (g .terms);
-    few = (let e = weigh-terms {v} {p} ts in let f : total (map (termAt p) ts) ≡ total kept = ap total (g .possible) in let h = few-kept in omega arith);
+    entries = entries-of w a l (g .here) (g .terms);
+    few = (let e = weigh-terms p ts in let f : total (map (termAt p) ts) ≡ total kept = ap total (g .possible) in let h = few-kept in omega arith);
   }
 
   module _ {f : Functional} {w w′ : List ℕ} {t : Tables} (q : Prepared (flatWords v) w f) (x : NormalisedAll f p ts w w′ t) where

@@ -1,5 +1,5 @@
 -- The possible terms collected, laid out in the tables, and written.
 mod Collecting
 mod Laying
-mod Filling
+mod Filings
 mod Whole

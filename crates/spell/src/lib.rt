@@ -24,13 +24,12 @@ ghost use mathlib.Core.List.{List};
 ghost use mathlib.Core.Path.{_≡_};
 ghost use lib.ListN.{length};
 ghost use Rattle.frames.specs.Frames.{Only, Span};
-ghost use Rattle.frames.specs.Rows.{rowAt};
-ghost use Rattle.layout.specs.Places.{InTables, tablesEnd};
+ghost use Rattle.layout.specs.Places.{InTables};
 ghost use Rattle.meaning.specs.Limits.{mostRecords, workSize};
-ghost use Rattle.meaning.specs.Policy.{Policy, policyRefusal};
+ghost use Rattle.meaning.specs.Policy.{policyRefusal};
 ghost use Rattle.meaning.specs.Vocabulary.{vocabularyRefusal};
 ghost use Rattle.preparation.specs.Prepared.{Accepting};
-ghost use Rattle.spell.specs.Filing.{CollectedBy, Collected, Filed, FiledBy, LaidOut, Listed};
+ghost use Rattle.spell.specs.Filing.{CollectedBy, FiledBy, LaidOut, Listed};
 ghost use Rattle.spelling.specs.Operation.{SpellPost};
 
 // The records of the possible terms, in front of the slice; how many there are.
@@ -44,11 +43,14 @@ fn collect_possible(p: &[u32], work: &mut [u32], f: Functional, terms: &mut [u32
     let mut k = first_term(p);
     while k != 0 {
         let t = tabulate(p, work, f, k);
-        if !t.impossible {
-            terms[n] = k;
-            n += 1;
+        let next = next_of(p, k);
+        if t.impossible {
+            k = next;
+            continue;
         }
-        k = next_of(p, k);
+        terms[n] = k;
+        n += 1;
+        k = next;
     }
     n
 }
@@ -57,7 +59,7 @@ fn collect_possible(p: &[u32], work: &mut [u32], f: Functional, terms: &mut [u32
 fn lay_out(v: &[u32], p: &[u32], work: &mut [u32]) -> Tables
     requires { ⌜ (vocabularyRefusal (now v) ≡ 0) × (policyRefusal (now v) (now p) ≡ 0) × (workSize ≤ length (now work)) ⌝ }
     ensures { λ t. ⌜ LaidOut (now (v .entry)) (now (p .entry)) (now (work .exit)) t ⌝ }
-    ensures { λ _. ⌜ Only (Span 0 tablesEnd) (now (work .entry)) (now (work .exit)) ⌝ }
+    ensures { λ _. ⌜ Only (Span 0 workSize) (now (work .entry)) (now (work .exit)) ⌝ }
 {
     let mut terms = [0; MOST_RECORDS];
     let f = prepare(v, work);
