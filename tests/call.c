@@ -105,6 +105,31 @@ int main(void) {
     expect("read OWL's words", words == LENGTH(read) && memcmp(out, read, sizeof read) == 0 && out[LENGTH(read)] == 0x01010101);
     expect("what was written is a vocabulary", gimbuka_read_vocabulary(out, words, &number) == 1);
 
+    /* class 2, class 1 and class 2 again, as one term, and a term that is the same: classes rising, each once, and one term. A range adds
+       a record at depth 17: 43, before 23 and after 21 */
+    static const uint32_t names[] = {2, 1, 0, 1, 5, 1, 1, 0};
+    static const uint32_t said[] = {1, 0, 0, 0, 0, 0, 5, 0, 0, 0, 3, 2, 5, 0, 0, 0, 6, 0, 1, 2, 0, 0, 0, 4, 1, 1, 0, 0, 0, 5, 1, 2, 0, 0, 0, 0,
+                                    1, 1, 0, 0, 0, 7, 1, 2, 0, 0, 0, 0};
+    static const uint32_t spelled[] = {1, 0, 0, 0, 0, 0, 5, 0, 0, 0, 2, 0, 1, 1, 0, 0, 0, 3, 1, 2, 0, 0, 0, 0};
+    static uint32_t deep[6 * 18] = {1, 0, 0, 0, 0, 0, 5, 0, 0, 0, 2, 0};
+    for (uint32_t k = 2; k < 18; k++) {
+        deep[6 * k] = 3;
+        deep[6 * k + 1] = 1;
+        deep[6 * k + 4] = k < 17 ? k + 1 : 0;
+    }
+    memset(out, 1, sizeof out);
+    memset(work, 1, sizeof work);
+    expect("spell, no work slice", gimbuka_spell(names, LENGTH(names), deep, LENGTH(deep), work, LENGTH(work) - 1, out, 0, &number, &words) == 0 &&
+                                       number == 21 && work[0] == 0x01010101);
+    expect("spell, too deep", gimbuka_spell(names, LENGTH(names), deep, LENGTH(deep), work, LENGTH(work), out, 0, &number, &words) == 0 &&
+                                  number == 43 && is_clear());
+    expect("spell, output too short", gimbuka_spell(names, LENGTH(names), said, LENGTH(said), work, LENGTH(work), out, 23, &number, &words) == 0 &&
+                                          number == 23 && words == 0 && is_clear());
+    expect("a refusal writes nothing", out[0] == 0x01010101);
+    expect("spell", gimbuka_spell(names, LENGTH(names), said, LENGTH(said), work, LENGTH(work), out, LENGTH(out), &number, &words) == 1 &&
+                        number == 0 && is_clear());
+    expect("spell's words", words == LENGTH(spelled) && memcmp(out, spelled, sizeof spelled) == 0 && out[LENGTH(spelled)] == 0x01010101);
+
     if (!failed) puts("every operation called from C: as it must be");
     return failed;
 }

@@ -10,9 +10,9 @@
  *   2  impossible; outside (*number, *combination, *words); different (*number: the side, *term, *combination, *words); no
  *
  * work has at least 16384 words, else the call is refused 21. That comes after the refusals of the tables (vocabulary, policies and
- * model), and before 22 and 23. After an answer, 22 or 23 the first 16384 words of work are 0; any other refusal leaves them. out takes the
- * countermodel, or the vocabulary of an OWL text: its first *words words; nothing else is written there. 700005 words are enough for every
- * countermodel, 4100 for every vocabulary.
+ * model), and before 22, 43 and 23. After an answer, 22, 43 or 23 the first 16384 words of work are 0; any other refusal leaves them. out
+ * takes the countermodel, the vocabulary of an OWL text, or the spelling of a policy: its first *words words; nothing else is written there.
+ * 700005 words are enough for every countermodel, 4100 for every vocabulary, 3078 for every spelling.
  *
  * A call takes at most so much stack, as measured on x86-64 (`scripts/judge stack`), of which a thread of its own needs some: to
  * read 8 KB, read OWL 11 KB, possible 39 KB, model check 46 KB, compliance 67 KB, equality 83 KB. A thread of 128 KB has room for each.
@@ -73,6 +73,9 @@ uint32_t gimbuka_model_check(const uint32_t *v, size_t v_len, const uint32_t *p,
                              const uint32_t *m, size_t m_len, uint32_t *work, size_t work_len, uint32_t *number);
 
 uint32_t gimbuka_read_owl(const uint8_t *text, size_t text_len, uint32_t *out, size_t out_len, uint32_t *number, size_t *words);
+
+uint32_t gimbuka_spell(const uint32_t *v, size_t v_len, const uint32_t *p, size_t p_len, uint32_t *work, size_t work_len,
+                       uint32_t *out, size_t out_len, uint32_t *number, size_t *words);
 
 #ifdef __cplusplus
 }

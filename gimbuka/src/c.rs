@@ -77,4 +77,16 @@ unsafe extern "C" {
         work_len: usize,
         number: *mut u32,
     ) -> u32;
+    pub fn gimbuka_spell(
+        v: *const u32,
+        v_len: usize,
+        p: *const u32,
+        p_len: usize,
+        work: *mut u32,
+        work_len: usize,
+        out: *mut u32,
+        out_len: usize,
+        number: *mut u32,
+        words: *mut usize,
+    ) -> u32;
 }

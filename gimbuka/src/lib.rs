@@ -36,8 +36,8 @@
 //!
 //! # What is lent
 //!
-//! A work slice has at least [`WORK_SIZE`] words. After an answer its first [`WORK_SIZE`] words are 0, and after the refusals 22 and
-//! 23; any other refusal writes nothing. The output takes the countermodel: as many words as the answer says, and no others. One of
+//! A work slice has at least [`WORK_SIZE`] words. After an answer its first [`WORK_SIZE`] words are 0, and after the refusals 22, 43
+//! and 23; any other refusal writes nothing. The output takes the countermodel: as many words as the answer says, and no others. One of
 //! [`MOST_MODEL_WORDS`] has room for each.
 //!
 //! A call takes nothing of the heap. A thread with 128 KB of stack has room for each (`crates/exports/gimbuka.h` says more).
@@ -62,6 +62,9 @@ pub const MOST_OWL_BYTES: usize = 65_536;
 
 /// The most words of a vocabulary. None that [`read_owl`] writes has more.
 pub const MOST_VOCABULARY_WORDS: usize = 4_100;
+
+/// The most words of a policy. None that [`spell`] writes has more.
+pub const MOST_POLICY_WORDS: usize = 3_078;
 
 /// The most words of a model. No countermodel has more.
 pub const MOST_MODEL_WORDS: usize = 700_005;
@@ -344,5 +347,54 @@ pub fn model_check(
         0 => Err(Refusal::of(number)),
         1 => Ok(Checked::Yes),
         _ => Ok(Checked::No),
+    }
+}
+
+/// Spells a policy: writes its possible terms in normal form, in one order and without repeats. The answer is the number of words
+/// written.
+///
+/// Two policies with one spelling are equal, so that one filed copy serves both. The reverse does not hold: a span from 0 to 9, and one
+/// from 0 to 4 or from 5 to 9, are equal and have two spellings; [`equality`] tells.
+///
+/// ```
+/// use gimbuka::{spell, Refusal, WORK_SIZE};
+///
+/// # fn main() -> Result<(), Refusal> {
+/// // Two classes, no role, no feature, and nothing stated of them.
+/// let v = [2, 0, 0, 0];
+/// // One term: class 2, class 1 and class 2 again.
+/// let p = [1, 0, 0, 0, 0, 0, 5, 0, 0, 0, 2, 0, 1, 2, 0, 0, 0, 3, 1, 1, 0, 0, 0, 4, 1, 2, 0, 0, 0, 0];
+/// let mut work = vec![0; WORK_SIZE];
+/// let mut out = [0; 24];
+/// assert_eq!(spell(&v, &p, &mut work, &mut out)?, 24);
+/// // Class 1, then class 2.
+/// assert_eq!(out, [1, 0, 0, 0, 0, 0, 5, 0, 0, 0, 2, 0, 1, 1, 0, 0, 0, 3, 1, 2, 0, 0, 0, 0]);
+/// # Ok(())
+/// # }
+/// ```
+///
+/// # Errors
+///
+/// Refusals 1 to 8, 21, 43 where the spelling has over 512 records or one at depth 17, and 23 where it does not fit the output.
+pub fn spell(v: &[u32], p: &[u32], work: &mut [u32], out: &mut [u32]) -> Result<usize, Refusal> {
+    let (mut number, mut words) = (0, 0);
+    // SAFETY: each pointer and length are a slice's; the exclusive slices and the numbers overlap nothing.
+    let kind = unsafe {
+        c::gimbuka_spell(
+            v.as_ptr(),
+            v.len(),
+            p.as_ptr(),
+            p.len(),
+            work.as_mut_ptr(),
+            work.len(),
+            out.as_mut_ptr(),
+            out.len(),
+            &mut number,
+            &mut words,
+        )
+    };
+    match kind {
+        0 => Err(Refusal::of(number)),
+        _ => Ok(words),
     }
 }

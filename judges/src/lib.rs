@@ -5,6 +5,7 @@ pub mod konclude;
 pub mod library;
 
 use reasoner::random::owl::{self, Text};
+use reasoner::random::spelling::{self, Spelling};
 use reasoner::random::{damage, limits, slow, Case};
 use std::collections::BTreeMap;
 use std::num::NonZero;
@@ -69,6 +70,18 @@ pub fn directed_texts() -> Vec<(String, Text)> {
     let directed = owl::directed::texts().into_iter().map(|one| (one.name, one.text));
     let slow = owl::slow::texts().into_iter().map(|(name, text)| (name.to_owned(), text));
     directed.chain(slow).collect()
+}
+
+/// The policies to spell for every reading, at every limit and for every refusal, and the slow ones, with their names.
+#[must_use]
+pub fn directed_spellings() -> Vec<(String, Spelling)> {
+    let directed = spelling::directed::inputs().into_iter().map(|one| (one.name, one.input));
+    let faults = spelling::damage::faults().into_iter().map(|fault| {
+        let mut case = spelling::damage::base();
+        (fault.apply)(&mut case);
+        (format!("fault \"{}\"", fault.name), Spelling::from(case))
+    });
+    directed.chain(spelling::slow::inputs()).chain(faults).collect()
 }
 
 /// The answers so far, with how many cases had each.

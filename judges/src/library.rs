@@ -85,3 +85,12 @@ pub fn model_check(v: &[u32], p: &[u32], q: &[u32], m: &[u32], work: &mut [u32])
         Err(refusal) => Checked::Refused(refusal.number()),
     }
 }
+
+/// Spell.
+#[must_use]
+pub fn spell(v: &[u32], p: &[u32], work: &mut [u32], out: &mut [u32]) -> Filling {
+    match gimbuka::spell(v, p, work, out) {
+        Ok(words) => Filling::Written(count(words)),
+        Err(refusal) => Filling::Refused(refusal.number()),
+    }
+}

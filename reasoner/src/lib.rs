@@ -15,6 +15,7 @@ pub mod owl;
 pub mod policy;
 pub mod program;
 pub mod random;
+pub mod spell;
 pub mod split;
 pub mod text;
 pub mod vocabulary;
@@ -22,6 +23,7 @@ pub mod whole;
 
 pub use owl::read_owl;
 pub use program::{bytes_of_parts, parts_of_bytes, program};
+pub use spell::spell;
 
 use countermodel::Countermodel;
 use model::Interpretation;

@@ -20,7 +20,9 @@ pub struct Span {
 pub struct Individual {
     /// Its number: "from 1, parent first, then each child's subtree in place order".
     pub number: u32,
-    /// Its classes, the role's range too, closed upward.
+    /// Its classes as they are stated, the role's range too.
+    pub stated: ClassSet,
+    /// The same closed upward.
     pub classes: ClassSet,
     /// Its constraints in place order.
     pub spans: Vec<Span>,
@@ -40,24 +42,28 @@ struct Reached<'a> {
 /// The normal form of a term, or none if it is the impossible concept.
 #[must_use]
 pub fn normalise(rules: &Rules, term: &[Conjunct]) -> Option<Individual> {
-    let mut root = individual(rules, term, &[], ClassSet::EMPTY)?;
+    let mut root = individual(rules, term, &[], ClassSet::EMPTY, ClassSet::EMPTY)?;
     number(&mut root, &mut Numbering { individuals: 0, slots: 0 });
     Some(root)
 }
 
 /// Normalises the chains `first` and `more` as one intersection, for an individual that is in
-/// `classes` already.
+/// `stated` already, and so in `classes`.
 fn individual(
     rules: &Rules,
     first: &[Conjunct],
     more: &[&[Conjunct]],
+    mut stated: ClassSet,
     mut classes: ClassSet,
 ) -> Option<Individual> {
     let mut spans: Vec<Span> = Vec::new();
     let mut reached: Vec<Reached<'_>> = Vec::new();
     for conjunct in std::iter::once(first).chain(more.iter().copied()).flatten() {
         match conjunct {
-            Conjunct::Class(class) => classes.absorb(rules.above(*class)),
+            Conjunct::Class(class) => {
+                stated.insert(*class);
+                classes.absorb(rules.above(*class));
+            }
             Conjunct::Nothing => return None,
             Conjunct::Within(feature, lo, hi) => {
                 add_span(rules, &mut spans, Span { feature: *feature, lo: *lo, hi: *hi });
@@ -70,9 +76,10 @@ fn individual(
     }
     let mut children = Vec::with_capacity(reached.len());
     for Reached { role, first, more } in &reached {
-        children.push((*role, individual(rules, first, more, *rules.range(*role))?));
+        let (stated, classes) = (*rules.stated_range(*role), *rules.range(*role));
+        children.push((*role, individual(rules, first, more, stated, classes)?));
     }
-    Some(Individual { number: 0, classes, spans, first_slot: 0, children })
+    Some(Individual { number: 0, stated, classes, spans, first_slot: 0, children })
 }
 
 /// Rule 5: constraints on a functional feature meet "at the first one's place".

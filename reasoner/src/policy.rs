@@ -5,7 +5,8 @@ use crate::vocabulary::{link_fits, Vocabulary};
 
 const RECORD: usize = 6;
 const LONGEST: usize = 3_078;
-const DEEPEST: u32 = 16;
+/// The depth of the deepest conjunct.
+pub(crate) const DEEPEST: u32 = 16;
 
 /// A conjunct of a term, with what it holds inside.
 #[derive(Clone, Debug, PartialEq, Eq)]

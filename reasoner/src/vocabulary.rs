@@ -112,6 +112,8 @@ pub struct Rules {
     /// For each class the closure above it, once it was asked for.
     above: Vec<OnceCell<ClassSet>>,
     disjoint: Vec<ClassSet>,
+    /// For each role its ranges, as they are stated.
+    stated_ranges: Vec<ClassSet>,
     /// For each role the upward closure of its ranges.
     ranges: Vec<ClassSet>,
     functional_roles: u64,
@@ -126,6 +128,7 @@ impl Rules {
             upward: Upward::of(vocabulary),
             above: vec![OnceCell::new(); vocabulary.classes as usize],
             disjoint: vec![ClassSet::EMPTY; vocabulary.classes as usize],
+            stated_ranges: vec![ClassSet::EMPTY; vocabulary.roles as usize],
             ranges: vec![ClassSet::EMPTY; vocabulary.roles as usize],
             functional_roles: 0,
             functional_features: 0,
@@ -140,6 +143,7 @@ impl Rules {
                 }
                 Axiom::Range(role, class) => {
                     let closed = *rules.above(class);
+                    rules.stated_ranges[role.0 as usize - 1].insert(class);
                     rules.ranges[role.0 as usize - 1].absorb(&closed);
                 }
             }
@@ -178,6 +182,12 @@ impl Rules {
     #[must_use]
     pub fn range(&self, role: RoleNo) -> &ClassSet {
         &self.ranges[role.0 as usize - 1]
+    }
+
+    /// The classes that rule 6 gives every value of the role, as they are stated.
+    #[must_use]
+    pub fn stated_range(&self, role: RoleNo) -> &ClassSet {
+        &self.stated_ranges[role.0 as usize - 1]
     }
 
     /// Is the role functional?

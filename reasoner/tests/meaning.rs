@@ -242,6 +242,23 @@ fn tiny_possibility_by_exhaustive_search() {
 }
 
 #[test]
+fn tiny_spellings_by_exhaustive_search() {
+    let mut changed = 0;
+    for seed in 0..1_500 {
+        let Question { case, kb, left, .. } = question(Family::Tiny, seed);
+        let mut out = case.out();
+        let answer = spell(&case.v, &case.p, &mut case.work(), &mut out);
+        let Filling::Written(words) = answer else { panic!("seed {seed}: {answer:?}") };
+        let spelled = read_simple_policies(&kb, &out[..words as usize], 4).unwrap();
+        changed += u32::from(spelled != left);
+        let apart = Tiny::all()
+            .find(|one| one.is_in(0, &left) != one.is_in(0, &spelled) && one.satisfies(&kb));
+        assert!(apart.is_none(), "seed {seed}: {apart:?}\n{case}");
+    }
+    assert!(changed > 700, "{changed}");
+}
+
+#[test]
 fn models_are_checked_by_meaning() {
     let mut answers = [0; 2];
     for family in FAMILIES {

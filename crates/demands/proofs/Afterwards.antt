@@ -24,7 +24,7 @@ use Rattle.meaning.specs.Vocabulary.{Vocabulary}
 
 -- ---- a work slice that is full
 
-work-full : (w : ℕ) → workRefusal w ≡ 0 → workSize ≤ w
+pub work-full : (w : ℕ) → workRefusal w ≡ 0 → workSize ≤ w
 work-full w e = ltb-false w workSize (go (ltb w workSize) e)
   where
     go : (b : Bool) → _≡_ {A = ℕ} (cond b 21 0) 0 → b ≡ false
@@ -36,7 +36,7 @@ result-full w (refusing {n = n} f) m t = absurd (t (n, refl))
 result-full w (answering z) m t = work-full w (all-at z m)
 
 -- a refusal that comes late passed those that come early
-past : {n m : ℕ} {l : List ℕ} → FirstRefusal n (m ∷ l) → Early m → isLate n ≡ true → (m ≡ 0) × FirstRefusal n l
+pub past : {n m : ℕ} {l : List ℕ} → FirstRefusal n (m ∷ l) → Early m → isLate n ≡ true → (m ≡ 0) × FirstRefusal n l
 past (here h) k g = absurd (let z : _≡_ {A = ℕ} 0 1 = cc in omega arith)
 past (later f) k g = (refl, f)
 

@@ -9,3 +9,4 @@ pub mod Comparisons
 pub mod ShortWay
 pub mod Checks
 pub mod Owl
+pub mod Spell

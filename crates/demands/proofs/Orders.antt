@@ -57,11 +57,11 @@ module _ {A : Type 0} where
   follows-on (refusing f) = refusing (later f)
   follows-on (answering z) = answering (cons refl z)
 
-  follows-unless : (m : ℕ) {l : List ℕ} {rest : Answer A} → Follows l rest → Follows (m ∷ l) (unless refused m rest)
+  pub follows-unless : (m : ℕ) {l : List ℕ} {rest : Answer A} → Follows l rest → Follows (m ∷ l) (unless refused m rest)
   follows-unless zero h = follows-on h
   follows-unless (suc m) h = follows-here m
 
-  unless-or : (m n : ℕ) (rest : Answer A) → unless refused (orElse m n) rest ≡ unless refused m (unless refused n rest)
+  pub unless-or : (m n : ℕ) (rest : Answer A) → unless refused (orElse m n) rest ≡ unless refused m (unless refused n rest)
   unless-or zero n rest = refl
   unless-or (suc m) n rest = refl
 

@@ -50,7 +50,7 @@ owl-follows : (text : List ℕ) (o : ℕ) → Follows (owlOrder text o) (readOwl
 unfolding readOwl owlRefusal
 owl-follows text o = parsed-follows o (owlWords text) (parsedOf text)
 
-filling-refused : (r : Filling) {n : ℕ} → fillingAnswer r ≡ refused n → r ≡ filling.Refused n
+pub filling-refused : (r : Filling) {n : ℕ} → fillingAnswer r ≡ refused n → r ≡ filling.Refused n
 filling-refused (filling.Written m) e = absurd (let z : _≡_ {A = ℕ} 0 1 = cc in omega arith)
 filling-refused (filling.Refused m) e = cc
 

@@ -1,4 +1,4 @@
--- The order of refusals, operation by operation (SPECIFICATION 9.2 to 9.8, and 9.12): a list of numbers, each 0 where its condition does not hold.
+-- The order of refusals, operation by operation (SPECIFICATION 9.2 to 9.8, 9.12 and 9.13): a list of numbers, each 0 where its condition does not hold.
 use Prim.Native.Nat.{ℕ}
 use mathlib.Core.Bool.{Bool, _||_, cond}
 use mathlib.Core.List.{List, [], _∷_}
@@ -15,6 +15,8 @@ use Rattle.meaning.specs.Vocabulary.{Vocabulary, vocabularyOf, vocabularyRefusa
 use Rattle.declarations.specs.Names.{declaredWell}
 use Rattle.declarations.specs.Passes.{listOf}
 use Rattle.owl.specs.Owl.{owlWords, parsedOf, vocabularyIn}
+use Rattle.spelling.specs.Spelling.{spelled, tooLong}
+use Rattle.spelling.specs.Words.{policyWords}
 use Rattle.statements.specs.Forms.{Parsed, parsed, wrong}
 
 -- n is the first of the numbers that is not 0
@@ -79,3 +81,9 @@ owlOrder text o =
     let l = listOf (parsedOf text) in
     formsRefusal (parsedOf text) ∷ cond (declaredWell l) 0 42 ∷ cond (leb (length (vocabularyIn l .axioms)) mostAxioms) 0 1 ∷
     cond (leb (length (owlWords text)) o) 0 23 ∷ []
+
+-- SPECIFICATION 9.13: the vocabulary, the policy, 21; 43, the spelling is longer than a policy may be; 23, the words
+abbrev pub spellOrder : List ℕ → List ℕ → ℕ → ℕ → List ℕ
+spellOrder v p w o =
+    let S = spelled (vocabularyOf v) (policyOf p) in
+    vocabularyRefusal v ∷ policyRefusal v p ∷ workRefusal w ∷ cond (tooLong S) 43 0 ∷ cond (leb (length (policyWords S)) o) 0 23 ∷ []

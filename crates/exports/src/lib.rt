@@ -13,9 +13,10 @@ use model_check::model_check;
 use owl::read_owl;
 use policy::read_policy;
 use policy::read_second_policy;
+use spell::spell;
 use vocabulary::read_vocabulary;
 ghost use Rattle.exports.specs.Codes.{Coded, CodedComparison, CodedFilling, CodedVerdict, ComplianceCoded, EqualityCoded};
-ghost use Rattle.exports.specs.Codes.{ModelCheckCoded, OwlCoded, PossibleCoded, checkCode, possibilityCode, readingCode};
+ghost use Rattle.exports.specs.Codes.{ModelCheckCoded, OwlCoded, PossibleCoded, SpellCoded, checkCode, possibilityCode, readingCode};
 ghost use Rattle.meaning.specs.Answers.{checkedAnswer, comparisonAnswer, fillingAnswer, possibilityAnswer, readingAnswer, verdictAnswer};
 ghost use Rattle.meaning.specs.Operations.{readPolicy, readSecondPolicy, readVocabulary};
 
@@ -251,4 +252,20 @@ pub extern "C" fn gimbuka_read_owl(
     ensures { λ k. ⌜ OwlCoded (now (text .entry)) (now (out .entry)) (now (out .exit)) k (now (number .exit)) (now (words .exit)) ⌝ }
 {
     filling(read_owl(text, out), number, words)
+}
+
+// Spell: 1 with the words written.
+#[no_mangle]
+pub extern "C" fn gimbuka_spell(
+    v: &[u32],
+    p: &[u32],
+    work: &mut [u32],
+    out: &mut [u32],
+    number: &mut u32,
+    words: &mut usize,
+) -> u32
+    ensures { λ k. ⌜ SpellCoded (now (v .entry)) (now (p .entry)) (now (work .entry)) (now (work .exit))
+        (now (out .entry)) (now (out .exit)) k (now (number .exit)) (now (words .exit)) ⌝ }
+{
+    filling(spell(v, p, work, out), number, words)
 }

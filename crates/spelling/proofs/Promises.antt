@@ -141,6 +141,10 @@ module _ (v p : List ℕ) (w o n : ℕ) (e : Wrote v p w o n) where
   told : Unrefused v p o n (spell v p w o)
   told = unrefused (spell v p w o) (spell-told v p w o) e
 
+  -- the policy was accepted
+  pub spell-read : policyRefusal v p ≡ 0
+  spell-read = told .policy
+
   pub spell-whole : spell v p w o .words ≡ spellingWords v p
   spell-whole = told .whole
 

@@ -3,10 +3,10 @@ use Prim.Native.Nat.{_*_, _+_, _<_, _≤_, suc, ℕ}
 use mathlib.Core.Bool.{Bool, _||_, cond, false, true}
 use mathlib.Core.List.{List, [], _∷_}
 use mathlib.Core.Path.{_∙_, _≡_, ap, refl, subst, sym}
-use lib.Dec.{leb, ltb}
+use lib.Dec.{leb, leb·suc-suc, ltb}
 use lib.ListN.{getD, length}
 use native.Mathlib.Omega.{arith}
-use borrow.Author.Tests.{le-ltb, leb-false, leb-true, lt-ltb}
+use borrow.Author.Tests.{le-ltb, lt-ltb}
 use Rattle.entries.proofs.Runs.{items-first, items-none}
 use Rattle.entries.specs.Entries.{HasItem, Item, classesAt, depthAt, fieldsAt, itemAt}
 use Rattle.entries.specs.declared.Fields.{Fields}
@@ -27,14 +27,6 @@ place-known r h = record { long = r .long; entries = r .entries; few = r .few; w
 
 pub next-known : {w o : List ℕ} {i : ℕ} → Ordered w o i → i < length o → Ordered w o (i + 1)
 next-known r h = place-known r (omega arith)
-
--- `a ≤ b` is the test `a < b + 1`
-suc-suc : (a b : ℕ) → leb a b ≡ ltb a (suc b)
-suc-suc a b = go (leb a b) refl
-  where
-    go : (t : Bool) → leb a b ≡ t → t ≡ ltb a (suc b)
-    go true h = sym (lt-ltb a (suc b) (let g = leb-true a b h in omega arith))
-    go false h = sym (le-ltb a (suc b) (let g = leb-false a b h in omega arith))
 
 module _ (w ds : List ℕ) (e : ℕ) where
   pub depth-here : itemAt w ds e .fields .depth ≡ depthAt w ds e
@@ -64,7 +56,7 @@ module _ (w ds : List ℕ) (e : ℕ) where
         where
           go : (cs : List ℕ) (b : ℕ) → (length cs ≡ 0 → ⊥) → leb mostDepth b ≡ ltb mostDepth (whereAny cs (suc b) b)
           go [] b h = absurd (h refl)
-          go (c ∷ cs) b h = suc-suc mostDepth b
+          go (c ∷ cs) b h = sym (leb·suc-suc mostDepth b)
 
 pub entry-counted : (w : List ℕ) (e : ℕ) {s : List ℕ} {n : ℕ} → s ≡ classesAt w e → n ≡ length (members s) → length s ≡ classWords →
     CountsEntry w e (1 + n)

@@ -53,11 +53,14 @@ skipping-starts d first r h = record { within = r .within; few = omega arith; sa
 
 module _ {w ds o : List ℕ} {i d first at k : ℕ} (s : Skipping w ds o i d first at k) where
   module _ {e x : ℕ} (h : at < length o) (p : e ≡ getD o at 0) (q : x ≡ depthAt w ds e) where
-    beside-told : linkBeside first d (itemsFrom w ds o i) ≡ cond (ltb d x) (linkBeside (k + recordCount (itemAt w ds e)) d (itemsFrom w ds o (at + 1))) (cond (eqb x d) k 0)
+    abbrev further : ℕ
+    further = linkBeside (k + recordCount (itemAt w ds e)) d (itemsFrom w ds o (at + 1))
+
+    beside-told : linkBeside first d (itemsFrom w ds o i) ≡ cond (ltb d x) further (cond (eqb x d) k 0)
     beside-told =
         sym (s .says)
         ∙ ap (linkBeside k d) (from-first w ds o at p h)
-        ∙ ap (λ (n : ℕ). cond (ltb d n) (linkBeside (k + recordCount (itemAt w ds e)) d (itemsFrom w ds o (at + 1))) (cond (eqb n d) k 0)) (depth-here w ds e ∙ sym q)
+        ∙ ap (λ (n : ℕ). cond (ltb d n) further (cond (eqb n d) k 0)) (depth-here w ds e ∙ sym q)
 
     pub beside-here : x ≤ d → x ≡ d → k ≡ linkBeside first d (itemsFrom w ds o i)
     beside-here g f = sym (beside-told ∙ rw (le-ltb d x g, eq-eqb x d f))

@@ -40,12 +40,15 @@ chain-records end b d f = refl
 chain-records (class a next) b d f = omega (arith, chain-records next true d (f .1))
 chain-records (impossible next) b d f = absurd f
 chain-records (some r child next) b d f =
-    omega (arith, chain-records child true (suc d) (f .0), chain-records next false d (f .1), ap length (front-none next (f .1)), records-append (chainItems (suc d) child) (chainItems d next))
+    let n = ap length (front-none next (f .1)) in
+    let s = records-append (chainItems (suc d) child) (chainItems d next) in
+    omega (arith, chain-records child true (suc d) (f .0), chain-records next false d (f .1))
 chain-records (interval a lo hi next) b d f = omega (arith, chain-records next false d f, ap length (front-none next f))
 
 pub items-records : (P : Policy) → All (Fronted true) P → recordsIn (policyItems P) ≡ total P
 items-records [] nil = refl
-items-records (c ∷ P) (cons f fs) = omega (arith, chain-records c true 1 f, records-append (chainItems 1 c) (policyItems P), items-records P fs)
+items-records (c ∷ P) (cons f fs) =
+    omega (arith, chain-records c true 1 f, records-append (chainItems 1 c) (policyItems P), items-records P fs)
 
 -- ---- how deep
 
@@ -72,27 +75,23 @@ unfolding peak
 peak-deep [] = refl
 peak-deep (x ∷ l) = ap (λ (b : Bool). isDeep x || b) (peak-deep l) ∙ sym (ltb-max mostDepth (deepest x) (peak l))
 
--- an item and the chain of what stands below it
-chain-peak : (c : Chain) (b : Bool) (d : ℕ) → Fronted b c → max (whereAny (classesOf c) (suc d) d) (peak (chainItems (suc d) c)) ≡ d + depth c
+-- an item of depth d, with the chain of what it reaches
+chain-peak : (c : Chain) (b : Bool) (d : ℕ) → Fronted b c →
+    max (whereAny (classesOf c) (suc d) d) (peak (chainItems (suc d) c)) ≡ d + depth c
 unfolding peak
 chain-peak end b d f = omega arith
 chain-peak (class a next) b d f = go (classesOf next) (chain-peak next true d (f .1))
   where
-    go : (cs : List ℕ) → max (whereAny cs (suc d) d) (peak (chainItems (suc d) next)) ≡ d + depth next → max (suc d) (peak (chainItems (suc d) next)) ≡ d + max 1 (depth next)
+    go : (cs : List ℕ) → max (whereAny cs (suc d) d) (peak (chainItems (suc d) next)) ≡ d + depth next →
+        max (suc d) (peak (chainItems (suc d) next)) ≡ d + max 1 (depth next)
     go [] e = omega arith
     go (x ∷ cs) e = omega arith
 chain-peak (impossible next) b d f = absurd f
 chain-peak (some r child next) b d f =
-    omega (arith, chain-peak child true (suc d) (f .0), rw (front-none next (f .1)) at (chain-peak next false d (f .1)), peak-append (chainItems (suc (suc d)) child) (chainItems (suc d) next))
+    let n = rw (front-none next (f .1)) at (chain-peak next false d (f .1)) in
+    let s = peak-append (chainItems (suc (suc d)) child) (chainItems (suc d) next) in
+    omega (arith, chain-peak child true (suc d) (f .0))
 chain-peak (interval a lo hi next) b d f = omega (arith, rw (front-none next f) at (chain-peak next false d f))
-
-any-append : (p : Item → Bool) (l m : List Item) → any p (l ++ m) ≡ any p l || any p m
-any-append p [] m = refl
-any-append p (x ∷ l) m = go (p x) (any-append p l m)
-  where
-    go : (b : Bool) → any p (l ++ m) ≡ any p l || any p m → b || any p (l ++ m) ≡ (b || any p l) || any p m
-    go true e = refl
-    go false e = e
 
 items-deep : (P : Policy) → All (Fronted true) P → any isDeep (policyItems P) ≡ any (λ c. ltb mostDepth (depth c)) P
 unfolding peak
@@ -100,7 +99,10 @@ items-deep [] nil = refl
 items-deep (c ∷ P) (cons f fs) =
     let t = roleItem 0 0 (classesOf c) ∷ chainItems 1 c in
     let z : peak t ≡ depth c = omega (arith, chain-peak c true 0 f) in
-    any-append isDeep t (policyItems P) ∙ ap₂ _||_ (peak-deep t ∙ ap (ltb mostDepth) z) (items-deep P fs)
+    peak-deep (t ++ policyItems P)
+    ∙ ap (ltb mostDepth) (peak-append t (policyItems P))
+    ∙ ltb-max mostDepth (peak t) (peak (policyItems P))
+    ∙ ap₂ _||_ (ap (ltb mostDepth) z) (sym (peak-deep (policyItems P)) ∙ items-deep P fs)
 
 pub items-too-long : (P : Policy) → All (Fronted true) P → areTooLong (policyItems P) ≡ tooLong P
 unfolding areTooLong tooLong

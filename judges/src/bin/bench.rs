@@ -11,7 +11,7 @@
 use judges::konclude::{empty_classes, Missing};
 use reasoner::random::everyday::{sized, Answer};
 use reasoner::random::slow::{self, Pair};
-use reasoner::random::{limits, owl, Case, Rng};
+use reasoner::random::{limits, owl, spelling, Case, Rng};
 use reasoner::FULL_WORK;
 use std::hint::black_box;
 use std::process::{Command, Stdio};
@@ -129,6 +129,16 @@ fn checked(cases: &[Case]) -> [f64; 2] {
     ))
 }
 
+/// Spell, by library and reasoner.
+fn spelled(policies: &[(&[u32], &[u32])]) -> [f64; 2] {
+    sides!(policies, |side, policy, lent| side::spell(
+        policy.0,
+        policy.1,
+        &mut lent.work,
+        &mut lent.out
+    ))
+}
+
 fn pairs<const N: usize>(answer: Answer, classes: u32, terms: usize) -> [Case; N] {
     array::from_fn(|seed| sized(seed as u64, answer, classes, terms))
 }
@@ -148,6 +158,7 @@ fn everyday() {
         sides!(&comply, |side, case, lent| side::possible(&case.v, &case.p, &mut lent.work));
     row("possible", possible, None);
     row("model check of the countermodel", checked(&fail), None);
+    row("spell", spelled(&comply.each_ref().map(|case| (&case.v[..], &case.p[..]))), None);
     let read = sides!(&comply, |side, case, _lent| side::read_policy(&case.v, &case.p));
     row("read policy, vocabulary first", read, None);
 }
@@ -193,6 +204,13 @@ fn from_text() {
         let texts = [text];
         let read = sides!(&texts, |side, text, lent| side::read_owl(&text.bytes, &mut lent.out));
         row(name, read, None);
+    }
+}
+
+fn to_file() {
+    heading("the spelling of a policy");
+    for (name, input) in spelling::slow::inputs() {
+        row(&name, spelled(&[(&input.v, &input.p)]), None);
     }
 }
 
@@ -292,15 +310,17 @@ fn main() {
             growth();
             at_limits();
             from_text();
+            to_file();
             slowest();
             rate();
         }
         ["everyday"] => everyday(),
         ["limits"] => at_limits(),
         ["owl"] => from_text(),
+        ["spelling"] => to_file(),
         ["slowest"] => slowest(),
         ["pairs", seconds] => println!("{}", decide(seconds.parse().expect("seconds"))),
         ["slow", seconds] => search(seconds.parse().expect("seconds")),
-        _ => eprintln!("usage: bench | bench everyday | bench limits | bench owl | bench slowest | bench slow SECONDS | bench pairs SECONDS"),
+        _ => eprintln!("usage: bench | bench everyday | bench limits | bench owl | bench spelling | bench slowest | bench slow SECONDS | bench pairs SECONDS"),
     }
 }

@@ -1,13 +1,14 @@
 //! How much stack the operations take, measured on a painted one.
 //!
-//! `stack` calls every operation, for every case at a limit, every slow model and every directed or slow text, on a thread whose stack was
+//! `stack` calls every operation, for every case at a limit, every slow model, and every directed or slow text or spelling, on a thread whose stack was
 //! painted, and prints the most bytes that each one touched, the thread's own among them. It fails where one touches more than a
 //! thread of 128 KB has.
 
 #![expect(unsafe_code, reason = "a thread on a stack of our own is POSIX's to start")]
 
-use judges::{directed_texts, OPERATIONS};
+use judges::{directed_spellings, directed_texts, OPERATIONS};
 use reasoner::random::owl::Text;
+use reasoner::random::spelling::Spelling;
 use reasoner::random::{limits, slow, Case};
 use reasoner::FULL_WORK;
 use std::alloc::{alloc, Layout};
@@ -117,6 +118,14 @@ fn measured_text(stack: &mut [u8], text: &Text) -> usize {
     })
 }
 
+/// The bytes for the spelling of a policy.
+fn measured_spelling(stack: &mut [u8], input: &Spelling) -> usize {
+    let (mut work, mut out) = (input.work(), input.out());
+    touched(stack, &mut || {
+        let _ = black_box(gimbuka::spell(&input.v, &input.p, &mut work, &mut out));
+    })
+}
+
 /// The most bytes that an operation touched, and where.
 #[derive(Default)]
 struct Most {
@@ -151,8 +160,12 @@ fn main() -> ExitCode {
     for (name, text) in directed_texts() {
         on_texts.take(measured_text(stack, &text), &name);
     }
-    let operations = OPERATIONS.into_iter().chain(["read_owl"]);
-    let all: Vec<Most> = on_tables.into_iter().chain([on_texts]).collect();
+    let mut on_spellings = Most::default();
+    for (name, input) in directed_spellings() {
+        on_spellings.take(measured_spelling(stack, &input), &name);
+    }
+    let operations = OPERATIONS.into_iter().chain(["read_owl", "spell"]);
+    let all: Vec<Most> = on_tables.into_iter().chain([on_texts, on_spellings]).collect();
     for (operation, Most { bytes, name }) in operations.zip(&all) {
         println!("{operation:<20}{bytes:>8} bytes of stack: {name}");
     }

@@ -27,7 +27,7 @@ pub fn damaged(rng: &mut Rng) -> Case {
 }
 
 /// One mutation of a table: a word, a link, a length, a shared link.
-fn mutate(rng: &mut Rng, words: &mut Vec<u32>, width: usize, links: &[usize]) {
+pub(super) fn mutate(rng: &mut Rng, words: &mut Vec<u32>, width: usize, links: &[usize]) {
     let records = (words.len() / width) as u32;
     match rng.below(10) {
         0 => words.truncate(rng.place(words.len() + 1)),
@@ -271,7 +271,7 @@ pub fn put_both(case: &mut Case, first: Fault, second: Fault) -> bool {
 /// Whole new policies first, then links and words, then lengths.
 fn order(fault: Fault) -> (u32, u32) {
     let rank = match fault.number {
-        22 => 0,
+        22 | 43 => 0,
         8 | 18 => 1,
         3 | 6 | 7 | 16 | 17 | 33 => 2,
         2 | 5 | 15 | 32 => 3,

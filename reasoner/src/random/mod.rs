@@ -5,7 +5,7 @@
 //! limit; [`slow::compliance`], [`slow::uncovered`] and [`slow::model_check`] list those that are
 //! made to be slow; [`damage::faults`] lists one fault for every refusal; [`shrink::shrink`] makes
 //! a case smaller while it still differs. A case prints itself as words. [`owl`] has the same for
-//! texts that a vocabulary is read from.
+//! texts that a vocabulary is read from, and [`spelling`] for policies that are spelled.
 
 pub mod boxes;
 pub mod crowded;
@@ -17,6 +17,7 @@ pub mod owl;
 pub mod rng;
 pub mod shrink;
 pub mod slow;
+pub mod spelling;
 pub mod valid;
 
 use crate::FULL_WORK;
@@ -207,13 +208,18 @@ impl fmt::Display for Case {
     fn fmt(&self, f: &mut fmt::Formatter<'_>) -> fmt::Result {
         let parts = [("v", &self.v, 4), ("p", &self.p, 6), ("q", &self.q, 6), ("m", &self.m, 5)];
         for (name, words, width) in parts {
-            writeln!(f, "{name}: {} words", words.len())?;
-            for (number, record) in words.chunks(width).enumerate() {
-                let line: Vec<String> = record.iter().map(u32::to_string).collect();
-                writeln!(f, "  {number:>4}: {}", line.join(" "))?;
-            }
+            print_table(f, name, words, width)?;
         }
         writeln!(f, "work: {} words, seed {}", self.work_len, self.work_seed)?;
         writeln!(f, "out: {} words, seed {}", self.out_len, self.out_seed)
     }
+}
+
+fn print_table(f: &mut fmt::Formatter<'_>, name: &str, words: &[u32], width: usize) -> fmt::Result {
+    writeln!(f, "{name}: {} words", words.len())?;
+    for (number, record) in words.chunks(width).enumerate() {
+        let line: Vec<String> = record.iter().map(u32::to_string).collect();
+        writeln!(f, "  {number:>4}: {}", line.join(" "))?;
+    }
+    Ok(())
 }

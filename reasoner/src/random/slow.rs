@@ -10,7 +10,7 @@ use crate::vocabulary::{Axiom, Vocabulary};
 use std::{fmt, iter};
 
 /// As many records as a policy may have.
-const RECORDS: usize = 512;
+pub(super) const RECORDS: usize = 512;
 /// As many equal terms of two spans as fit into a policy.
 pub const MOST_EQUAL: usize = RECORDS / 3;
 /// As many individuals as a model may have.
@@ -18,7 +18,7 @@ const INDIVIDUALS: u32 = 512;
 /// Edges or values of a model that has room for each individual's classes too.
 const FACTS: u32 = 138_000;
 
-fn records(policy: &[Term]) -> usize {
+pub(super) fn records(policy: &[Term]) -> usize {
     fn of(term: &[Conjunct]) -> usize {
         term.iter()
             .map(|c| 1 + if let Conjunct::Reaches(_, inner) = c { of(inner) } else { 0 })

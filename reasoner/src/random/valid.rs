@@ -156,6 +156,30 @@ impl Shape {
         }
     }
 
+    /// So few names and values that conjuncts come to be equal.
+    #[must_use]
+    pub fn repeats() -> Self {
+        Self {
+            classes: 3,
+            roles: 3,
+            features: 2,
+            axioms: 6,
+            below: 3,
+            disjoint: 1,
+            ranges: 6,
+            terms: 3,
+            width: 3,
+            depth: 4,
+            size: 14,
+            reaches: 8,
+            spans: 4,
+            values: 4,
+            related: false,
+            functional: 1,
+            tidy: false,
+        }
+    }
+
     /// Long hierarchies.
     #[must_use]
     pub fn hierarchy() -> Self {

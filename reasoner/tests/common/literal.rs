@@ -3,7 +3,7 @@
 //! library.
 #![allow(clippy::manual_is_multiple_of, clippy::manual_range_contains, clippy::needless_range_loop)]
 
-use reasoner::{Checked, Comparison, Possibility, Reading, Verdict};
+use reasoner::{Checked, Comparison, Filling, Possibility, Reading, Verdict};
 
 /// A vocabulary record: kind, a, b.
 pub type Axiom = (u32, u32, u32);
@@ -584,6 +584,129 @@ pub fn model_check(v: &[u32], p: &[u32], q: &[u32], m: &[u32], work: &mut [u32])
         Ok(true) => Checked::Yes,
         Ok(false) => Checked::No,
     }
+}
+
+/// A record of a policy with its depth in place of its links.
+type Row = [u32; 5];
+
+/// The records of a chain at this depth, in the order of the walk.
+pub fn rows(chain: &Simple, depth: u32) -> Vec<Row> {
+    let mut all = vec![];
+    for conjunct in chain {
+        match conjunct {
+            C::Name(a) => all.push([1, *a, 0, 0, depth]),
+            C::Bot => all.push([2, 0, 0, 0, depth]),
+            C::In(f, lo, hi) => all.push([4, *f, *lo, *hi, depth]),
+            C::Some(role, inner) => {
+                all.push([3, *role, 0, 0, depth]);
+                all.extend(rows(inner, depth + 1));
+            }
+        }
+    }
+    all
+}
+
+/// Does the first list come before the second?
+fn is_before(first: &[Row], second: &[Row]) -> bool {
+    for at in 0..first.len() {
+        if at == second.len() {
+            return false;
+        }
+        for field in 0..5 {
+            if first[at][field] != second[at][field] {
+                return first[at][field] < second[at][field];
+            }
+        }
+    }
+    first.len() < second.len()
+}
+
+/// Takes the first of the chains again and again, and all that are equal to it.
+fn in_order(mut chains: Vec<Simple>) -> Vec<Simple> {
+    let mut all = vec![];
+    while !chains.is_empty() {
+        let mut first = 0;
+        for at in 0..chains.len() {
+            if is_before(&rows(&chains[at], 1), &rows(&chains[first], 1)) {
+                first = at;
+            }
+        }
+        let first = chains[first].clone();
+        chains.retain(|chain| *chain != first);
+        all.push(first);
+    }
+    all
+}
+
+/// A chain of a normal form with its inner repeats dropped, then its own, and in order.
+fn spelled(chain: &Simple) -> Simple {
+    let (mut classes, mut spans, mut roles) = (vec![], vec![], vec![]);
+    for conjunct in chain {
+        match conjunct {
+            C::Name(_) => classes.push(vec![conjunct.clone()]),
+            C::Bot => panic!("a normal form has none"),
+            C::In(..) => spans.push(vec![conjunct.clone()]),
+            C::Some(role, inner) => roles.push(vec![C::Some(*role, spelled(inner))]),
+        }
+    }
+    [in_order(classes), in_order(spans), in_order(roles)].concat().concat()
+}
+
+/// Writes a chain from this record on, and what stands behind it; gives the number of the first
+/// record that is free.
+fn put_chain(words: &mut Vec<u32>, chain: &Simple, first: u32) -> u32 {
+    let mut own = first;
+    for (at, conjunct) in chain.iter().enumerate() {
+        let [kind, a, lo, hi, _] = rows(&vec![conjunct.clone()], 1)[0];
+        let start = words.len();
+        words.extend([kind, a, lo, hi, 0, 0]);
+        let mut free = own + 1;
+        if let C::Some(_, inner) = conjunct {
+            if !inner.is_empty() {
+                words[start + 4] = free;
+            }
+            free = put_chain(words, inner, free);
+        }
+        if at + 1 < chain.len() {
+            words[start + 5] = free;
+        }
+        own = free;
+    }
+    own
+}
+
+/// The terms of the one spelling of a policy.
+pub fn spelling(kb: &Kb, policy: &[Simple]) -> Vec<Simple> {
+    let possible = policy.iter().filter_map(|simple| normal_form(kb, simple));
+    in_order(possible.map(|d| spelled(&d)).collect())
+}
+
+pub fn spell(v: &[u32], p: &[u32], work: &mut [u32], out: &mut [u32]) -> Filling {
+    let decided = read_kb(v).and_then(|kb| {
+        let policy = read_simple_policies(&kb, p, 4)?;
+        lend(work)?;
+        let terms = spelling(&kb, &policy);
+        let records = terms.len() + terms.iter().map(|term| rows(term, 1).len()).sum::<usize>();
+        let deep = terms.iter().any(|term| rows(term, 1).iter().any(|row| row[4] == 17));
+        if records > 512 || deep {
+            return Err(43);
+        }
+        let mut words = vec![0; 6];
+        for (at, term) in terms.iter().enumerate() {
+            let own = words.len() as u32 / 6;
+            if at == 0 {
+                words[0] = own;
+            }
+            let start = words.len();
+            words.extend([5, 0, 0, 0, if term.is_empty() { 0 } else { own + 1 }, 0]);
+            let free = put_chain(&mut words, term, own + 1);
+            if at + 1 < terms.len() {
+                words[start + 5] = free;
+            }
+        }
+        write(out, &words)
+    });
+    decided.map_or_else(Filling::Refused, Filling::Written)
 }
 
 /// The program, with the bytes turned to words first.
