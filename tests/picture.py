@@ -11,19 +11,20 @@ from html import escape
 from textwrap import wrap
 
 LIST, PICTURE = 'crates.txt', 'docs/crates.svg'
-SHARED = {'meaning', 'intervals', 'frames', 'words', 'records', 'keys', 'layout'}
+SHARED = {'meaning', 'intervals', 'frames', 'words', 'records', 'keys', 'layout', 'spelling'}
 PLACES, CALLERS = 'layout', 'exports'
 
 # Each stage has a title, a colour, and its crates: the column and the row that each stands in, and what it is for.
 STAGES = [
     ('The shelf, used in many places: no arrows are drawn from these', '#f1f1ee', {
         'meaning': (3, 0, 'the definitions and the theorems about them; the names, the answers, the limits'),
-        'intervals': (0.5, 1, 'lo..hi: inside, empty, touching'),
-        'frames': (1.5, 1, 'what a call may change; 21; clearing'),
-        'words': (2.5, 1, 'sets of numbers in words'),
-        'records': (3.5, 1, 'a word, a link; chains read and written'),
-        'keys': (4.5, 1, 'feature and value as one number'),
-        'layout': (5.5, 1, 'the map of the work slice'),
+        'intervals': (0, 1, 'lo..hi: inside, empty, touching'),
+        'frames': (1, 1, 'what a call may change; 21; clearing'),
+        'words': (2, 1, 'sets of numbers in words'),
+        'records': (3, 1, 'a word, a link; chains read and written'),
+        'keys': (4, 1, 'feature and value as one number'),
+        'layout': (5, 1, 'the map of the work slice'),
+        'spelling': (6, 1, 'one spelling: definitions, theorems'),
     }),
     ('1  Tables read', '#fdf3dc', {
         'vocabulary': (1, 2, 'what is refused of it: 1 to 3'),
@@ -59,25 +60,32 @@ STAGES = [
         'model_check': (6, 6, 'the operation Model check'),
     }),
     ('6  Operations', '#ece4f7', {
-        'containment': (4, 7, 'Possible and Compliance'),
-        'equality': (5, 7, 'Equality'),
+        'containment': (5, 7, 'Possible and Compliance'),
+        'equality': (5, 8, 'Equality'),
     }),
     ('7  A vocabulary from OWL text', '#f8e9dc', {
-        'tokens': (0.5, 5, 'bytes to tokens'),
-        'name_table': (0, 6, 'names, and their numbers by look-up'),
-        'statements': (1, 6, 'tokens to the eight forms'),
-        'declarations': (0, 7, 'the declared names, counted and listed'),
-        'owl': (1, 7, 'the operation Read OWL: 41, 42, 1, 23'),
+        'name_table': (2, 7, 'names, and their numbers by look-up'),
+        'tokens': (3, 7, 'bytes to tokens'),
+        'statements': (4, 7, 'tokens to the eight forms'),
+        'declarations': (3, 8, 'the declared names, counted and listed'),
+        'owl': (4, 8, 'the operation Read OWL: 41, 42, 1, 23'),
     }),
-    ('8  What callers see', '#f1f1ee', {
-        'input': (0, 8, 'bytes to words and parts'),
-        'printing': (1, 8, 'bytes, names, decimals'),
-        'exports': (5, 8, 'the operations for C'),
-        'demands': (6, 8, 'the three demands, as theorems'),
-        'text': (0.5, 9, 'answers to lines'),
-        'desk': (2.5, 9, 'the program as a function'),
-        'comply': (4, 9, 'the program'),
-        'streams': (5.5, 9, 'standard input and output'),
+    ('8  A policy in one spelling', '#eef3d8', {
+        'entries': (0, 6, 'what is put in order; runs compared'),
+        'flattening': (1, 6, 'each class below itself alone'),
+        'arrangement': (0, 7, 'the entries in order, repeats dropped'),
+        'writing': (0, 8, 'what stands in order, counted and written'),
+        'spell': (1, 8, 'the operation Spell: 43, 23'),
+    }),
+    ('9  What callers see', '#f1f1ee', {
+        'input': (0, 9, 'bytes to words and parts'),
+        'printing': (1, 9, 'bytes, names, decimals'),
+        'exports': (5, 9, 'the operations for C'),
+        'demands': (6, 9, 'the three demands, as theorems'),
+        'text': (0.5, 10, 'answers to lines'),
+        'desk': (2.5, 10, 'the program as a function'),
+        'comply': (4, 10, 'the program'),
+        'streams': (5.5, 10, 'standard input and output'),
     }),
 ]
 PLACE = {name: place for _, _, crates in STAGES for name, place in crates.items()}
@@ -88,13 +96,15 @@ WAYS = {
     ('preparation', 'normal_form'): ('right', [(2.24, 4)], 'top'),
     ('policy', 'normal_form'): ('bottom', [(3.7, 2.4), (2.5, 2.4), (2.5, 4.45), (2.37, 4.45)], 'top'),
     ('policy', 'spans'): ('bottom', [(4.3, 2.4), (5.5, 2.4), (5.5, 4)], 'left'),
-    ('model_check', 'exports'): ('bottom', [(5.8, 7.39), (5.2, 7.39)], 'top'),
+    ('tabulation', 'spell'): ('left', [(1.5, 6), (1.5, 8)], 'right'),
+    ('containment', 'desk'): ('left', [(4.5, 7), (4.5, 8.42), (2.5, 8.42)], 'top'),
+    ('model_check', 'exports'): ('bottom', [(5.8, 6.42), (5.5, 6.42), (5.5, 8.42), (5.2, 8.42)], 'top'),
 }
 
 # In pixels: a column's and a box's width, a row's and a box's height, the sheet's margin, and where each row's boxes begin.
 STEP, WIDTH, HEIGHT, MARGIN = 164, 142, 56, 26
-ROWS = [50, 128, 250, 372, 462, 580, 670, 794, 916, 1006]
-SHEET = (STEP * 6 + WIDTH + 2 * MARGIN, 1128)
+ROWS = [50, 128, 250, 372, 462, 580, 670, 794, 884, 1006, 1096]
+SHEET = (STEP * 6 + WIDTH + 2 * MARGIN, 1218)
 
 
 def listed():

@@ -17,7 +17,7 @@ pub struct Refusal {
 }
 
 /// A row for each number that an operation can refuse with, in rising order.
-const TABLE: [(u32, &str); 21] = [
+const TABLE: [(u32, &str); 22] = [
     (1, "the vocabulary's length is no multiple of 4, under 4 words or over 4,100"),
     (2, "in the vocabulary's header a count is out of range or the link is past the last record"),
     (3, "a record of the vocabulary's chain has an unknown kind, a name outside its series, a b that should be 0, or a link that does not rise"),
@@ -39,6 +39,7 @@ const TABLE: [(u32, &str); 21] = [
     (33, "a record of the model's chain has an unknown kind, a name outside its series, an individual outside the header's count, a word that should be 0, or a link that does not rise"),
     (41, "the text is over 65,536 bytes, or is not one Ontology( ) of the eight forms"),
     (42, "a name is declared twice in one sort or not in the sort that its place needs, or the names of a sort are too few or too many"),
+    (43, "the policy's spelling has over 512 records, or one at depth 17"),
 ];
 
 impl Refusal {

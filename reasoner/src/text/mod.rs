@@ -205,6 +205,7 @@ pub fn refusal(number: u32) -> &'static str {
         40 => "the input is over 65,536 bytes, cut short, or followed by more",
         41 => "the text is over 65,536 bytes, or is not one Ontology( ) of the eight forms",
         42 => "a name is declared twice in one sort or not in the sort that its place needs, or the names of a sort are too few or too many",
+        43 => "the policy's spelling has over 512 records, or one at depth 17",
         _ => "no refusal",
     }
 }
