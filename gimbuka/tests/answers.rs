@@ -5,7 +5,7 @@ mod common;
 use common::{is_cleared, owl, policy, work, MODEL, NARROW, NONE, V, WIDE};
 use gimbuka::{
     compliance, equality, model_check, possible, read_owl, read_policy, read_second_policy,
-    read_vocabulary, Checked, Comparison, Possibility, Side, Verdict, MOST_MODEL_WORDS,
+    read_vocabulary, spell, Checked, Comparison, Possibility, Side, Verdict, MOST_MODEL_WORDS,
     MOST_OWL_BYTES, MOST_VOCABULARY_WORDS,
 };
 
@@ -32,6 +32,31 @@ fn a_text_may_be_as_long_and_say_as_much_as_the_limits() {
     text.resize(MOST_OWL_BYTES, b'\n');
     assert_eq!(read_owl(&text, &mut out), Ok(MOST_VOCABULARY_WORDS));
     assert_eq!(read_vocabulary(&out), Ok(()));
+}
+
+#[test]
+fn a_policy_is_spelled() {
+    let (mut work, mut out) = (work(), [7; 40]);
+    // The same twice, in another order; and a term that is impossible, since class 4 is below two disjoint classes.
+    let p = policy(&[
+        &[[1, 2, 0, 0], [1, 1, 0, 0]],
+        &[[1, 4, 0, 0]],
+        &[[1, 1, 0, 0], [1, 2, 0, 0], [1, 1, 0, 0]],
+    ]);
+    let once = policy(&[&[[1, 1, 0, 0], [1, 2, 0, 0]]]);
+    assert_eq!(spell(&V, &p, &mut work, &mut out), Ok(once.len()));
+    assert!(is_cleared(&work));
+    assert_eq!(out[..once.len()], once);
+    assert!(out[once.len()..].iter().all(|&word| word == 7));
+    assert_eq!(equality(&V, &p, &once, &mut work, &mut out), Ok(Comparison::Equal));
+}
+
+#[test]
+fn a_policy_with_no_possible_term_is_spelled_as_a_header() {
+    let (mut work, mut out) = (work(), [7; 7]);
+    let impossible = policy(&[&[[1, 4, 0, 0]]]);
+    assert_eq!(spell(&V, &impossible, &mut work, &mut out), Ok(6));
+    assert_eq!(out, [0, 0, 0, 0, 0, 0, 7]);
 }
 
 #[test]

@@ -5,7 +5,7 @@ mod common;
 use common::{binary, deep, is_cleared, owl, policy, work, MODEL, NARROW, NONE, V, WIDE};
 use gimbuka::{
     compliance, equality, model_check, possible, read_owl, read_policy, read_second_policy,
-    read_vocabulary, Refusal, MOST_OWL_BYTES, WORK_SIZE,
+    read_vocabulary, spell, Refusal, MOST_OWL_BYTES, WORK_SIZE,
 };
 use std::collections::BTreeSet;
 use std::fmt::Debug;
@@ -166,6 +166,31 @@ fn a_short_output() {
     assert_eq!(out, [7; 14]);
 }
 
+/// One class, one role, and every value of the role is in the class.
+const RANGED: [u32; 8] = [1, 1, 0, 1, 5, 1, 1, 0];
+
+/// A term with a role in a role, 16 of them: the last one's value would be written with its class, at depth 17.
+fn deepest() -> Vec<u32> {
+    let role = |k: u32| [3, 1, 0, 0, if k < 17 { k + 1 } else { 0 }, 0];
+    let front = [[1, 0, 0, 0, 0, 0], [5, 0, 0, 0, 2, 0]];
+    front.into_iter().chain((2..=17).map(role)).flatten().collect()
+}
+
+#[test]
+fn a_spelling_that_is_too_deep() {
+    let (mut work, mut out) = (work(), [7; 20]);
+    let p = deepest();
+    // 21 comes before it, and 23 after it.
+    assert_eq!(number(spell(&RANGED, &p, &mut work[..WORK_SIZE - 1], &mut [])), 21);
+    assert_eq!(number(spell(&RANGED, &p, &mut work, &mut [])), 43);
+    assert!(is_cleared(&work));
+    work.fill(7);
+    // Without the range there is nothing to write at depth 17.
+    assert_eq!(number(spell(&[1, 1, 0, 0], &p, &mut work, &mut out)), 23);
+    assert!(is_cleared(&work));
+    assert_eq!(out, [7; 20]);
+}
+
 /// What each refusal says, by a call that is refused so: no number is without a sentence, and no sentence without a call.
 #[test]
 fn every_sentence_has_its_number() {
@@ -175,6 +200,7 @@ fn every_sentence_has_its_number() {
         possible(&V, &WIDE, &mut []).unwrap_err(),
         compliance(&v, &p, &NONE, &mut work, &mut out).unwrap_err(),
         compliance(&V, &WIDE, &NARROW, &mut work, &mut []).unwrap_err(),
+        spell(&RANGED, &deepest(), &mut work, &mut out).unwrap_err(),
     ];
     refusals.extend(bad_texts().map(|(_, text)| read_owl(text.as_bytes(), &mut out).unwrap_err()));
     refusals.extend(bad_vocabularies().map(|(_, v)| read_vocabulary(&v).unwrap_err()));

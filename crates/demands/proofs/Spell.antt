@@ -14,12 +14,14 @@ use Rattle.demands.proofs.Owl.{filling-refused}
 use Rattle.demands.specs.Refusals.{FirstRefusal, spellOrder}
 use Rattle.demands.specs.Slices.{WorkCleared, WritesFirst}
 use Rattle.meaning.proofs.Refusals.{policy-early, vocabulary-early, work-early}
+use Rattle.meaning.proofs.Unreached.{counted, policy-read, policy-refused, vocabulary-read, vocabulary-refused}
 use Rattle.meaning.specs.Answers.{FillingResult, accepted, equal, fillingAnswer, refused, result, wrote}
 use Rattle.meaning.specs.Containment.{Indistinct}
 use Rattle.meaning.specs.Lists.{cons, nil}
 use Rattle.meaning.specs.Operations.{Early, Outcome, equality, isLate, outputAfter, readPolicy, refuses, unless, workRefusal}
 use Rattle.meaning.specs.Policy.{Policy, policyOf, policyRefusal}
 use Rattle.meaning.specs.Promises.{IsRefusal}
+use Rattle.meaning.specs.Reached.{SamePolicy, SameVocabulary}
 use Rattle.meaning.specs.Records.{orElse}
 use Rattle.meaning.specs.Vocabulary.{vocabularyOf, vocabularyRefusal}
 use Rattle.meaning.specs.declared.Filling.{Filling}
@@ -157,3 +159,8 @@ module _ {v p w w′ o o′ : List ℕ} {r : Filling} (c : SpellPost v p w w′ 
         let g = spell-fits v q (length w₁) (length o₁) m a in
         one-spelling-equal v p q (length w) (length o) n (length w₁) (length o₁) m told a
         (sym first-words ∙ sym h ∙ ap (take m) (d .output) ∙ take-at _ _ m (sym (g .0)))
+
+-- records that no link reaches have no effect
+pub spell-same : {v v′ p p′ : List ℕ} → SameVocabulary v v′ → SamePolicy p p′ → (w o : ℕ) → spell v p w o ≡ spell v′ p′ w o
+unfolding spell spellOf
+spell-same a b w o = cc (vocabulary-refused a, vocabulary-read a, policy-refused b (counted a), policy-read b)

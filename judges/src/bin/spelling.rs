@@ -43,7 +43,9 @@ fn promised(v: &[u32], p: &[u32], words: &[u32]) -> Result<(), String> {
         Comparison::Equal | Comparison::Refused(22) => (),
         told => return Err(format!("what is written and what was read: {told:?}")),
     }
-    let mut rng = Rng::new(u64::from(words.iter().fold(1, |hash: u32, word| hash.wrapping_mul(31).wrapping_add(*word))));
+    let mut rng = Rng::new(u64::from(
+        words.iter().fold(1, |hash: u32, word| hash.wrapping_mul(31).wrapping_add(*word)),
+    ));
     let others = [repeats::rearranged(&mut rng, v, p), repeats::disguised(&mut rng, v, p)];
     for other in others.into_iter().flatten() {
         if spelled(v, &other).as_deref() != Some(words) {
