@@ -66,8 +66,8 @@ fn agree(case: &Case, most: u128, what: &str) {
     let lent = Lent::of(case);
     let possible = lent.to(|work, _| possible(v, p, work));
     hold([possible, lent.to(|work, _| literal::possible(v, p, work))], say);
-    let spelt = lent.to(|work, out| spell(v, p, work, out));
-    hold([spelt, lent.to(|work, out| literal::spell(v, p, work, out))], say);
+    let spelled = lent.to(|work, out| spell(v, p, work, out));
+    hold([spelled, lent.to(|work, out| literal::spell(v, p, work, out))], say);
     let checked = lent.to(|work, _| model_check(v, p, q, m, work));
     hold([checked, lent.to(|work, _| literal::model_check(v, p, q, m, work))], say);
     if literal::work_of(Way::Short, v, p, q) <= most {

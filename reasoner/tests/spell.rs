@@ -605,10 +605,14 @@ fn impossible_terms_are_of_every_kind() {
             let ranged = rows.iter().filter(|row| row[..2] == [3, 4]).count();
             deep += u32::from(rows.iter().any(|row| row[..2] == [3, 3] && row[4] == 16));
             long += u32::from(ranged * ranges > 512);
+            // The impossible concept; a span, but for those that only fill; classes.
+            let fills = |row: &[u32; 5]| row[1] == 2 && row[2] == row[3];
             let reason = if rows.iter().any(|row| row[0] == 2) {
                 0
+            } else if rows.iter().any(|row| row[0] == 4 && !fills(row)) {
+                1
             } else {
-                1 + usize::from(!rows.iter().any(|row| row[0] == 4 && row[1..3] != [2, row[3]]))
+                2
             };
             reasons[reason] += 1;
         }

@@ -13,9 +13,8 @@ use Rattle.arrangement.specs.Insertion.{arranged, insertItem}
 use Rattle.arrangement.specs.Listing.{Arrangeable, Arranged, HasLast, entriesOf, lastEntry, listing, ownsLast}
 use Rattle.arrangement.specs.Steps.{Ready, Settled}
 use Rattle.entries.proofs.Runs.{items-none}
-use Rattle.entries.specs.Entries.{Item, itemAt, itemsIn}
-use Rattle.layout.specs.Places.{tablesEnd}
-use Rattle.layout.specs.Tables.{HasEntry, holderAt}
+use Rattle.entries.specs.Entries.{itemAt, itemsIn}
+use Rattle.layout.specs.Tables.{holderAt}
 use Rattle.layout.specs.declared.Tables.{Tables}
 use Rattle.meaning.specs.Limits.{mostRecords}
 

@@ -1,5 +1,5 @@
 -- The place of a run among those behind it, found by one after another. Assumes nothing.
-use Prim.Native.Nat.{_*_, _+_, _-_, _<_, _≤_, suc, zero, ℕ}
+use Prim.Native.Nat.{_+_, _-_, _<_, _≤_, suc, zero, ℕ}
 use mathlib.Core.Bool.{Bool, _&&_, cond, false, true}
 use mathlib.Core.List.{List, [], _++_, _∷_, append-assoc, append-nil}
 use mathlib.Core.Path.{_∙_, _≡_, ap, ap₂, refl, subst, sym}
@@ -8,7 +8,7 @@ use lib.ListN.{drop, getD, length, length-drop, length-map, take}
 use lib.Seq.{length-take-le}
 use native.Mathlib.Omega.{arith}
 use borrow.Author.Tests.{eq-eqb, eqb-true, ltb-false, ltb-true}
-use Rattle.arrangement.specs.Insertion.{behind, deeper, insertItem, insertRun, pick}
+use Rattle.arrangement.specs.Insertion.{behind, deeper, insertRun, pick}
 use Rattle.arrangement.specs.Steps.{FindsPlace, Ready, RunEnds, inserted, isNext}
 use Rattle.entries.proofs.Runs.{item-depth, items-first, items-none, items-split}
 use Rattle.entries.specs.Entries.{Comparable, Item, depthAt, itemAt, itemsIn, runKey}

@@ -1,16 +1,12 @@
 -- The run at a place moved behind others, by way of spare words. Assumes nothing.
-use Prim.Native.Nat.{_*_, _+_, _-_, _<_, _≤_, ℕ}
+use Prim.Native.Nat.{_+_, _-_, _≤_, ℕ}
 use mathlib.Core.List.{List, _++_}
-use mathlib.Core.Path.{_∙_, _≡_, ap, refl, sym}
-use lib.ListN.{getD, length, length-append, replicate, set, take}
-use lib.Seq.{paste, paste-suc}
+use mathlib.Core.Path.{_∙_, _≡_, ap, sym}
+use lib.ListN.{length, length-append}
 use native.Mathlib.Omega.{arith}
-use native.Mathlib.Numerals.{add-one}
 use Rattle.arrangement.specs.Steps.{Rotatable, rotated}
-use Rattle.frames.proofs.Frames.{row-word}
-use Rattle.frames.proofs.Rows.{length-put, length-row, put-append, put-row}
+use Rattle.frames.proofs.Rows.{length-row, put-append, put-row}
 use Rattle.frames.specs.Rows.{putAt, rowAt}
-use Rattle.words.proofs.Steps.{stored-all}
 
 -- what is put together in the spare words: the runs the other way round
 module _ {o : List ℕ} {a b c : ℕ} (g : Rotatable o a b c) where

@@ -1,12 +1,12 @@
 -- The run at the front of the order goes to its place: moved, left where it is, or dropped. Assumes nothing.
 use Prim.Native.Nat.{_*_, _+_, _-_, _<_, _≤_, suc, zero, ℕ}
-use mathlib.Core.Bool.{Bool, false, true}
+use mathlib.Core.Bool.{false, true}
 use mathlib.Core.List.{List, [], _++_, _∷_, append-assoc, map, map-append}
 use mathlib.Core.Path.{_∙_, _≡_, ap, ap₂, refl, subst, sym}
 use lib.ListN.{drop, getD, length, length-append, length-drop, take}
 use lib.Seq.{drop-at, length-take-le, take-all}
 use native.Mathlib.Omega.{arith}
-use Rattle.arrangement.specs.Steps.{FindsPlace, Ready, Rotatable, RunEnds, Settled, inserted, rotated}
+use Rattle.arrangement.specs.Steps.{FindsPlace, Ready, Rotatable, RunEnds, Settled, rotated}
 use Rattle.arrangement.specs.declared.Place.{Place}
 use Rattle.entries.proofs.Runs.{items-none, items-split}
 use Rattle.entries.specs.Entries.{Item, itemAt, itemsIn}

@@ -1,6 +1,6 @@
 -- An item put in front of a list of runs: with those below it, it goes to its place among the runs of its own depth.
 use Prim.Native.Nat.{suc, zero, ℕ}
-use mathlib.Core.Bool.{Bool, cond}
+use mathlib.Core.Bool.{cond}
 use mathlib.Core.List.{List, [], _++_, _∷_}
 use lib.Dec.{eqb, ltb}
 use lib.ListN.{length}

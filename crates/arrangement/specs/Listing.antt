@@ -6,7 +6,7 @@ use mathlib.Core.Path.{_≡_}
 use lib.Dec.{eqb}
 use lib.ListN.{getD, length}
 use Rattle.arrangement.specs.Insertion.{arranged}
-use Rattle.entries.specs.Entries.{Item, itemAt, itemsIn}
+use Rattle.entries.specs.Entries.{itemAt, itemsIn}
 use Rattle.layout.specs.Places.{tablesEnd}
 use Rattle.layout.specs.Tables.{holderAt}
 use Rattle.layout.specs.declared.Tables.{Tables}

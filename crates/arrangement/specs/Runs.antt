@@ -7,7 +7,7 @@ use lib.Dec.{T}
 use Rattle.entries.specs.Entries.{Item, constraintFields, roleFields}
 use Rattle.meaning.specs.Intervals.{Constraint}
 use Rattle.meaning.specs.Lists.{flatMap}
-use Rattle.meaning.specs.NormalForm.{Node, Successors, none, successor}
+use Rattle.meaning.specs.NormalForm.{Successors, none, successor}
 use Rattle.meaning.specs.Policy.{Chain, Policy, class, end, impossible, interval, some}
 use Rattle.spelling.specs.Order.{sorted}
 use Rattle.spelling.specs.Spelling.{Conjunct, isIn, reaches, within}

@@ -2,23 +2,23 @@
 use Prim.Native.Nat.{_*_, _+_, _/_, _<_, _≤_, suc, zero, ℕ}
 use mathlib.Core.Bool.{Bool, _||_, cond, false, not, true}
 use mathlib.Core.List.{List, [], _∷_}
-use mathlib.Core.Path.{_∙_, _≡_, ap, ap₂, refl, subst, sym}
+use mathlib.Core.Path.{_∙_, _≡_, ap, refl, subst, sym}
 use lib.Dec.{T, eqb, ltb}
 use lib.ListN.{getD, length}
 use native.Mathlib.Omega.{arith}
 use borrow.Author.Tests.{eqb-false, eqb-true, le-ltb, ltb-false, ltb-true}
 use Rattle.entries.proofs.Ordering.{alike, by-less, opposite, order-opposite}
 use Rattle.entries.specs.Entries.{ComparesClasses, FirstDifference, classFields}
-use Rattle.entries.specs.Order.{Continues, andThen, byThen, orderOf}
+use Rattle.entries.specs.Order.{Continues, andThen, orderOf}
 use Rattle.entries.specs.declared.Order.{Order}
 use Rattle.entries.specs.declared.Order.the-variants as order
 use Rattle.meaning.specs.Lists.{counting, filter}
 use Rattle.words.proofs.Laws.{in-past, in-within}
 use Rattle.words.proofs.Listing.{next-none, next-some}
-use Rattle.words.proofs.Lists.{Rising, above-all, above-first, rising-counting, rising-filter}
+use Rattle.words.proofs.Lists.{above-all, above-first, rising-counting, rising-filter}
 use Rattle.words.specs.Members.{members, membersAbove, nextMember}
 use Rattle.words.specs.Rows.{classWords}
-use Rattle.words.specs.Sets.{capacity, inSet, testBit}
+use Rattle.words.specs.Sets.{capacity, inSet}
 
 -- ---- equal classes
 

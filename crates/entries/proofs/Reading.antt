@@ -1,14 +1,11 @@
 -- An entry read from the tables: a role's below the number of constraint entries, a constraint's from there on. Assumes nothing.
-use Prim.Native.Nat.{_*_, _-_, _<_, _≤_, ℕ}
-use mathlib.Core.Bool.{cond}
+use Prim.Native.Nat.{_-_, _<_, _≤_, ℕ}
 use mathlib.Core.List.{List}
-use mathlib.Core.Path.{_∙_, _≡_, ap, refl, sym}
-use lib.Dec.{eqb, ltb}
+use mathlib.Core.Path.{_∙_, _≡_, ap}
 use lib.ListN.{getD, replicate}
 use native.Mathlib.Omega.{arith}
-use borrow.Author.Tests.{eq-eqb, lt-ltb, le-ltb, ne-eqb}
-use Rattle.entries.specs.Entries.{HasItem, classesAt, constraintFields, depthAt, fieldsAt, ownerAt, rankOf, roleFields}
-use Rattle.entries.specs.declared.Fields.{Fields}
+use borrow.Author.Tests.{lt-ltb, le-ltb}
+use Rattle.entries.specs.Entries.{HasItem, classesAt, constraintFields, depthAt, fieldsAt, ownerAt, roleFields}
 use Rattle.layout.specs.Tables.{HasEntry, constraintAt, holderAt, parentAt, roleAt, setAt}
 use Rattle.meaning.specs.Limits.{mostRecords}
 use Rattle.words.specs.Rows.{classWords}

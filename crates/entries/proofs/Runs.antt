@@ -7,9 +7,9 @@ use lib.Dec.{T, ltb}
 use lib.ListN.{drop, getD, length, take}
 use lib.Seq.{drop-cons, drop-drop, take-add}
 use native.Mathlib.Omega.{arith}
-use borrow.Author.Tests.{le-ltb, lt-ltb, ltb-false, ltb-true}
+use borrow.Author.Tests.{ltb-false, ltb-true}
 use Rattle.entries.proofs.Ordering.{beginnings, depth-same, other-then, same-lists, same-then}
-use Rattle.entries.specs.Entries.{Beside, Comparable, ComparesClasses, ComparesNext, HasItem, Item, Known, Steps, classFields, classesAt, depthAt, fieldsAt, itemAt, itemsIn, listed}
+use Rattle.entries.specs.Entries.{Beside, Comparable, ComparesClasses, ComparesNext, HasItem, Known, Steps, classFields, classesAt, depthAt, fieldsAt, itemAt, itemsIn, listed}
 use Rattle.entries.specs.Entries.{rankOf, restFields, runFields, runKey, siblingFields}
 use Rattle.entries.specs.Order.{Continues, andThen, isSame, orderOf}
 use Rattle.entries.specs.declared.Fields.{Fields}

@@ -17,11 +17,10 @@ use Rattle.meaning.specs.Limits.{mostVocabularyWords}
 use Rattle.meaning.specs.Lists.{counting}
 use Rattle.meaning.specs.NormalForm.{normalForm}
 use Rattle.meaning.specs.Policy.{Chain}
-use Rattle.meaning.specs.Stated.{isBelow, isFunctionalFeature, isFunctionalRole, ranges}
+use Rattle.meaning.specs.Stated.{isBelow}
 use Rattle.meaning.specs.Vocabulary.{axiomKind, axiomLeft, axiomRight, classCount, featureCount, roleCount, vocabularyOf}
 use Rattle.meaning.specs.Vocabulary.{vocabularyRefusal}
-use Rattle.spelling.proofs.Flattened.{Flat, flat-accepted, flat-vocabulary, flattened, flattened-below, flattened-feature, flattened-normal}
-use Rattle.spelling.proofs.Flattened.{flattened-ranges, flattened-role}
+use Rattle.spelling.proofs.Flattened.{Flat, flat-accepted, flat-vocabulary, flattened, flattened-below, flattened-normal}
 
 -- ---- the words
 
@@ -105,12 +104,3 @@ module _ (v : List ℕ) where
 
     pub flat-below : (x y : ℕ) → isBelow (vocabularyOf (flatWords v)) x y ≡ eqb x y
     flat-below x y = rw flat (flattened-below (vocabularyOf v) x y)
-
-    pub flat-role : (r : ℕ) → isFunctionalRole (vocabularyOf (flatWords v)) r ≡ isFunctionalRole (vocabularyOf v) r
-    flat-role r = rw flat (flattened-role (vocabularyOf v) r)
-
-    pub flat-feature : (f : ℕ) → isFunctionalFeature (vocabularyOf (flatWords v)) f ≡ isFunctionalFeature (vocabularyOf v) f
-    flat-feature f = rw flat (flattened-feature (vocabularyOf v) f)
-
-    pub flat-ranges : (r : ℕ) → ranges (vocabularyOf (flatWords v)) r ≡ ranges (vocabularyOf v) r
-    flat-ranges r = rw flat (flattened-ranges (vocabularyOf v) r)

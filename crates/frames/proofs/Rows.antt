@@ -67,16 +67,21 @@ pub put-self : (n : ℕ) (ws : List ℕ) (at : ℕ) → at + n ≤ length ws →
 put-self n ws at h =
     rw (length-row n ws at h, ← drop-drop n at ws, take-append-drop n (drop at ws)) (take-append-drop at ws)
 
--- ---- a copy, word by word
+-- ---- words put one by one, and a copy
+
+pub stored-more : (ws ts : List ℕ) (at : ℕ) (vs : List ℕ) (i : ℕ) → at + length vs ≤ length ws → i < length vs → ts ≡ paste ws at vs i
+    → set ts (at + i) (getD vs i 0) ≡ paste ws at vs (i + 1)
+stored-more ws ts at vs i l h e = rw (e, add-one i) (paste-suc ws at vs i 0 (omega arith) h)
+
+pub stored-all : (ws ts : List ℕ) (at : ℕ) (vs : List ℕ) (i : ℕ) → i ≡ length vs → ts ≡ paste ws at vs i → ts ≡ putAt ws at vs
+stored-all ws ts at vs i n e = rw (e, n, take-length vs, append-assoc)
 
 module _ (from : List ℕ) (i : ℕ) (to : List ℕ) (j n : ℕ) (f : i + n ≤ length from) (t : j + n ≤ length to) where
   pub copied-more : (ts : List ℕ) (k : ℕ) → k < n → ts ≡ paste to j (rowAt n from i) k → set ts (j + k) (getD from (i + k) 0) ≡ paste to j (rowAt n from i) (k + 1)
   copied-more ts k h e =
       let l = length-row n from i f in
       let w : getD (rowAt n from i) k 0 ≡ getD from (i + k) 0 = getD-take n (drop i from) k 0 h ∙ getD-drop i from k 0 in
-      rw (e, add-one k) (ap (λ (x : ℕ). set (paste to j (rowAt n from i) k) (j + k) x) (sym w) ∙ paste-suc to j (rowAt n from i) k 0 (omega arith) (omega arith))
+      ap (λ (x : ℕ). set ts (j + k) x) (sym w) ∙ stored-more to ts j (rowAt n from i) k (omega arith) (omega arith) e
 
   pub copied-all : (ts : List ℕ) (k : ℕ) → k ≡ n → ts ≡ paste to j (rowAt n from i) k → ts ≡ putAt to j (rowAt n from i)
-  copied-all ts k e g =
-      let l : k ≡ length (rowAt n from i) = e ∙ sym (length-row n from i f) in
-      g ∙ rw (l, take-length (rowAt n from i)) (append-assoc (take j to) (rowAt n from i) (drop (j + length (rowAt n from i)) to))
+  copied-all ts k e g = stored-all to ts j (rowAt n from i) k (e ∙ sym (length-row n from i f)) g

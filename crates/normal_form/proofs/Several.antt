@@ -1,25 +1,22 @@
 -- Several terms at once: `normalise_all`.
-use Prim.Native.Nat.{_+_, _-_, _<_, _≤_, suc, zero, ℕ}
+use Prim.Native.Nat.{_+_, _-_, _≤_, suc, zero, ℕ}
 use mathlib.Core.Bool.{Bool, cond, false}
 use mathlib.Core.List.{List, [], _∷_, map}
-use mathlib.Core.Logic.{_⊎_, inr}
+use mathlib.Core.Logic.{inr}
 use mathlib.Core.Path.{_∙_, _≡_, ap, ap₂, refl, subst, sym}
-use lib.Dec.{eqb}
-use lib.ListN.{drop, getD, length, length-map, take}
+use lib.ListN.{getD, length, length-map, take}
 use lib.Seq.{drop-cons}
 use native.Mathlib.Omega.{arith}
 use borrow.Author.Tests.{ne-eqb}
 use Rattle.frames.proofs.Frames.{only-none, only-put, only-then}
 use Rattle.frames.proofs.Rows.{length-put, put-row}
-use Rattle.frames.specs.Frames.{Only, Span}
+use Rattle.frames.specs.Frames.{Only}
 use Rattle.frames.specs.Rows.{putAt, rowAt}
 use Rattle.functional.specs.declared.Functional.{Functional}
-use Rattle.layout.specs.Places.{InTables, individualsAt, pendingAt, tablesEnd}
+use Rattle.layout.specs.Places.{InTables, pendingAt}
 use Rattle.layout.specs.declared.Tables.{Tables}
 use Rattle.meaning.proofs.Rules.{head, tail}
-use Rattle.meaning.specs.Limits.{mostRecords}
 use Rattle.meaning.specs.Lists.{All, cons, nil}
-use Rattle.meaning.specs.Vocabulary.{vocabularyOf}
 use Rattle.normal_form.proofs.Laws.{in-tables}
 use Rattle.normal_form.specs.Parts.{Arm, armAt, live, weigh, wordsAt}
 use Rattle.normal_form.specs.Steps.{Built, Entry, Room, Sure, restAt}

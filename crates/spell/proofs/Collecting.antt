@@ -1,10 +1,10 @@
 -- The records of the possible terms, collected one after another. Assumes nothing.
-use Prim.Native.Nat.{_+_, _<_, _≤_, suc, ℕ}
+use Prim.Native.Nat.{_+_, _<_, _≤_, ℕ}
 use mathlib.Core.Bool.{Bool, cond, false, not, true}
 use mathlib.Core.List.{List, [], _++_, _∷_, append-assoc, append-nil, map, map-append}
 use mathlib.Core.Path.{_∙_, _≡_, ap, refl, subst, sym}
 use lib.Dec.{T}
-use lib.ListN.{getD, length, length-set, set, take}
+use lib.ListN.{length, length-set, set, take}
 use lib.Seq.{getD-set-same, take-set-le, take-suc}
 use native.Mathlib.Numerals.{add-one}
 use native.Mathlib.Omega.{arith}
@@ -13,7 +13,7 @@ use Rattle.meaning.proofs.Wellformed.{accepted}
 use Rattle.meaning.specs.Limits.{mostRecords}
 use Rattle.meaning.specs.Lists.{All, cons, filter, nil}
 use Rattle.meaning.specs.NormalForm.{possible}
-use Rattle.meaning.specs.Policy.{Chain, Policy, firstTerm, nextOf, policyOf, policyRefusal, termAt}
+use Rattle.meaning.specs.Policy.{Policy, firstTerm, nextOf, policyOf, policyRefusal, termAt}
 use Rattle.meaning.specs.Records.{falling, lastOf}
 use Rattle.meaning.specs.Vocabulary.{vocabularyOf}
 use Rattle.policy.proofs.Terms.{terms-along, total-length}

@@ -1,7 +1,7 @@
 -- What the tables hold, in order, is too long, does not fit, or is written.
 use Prim.Native.Nat.{_*_, _+_, _<_, _≤_, ℕ}
 use mathlib.Core.Bool.{Bool, _||_, cond, false, true}
-use mathlib.Core.List.{List, []}
+use mathlib.Core.List.{List}
 use mathlib.Core.Path.{_∙_, _≡_, ap, refl, subst, sym}
 use lib.Dec.{T, leb, ltb}
 use lib.ListN.{getD, length}
@@ -13,7 +13,7 @@ use Rattle.arrangement.specs.Steps.{Depths, Listable}
 use Rattle.entries.specs.Entries.{Item}
 use Rattle.frames.proofs.Work.{outputs-none}
 use Rattle.layout.specs.declared.Tables.{Tables}
-use Rattle.meaning.specs.Answers.{FillingResult, refused, result, wrote}
+use Rattle.meaning.specs.Answers.{FillingResult, result, wrote}
 use Rattle.meaning.specs.Limits.{mostRecords}
 use Rattle.meaning.specs.Operations.{Outcome, outputAfter, refuses, written}
 use Rattle.meaning.specs.Policy.{Policy}
@@ -22,7 +22,7 @@ use Rattle.spell.specs.Filing.{Filed, HoldsItems, Listed}
 use Rattle.spelling.specs.Operation.{filed}
 use Rattle.spelling.specs.Spelling.{tooLong}
 use Rattle.spelling.specs.Words.{policyWords}
-use Rattle.writing.proofs.Spelled.{items-records, items-too-long, items-words}
+use Rattle.writing.proofs.Spelled.{items-too-long, items-words}
 use Rattle.writing.proofs.Whole.{words-count}
 use Rattle.writing.specs.Written.{Ordered, Writable, areTooLong, itemWords, itemsFrom, recordsIn}
 

@@ -1,9 +1,9 @@
 -- The possible terms in the tables, by the vocabulary in which no class is below another: arranged they are the spelling.
-use Prim.Native.Nat.{_+_, _<_, _≤_, ℕ}
+use Prim.Native.Nat.{_+_, _≤_, ℕ}
 use mathlib.Core.Bool.{Bool, cond, false, true}
 use mathlib.Core.List.{List, [], _++_, _∷_, map}
 use mathlib.Core.Path.{_∙_, _≡_, ap, ap₂, refl, subst, sym}
-use lib.ListN.{length, length-append, length-map, take}
+use lib.ListN.{length, length-append}
 use native.Mathlib.Omega.{arith}
 use Rattle.arrangement.proofs.Spelled.{arranged-spelled, spelled-fronted}
 use Rattle.arrangement.proofs.Standing.{entries-stand}
@@ -17,11 +17,11 @@ use Rattle.layout.specs.declared.Tables.{Tables}
 use Rattle.meaning.proofs.Rules.{head, tail}
 use Rattle.meaning.proofs.Sizes.{normal-weight, weight}
 use Rattle.meaning.proofs.Wellformed.{accepted}
-use Rattle.meaning.specs.Accepted.{ChainOf, count, total}
+use Rattle.meaning.specs.Accepted.{count, total}
 use Rattle.meaning.specs.Countermodel.{size}
 use Rattle.meaning.specs.Limits.{mostRecords}
 use Rattle.meaning.specs.Lists.{All, cons, filter, nil}
-use Rattle.meaning.specs.NormalForm.{Form, Successors, add, bare, none, normalForm, placeSuccessor, possible, successor}
+use Rattle.meaning.specs.NormalForm.{Form, Successors, add, bare, none, placeSuccessor, possible, successor}
 use Rattle.meaning.specs.Policy.{Chain, Policy, policyOf, policyRefusal, termAt}
 use Rattle.meaning.specs.Splitting.{constraintsBelow}
 use Rattle.meaning.specs.Stated.{isFunctionalRole, ranges}
@@ -33,9 +33,8 @@ use Rattle.normal_form.specs.Steps.{ArmOf, Entry, Grown}
 use Rattle.normal_form.specs.Tables.{FitAll, NormalisedAll}
 use Rattle.policy.specs.Terms.{TermOf}
 use Rattle.preparation.specs.Prepared.{Prepared}
-use Rattle.spell.specs.Filing.{Collected, HoldsItems, LaidOut, Listed}
+use Rattle.spell.specs.Filing.{Collected, LaidOut}
 use Rattle.spelling.proofs.Arranging.{forest, forest-placed, placeTerms}
-use Rattle.spelling.specs.Spelling.{spelled}
 use Rattle.words.specs.Sets.{inSet}
 
 -- ---- terms that are dropped make a policy no longer

@@ -5,7 +5,7 @@ use mathlib.Core.List.{List, [], _++_, _∷_, append-nil, map}
 use mathlib.Core.Path.{_∙_, _≡_, ap, refl, sym}
 use Rattle.meaning.specs.Lists.{filter}
 use Rattle.meaning.specs.NormalForm.{Form, Successors, add, bare, graft, none, normalForm, placeSuccessor, possible, successor}
-use Rattle.meaning.specs.Policy.{Chain, Policy}
+use Rattle.meaning.specs.Policy.{Policy}
 use Rattle.meaning.specs.Stated.{isFunctionalRole, ranges}
 use Rattle.meaning.specs.Vocabulary.{Vocabulary}
 use Rattle.spelling.specs.Order.{isBefore, place, sorted}

@@ -90,15 +90,15 @@ range-kept (functionalFeature f) = refl
 range-kept (range r c) = refl
 
 module _ (K : Vocabulary) where
-  pub flattened-role : (r : ℕ) → isFunctionalRole (flattened K) r ≡ isFunctionalRole K r
+  flattened-role : (r : ℕ) → isFunctionalRole (flattened K) r ≡ isFunctionalRole K r
   unfolding isFunctionalRole functionalRoles
   flattened-role r = ap (any (eqb r)) (kept functionalRoleName role-kept (K .axioms))
 
-  pub flattened-feature : (f : ℕ) → isFunctionalFeature (flattened K) f ≡ isFunctionalFeature K f
+  flattened-feature : (f : ℕ) → isFunctionalFeature (flattened K) f ≡ isFunctionalFeature K f
   unfolding isFunctionalFeature functionalFeatures
   flattened-feature f = ap (any (eqb f)) (kept functionalFeatureName feature-kept (K .axioms))
 
-  pub flattened-ranges : (r : ℕ) → ranges (flattened K) r ≡ ranges K r
+  flattened-ranges : (r : ℕ) → ranges (flattened K) r ≡ ranges K r
   unfolding ranges rangePairs
   flattened-ranges r = ap (λ (l : List (ℕ × ℕ)). rangesIn l r) (kept rangePair range-kept (K .axioms))
 

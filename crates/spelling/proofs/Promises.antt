@@ -67,13 +67,6 @@ module _ (v p : List ℕ) where
   words-spelled : spelled (vocabularyOf v) (policyOf (spellingWords v p)) ≡ spelled (vocabularyOf v) (policyOf p)
   words-spelled = ap (spelled (vocabularyOf v)) words-read ∙ spelling-again (vocabularyOf v) (policyOf p)
 
-  pub words-again : spellingWords v (spellingWords v p) ≡ spellingWords v p
-  words-again = opened v (spellingWords v p) ∙ ap policyWords words-spelled ∙ sym (opened v p)
-
-  pub words-reordered : (q : List ℕ) → ReorderedTerms (policyOf p) (policyOf q) → spellingWords v p ≡ spellingWords v q
-  unfolding spellingWords
-  words-reordered q m = ap policyWords (spelling-reordered (vocabularyOf v) m)
-
 pub words-accepted : (v p : List ℕ) → vocabularyRefusal v ≡ 0 → policyRefusal v p ≡ 0 → tooLong (spelled (vocabularyOf v) (policyOf p)) ≡ false →
     policyRefusal v (spellingWords v p) ≡ 0
 unfolding spellingWords

@@ -3,7 +3,7 @@ use Prim.Native.Nat.{_*_, _+_, _<_, _≤_, suc, zero, ℕ}
 use mathlib.Core.Bool.{false, true}
 use mathlib.Core.List.{List, [], _∷_}
 use mathlib.Core.Logic.{inl, inr}
-use mathlib.Core.Path.{_∙_, _≡_, refl, subst, sym}
+use mathlib.Core.Path.{_≡_, refl, subst, sym}
 use lib.Dec.{eqb, eqb·suc-zero}
 use lib.ListN.{drop, length}
 use native.Mathlib.Nat.{add-zero}

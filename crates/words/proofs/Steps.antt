@@ -5,16 +5,16 @@ use lib.Count.{ones, trailingZeros}
 use lib.Dec.{eqb}
 use lib.ListN.{drop, getD, length, set, take}
 use lib.Pow.{shl-exact}
-use lib.Seq.{ext-getD, getD-drop, getD-set-other, getD-set-same, getD-take, paste, paste-suc, set-out, take-all, take-length}
+use lib.Seq.{ext-getD, getD-drop, getD-set-other, getD-set-same, getD-take, set-out, take-all}
 use mathlib.Core.Bool.{Bool, _||_, cond, false, true}
-use mathlib.Core.List.{List, append-assoc}
+use mathlib.Core.List.{List}
 use mathlib.Core.Path.{_∙_, _≡_, ap, refl, sym}
 use native.Mathlib.Nat.{one-mul}
 use native.Mathlib.Numerals.{add-one}
 use native.Mathlib.Omega.{arith}
 use borrow.Author.Tests.{eqb-false, eqb-true}
 use Rattle.frames.proofs.Rows.{length-row}
-use Rattle.frames.specs.Rows.{putAt, rowAt}
+use Rattle.frames.specs.Rows.{rowAt}
 use Rattle.meaning.specs.Records.{isName}
 use Rattle.words.proofs.Bits.{bit-mask, ones-within}
 use Rattle.words.proofs.Laws.{bits-more, count-members, in-including, in-past, in-union, length-union, union-at}
@@ -114,15 +114,6 @@ pub row-filled : (n : ℕ) (ws : List ℕ) (at : ℕ) (r : List ℕ) (i : ℕ) �
 row-filled n ws at r i l m p h =
     ext-getD 0 r (rowAt n ws at) (m ∙ sym (length-row n ws at l))
     (λ j q. h j (omega arith) ∙ sym (getD-take n (drop at ws) j 0 (omega arith) ∙ getD-drop at ws j 0))
-
--- ---- `store`: the words put so far
-
-pub stored-more : (ws ts : List ℕ) (at : ℕ) (vs : List ℕ) (i : ℕ) → at + length vs ≤ length ws → i < length vs → ts ≡ paste ws at vs i
-    → set ts (at + i) (getD vs i 0) ≡ paste ws at vs (i + 1)
-stored-more ws ts at vs i l h e = rw (e, add-one i) (paste-suc ws at vs i 0 (omega arith) h)
-
-pub stored-all : (ws ts : List ℕ) (at : ℕ) (vs : List ℕ) (i : ℕ) → i ≡ length vs → ts ≡ paste ws at vs i → ts ≡ putAt ws at vs
-stored-all ws ts at vs i n e = rw (e, n, take-length vs, append-assoc)
 
 -- ---- the members of an answer
 

@@ -1,9 +1,8 @@
 use borrow.Author.Needs.{needs}
 use Prim.Native.Nat.{_+_, _-_}
-use mathlib.Core.Path.{_∙_, _≡_, ap, refl, sym}
-use lib.ListN.{getD, length, length-set}
+use mathlib.Core.Path.{_∙_, _≡_, ap, refl}
+use lib.ListN.{length, length-set}
 use native.Mathlib.Omega.{arith}
-use Rattle.layout.specs.Tables.{parentAt}
 use Rattle.arrangement.proofs.Deepening.{Deepened, deepened-ends, deepened-more, deepened-starts, depth-low, depth-read}
 use Rattle.arrangement.proofs.find_depths.Statement.{statement}
 use Rattle.arrangement.proofs.find_depths.Tie as tie

@@ -1,8 +1,7 @@
 use borrow.Author.Needs.{needs}
 use Prim.Native.Nat.{_-_}
-use mathlib.Core.Path.{_∙_, _≡_, ap}
-use lib.ListN.{getD, length}
-use native.Mathlib.Omega.{arith}
+use mathlib.Core.Path.{_∙_, ap}
+use lib.ListN.{length}
 use Rattle.entries.specs.Entries.{depthAt}
 use Rattle.arrangement.proofs.Ends.{Ending, ending-here, ending-last, ending-more, ending-starts, ready-entry}
 use Rattle.arrangement.proofs.run_end.Statement.{statement}

@@ -1,6 +1,4 @@
 use borrow.Author.Needs.{needs}
-use borrow.Author.Tests.{not-false, not-true}
-use mathlib.Core.Path.{_∙_, ap, refl}
 use Rattle.arrangement.proofs.Settling.{place-rotatable, settled-dropped, settled-left, settled-moved}
 use Rattle.arrangement.proofs.settle.Statement.{statement}
 use Rattle.arrangement.proofs.settle.Tie as tie

@@ -1,4 +1,3 @@
-use borrow.Author.Needs.{needs}
 use Rattle.entries.proofs.Ordering.{by-equal, by-less, by-more}
 use Rattle.entries.proofs.by.Statement.{statement}
 use Rattle.entries.proofs.by.Tie as tie

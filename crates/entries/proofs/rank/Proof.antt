@@ -1,4 +1,3 @@
-use borrow.Author.Needs.{needs}
 use Rattle.entries.proofs.Ordering.{rank-constraint, rank-role}
 use Rattle.entries.proofs.rank.Statement.{statement}
 use Rattle.entries.proofs.rank.Tie as tie

@@ -1,6 +1,5 @@
 use borrow.Author.Needs.{needs}
 use lib.ListN.{length}
-use mathlib.Core.Path.{_∙_}
 use native.Mathlib.Omega.{arith}
 use Rattle.frames.proofs.Work.{done-answered, done-before, done-full, done-refused, in-order}
 use Rattle.meaning.proofs.Refusals.{orElse-early, orElse-zero, policy-early, vocabulary-early}

@@ -600,7 +600,7 @@ const READINGS: &[Reading] = &[
         &[FIRST, [5, 0, 0, 0, 2, 0], [3, 1, 0, 0, 3, 0], [1, 2, 0, 0, 0, 0]],
     ),
     (
-        "ranges are written at every depth, with child 0 too, and not of what is functional only",
+        "ranges are written at every depth, with child 0 too",
         DESK,
         &[FIRST, [5, 0, 0, 0, 2, 0], [3, 3, 0, 0, 3, 0], [3, 2, 0, 0, 4, 0], [3, 3, 0, 0, 0, 0]],
         &[
@@ -845,9 +845,9 @@ fn lengths() -> Vec<Directed> {
             std::slice::from_ref(&two),
         ),
         written(
-            "an impossible term of 513 records alone",
+            "an impossible term of over 512 records alone",
             &ranges,
-            &[with(two_of_250(7), [Conjunct::Nothing])],
+            &[with(two_of_250(8), [Conjunct::Nothing])],
             &[],
         ),
         too_large(
@@ -980,7 +980,7 @@ fn orders() -> Vec<Directed> {
             all.push(lent(&format!("{what}, {also}"), input.clone(), work_len, out_len, number));
         };
         put("no output: 43", FULL_WORK, 0, 43);
-        put("an output a word short: 43", FULL_WORK, ROOM - 1, 43);
+        put("an output of 3,077 words: 43", FULL_WORK, ROOM - 1, 43);
         put("an output of more than any policy: 43", FULL_WORK, ROOM + 6, 43);
         put("no work slice: 21", 0, ROOM, 21);
         put("a work slice a word short, no output: 21", FULL_WORK - 1, 0, 21);

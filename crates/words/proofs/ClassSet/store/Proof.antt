@@ -6,7 +6,7 @@ use lib.Seq.{paste, paste-zero}
 use mathlib.Core.Path.{_∙_, _≡_, refl}
 use native.Mathlib.Omega.{arith}
 use Rattle.words.proofs.ClassSet.store.Statement.{statement}
-use Rattle.words.proofs.Steps.{stored-all, stored-more}
+use Rattle.frames.proofs.Rows.{stored-all, stored-more}
 use Rattle.words.specs.Rows.{classWords}
 use Rattle.words.proofs.ClassSet.store.Tie as tie
 
