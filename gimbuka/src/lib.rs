@@ -142,6 +142,15 @@ fn read(call: impl FnOnce(&mut u32) -> u32) -> Result<(), Refusal> {
     }
 }
 
+/// The answer of an operation that fills an output, from a call that is given where the refusal's number and the count of words go.
+fn fill(call: impl FnOnce(&mut u32, &mut usize) -> u32) -> Result<usize, Refusal> {
+    let (mut number, mut words) = (0, 0);
+    match call(&mut number, &mut words) {
+        0 => Err(Refusal::of(number)),
+        _ => Ok(words),
+    }
+}
+
 /// Reads a vocabulary from OWL 2 functional-style text, and writes its words to the output: `Ok` with how many.
 ///
 /// ```
@@ -156,22 +165,10 @@ fn read(call: impl FnOnce(&mut u32) -> u32) -> Result<(), Refusal> {
 ///
 /// 41 of the text, 42 of its names, 1 where it has over 1,024 axioms, then 23. Nothing is written then.
 pub fn read_owl(text: &[u8], out: &mut [u32]) -> Result<usize, Refusal> {
-    let (mut number, mut words) = (0, 0);
     // SAFETY: the exclusive slice and the numbers overlap nothing.
-    let kind = unsafe {
-        c::gimbuka_read_owl(
-            text.as_ptr(),
-            text.len(),
-            out.as_mut_ptr(),
-            out.len(),
-            &mut number,
-            &mut words,
-        )
-    };
-    match kind {
-        0 => Err(Refusal::of(number)),
-        _ => Ok(words),
-    }
+    fill(|number, words| unsafe {
+        c::gimbuka_read_owl(text.as_ptr(), text.len(), out.as_mut_ptr(), out.len(), number, words)
+    })
 }
 
 /// Reads a vocabulary: `Ok` where the words are one.
@@ -377,9 +374,8 @@ pub fn model_check(
 ///
 /// Refusals 1 to 8, 21, 43 where the spelling has over 512 records or one at depth 17, and 23 where it does not fit the output.
 pub fn spell(v: &[u32], p: &[u32], work: &mut [u32], out: &mut [u32]) -> Result<usize, Refusal> {
-    let (mut number, mut words) = (0, 0);
     // SAFETY: each pointer and length are a slice's; the exclusive slices and the numbers overlap nothing.
-    let kind = unsafe {
+    fill(|number, words| unsafe {
         c::gimbuka_spell(
             v.as_ptr(),
             v.len(),
@@ -389,12 +385,8 @@ pub fn spell(v: &[u32], p: &[u32], work: &mut [u32], out: &mut [u32]) -> Result<
             work.len(),
             out.as_mut_ptr(),
             out.len(),
-            &mut number,
-            &mut words,
+            number,
+            words,
         )
-    };
-    match kind {
-        0 => Err(Refusal::of(number)),
-        _ => Ok(words),
-    }
+    })
 }

@@ -10,7 +10,6 @@ use native.Mathlib.Omega.{arith}
 use borrow.Author.Tests.{eqb-false, eqb-true}
 use Rattle.arrangement.specs.Steps.{Depths, Listable}
 use Rattle.layout.specs.Tables.{parentAt}
-use Rattle.meaning.specs.Limits.{mostRecords}
 
 -- the first i individuals have their depths, none greater than its number
 pub record Deepened (w : List ℕ) (n i : ℕ) (ds : List ℕ) : Type 0 where
@@ -19,7 +18,6 @@ pub record Deepened (w : List ℕ) (n i : ℕ) (ds : List ℕ) : Type 0 where
   pub first : getD ds 0 0 ≡ 0
   pub later : (j : ℕ) → j < i → getD ds (j + 1) 0 ≡ getD ds (parentAt w j) 0 + 1
   pub low : (k : ℕ) → k ≤ i → getD ds k 0 ≤ k
-  pub small : (k : ℕ) → getD ds k 0 ≤ mostRecords
 
 pub depth-read : (w ds : List ℕ) {i at p n d : ℕ} → at ≡ i → p ≡ parentAt w at → n ≡ p → d ≡ getD ds n 0 → d ≡ getD ds (parentAt w i) 0
 depth-read w ds e f g h = h ∙ ap (λ (k : ℕ). getD ds k 0) (g ∙ f ∙ ap (parentAt w) e)
@@ -38,12 +36,7 @@ module _ {w : List ℕ} {n : ℕ} {ds₀ : List ℕ} (g : Listable w n ds₀) wh
         first = at;
         later = λ j h. absurd (omega arith);
         low = λ k h. let z : k ≡ 0 = omega arith in rw z (omega arith);
-        small = λ k. smaller k (eqb k 0) refl;
       }
-    where
-      smaller : (k : ℕ) (b : Bool) → eqb k 0 ≡ b → getD (set ds₀ 0 0) k 0 ≤ mostRecords
-      smaller k true e = let z = eqb-true k 0 e in let at = getD-set-same ds₀ 0 0 0 (let r = g .room in omega arith) in rw z (omega arith)
-      smaller k false e = let s = elsewhere ds₀ 0 0 k (eqb-false k 0 e) in let t = g .small k in omega arith
 
   module _ {i : ℕ} {ds : List ℕ} (x : Deepened w n i ds) (h : i < n) {d : ℕ} (e : d ≡ getD ds (parentAt w i) 0) where
     -- it is at most the individual's number
@@ -57,7 +50,6 @@ module _ {w : List ℕ} {n : ℕ} {ds₀ : List ℕ} (g : Listable w n ds₀) wh
       first = elsewhere ds (i + 1) (d + 1) 0 (λ z. omega arith) ∙ x .first;
       later = λ j k. after j k (eqb j i) refl;
       low = λ k l. lower k l (eqb k (i + 1)) refl;
-      small = λ k. smaller k (eqb k (i + 1)) refl;
     }
       where
         here : getD (set ds (i + 1) (d + 1)) (i + 1) 0 ≡ d + 1
@@ -85,12 +77,8 @@ module _ {w : List ℕ} {n : ℕ} {ds₀ : List ℕ} (g : Listable w n ds₀) wh
             let t = x .low k (omega arith) in
             omega arith
 
-        smaller : (k : ℕ) (b : Bool) → eqb k (i + 1) ≡ b → getD (set ds (i + 1) (d + 1)) k 0 ≤ mostRecords
-        smaller k true f = let z = eqb-true k (i + 1) f in let q = depth-low in let r = g .rows .0 in rw z (omega (arith, here))
-        smaller k false f = let s = elsewhere ds (i + 1) (d + 1) k (eqb-false k (i + 1) f) in let t = x .small k in omega arith
-
     pub deepened-more : {k : ℕ} → k ≡ i + 1 → Deepened w n (i + 1) (set ds k (d + 1))
     deepened-more f = rw f whole
 
   pub deepened-ends : {i : ℕ} {ds : List ℕ} → Deepened w n i ds → n ≤ i → Depths w n ds
-  deepened-ends x h = record { first = x .first; later = λ j k. x .later j (omega arith); small = x .small }
+  deepened-ends x h = record { first = x .first; later = λ j k. x .later j (omega arith) }

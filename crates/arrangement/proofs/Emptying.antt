@@ -103,7 +103,7 @@ module _ {w ds : List ℕ} {t : Tables} {o₀ : List ℕ} (g : Arrangeable w t o
     room = g .room;
     within = omega arith;
     same = refl;
-    known = g .known;
+    known = g .items .known;
     taken = [];
     left = refl;
     items = items-none w ds o₀ (length o₀) (length o₀) (omega arith);
@@ -116,7 +116,7 @@ module _ {w ds : List ℕ} {t : Tables} {o₀ : List ℕ} (g : Arrangeable w t o
         let h = x .within in
         let s = x .same in
         let f = g .few in
-        record { long = g .long; some = n; individuals = omega arith; constraints = omega arith }
+        record { long = g .items .long; some = n; individuals = omega arith; constraints = omega arith }
 
     module _ (n : i ≡ 0 → ⊥) {e : ℕ} (p : e ≡ lastEntry w i m) where
       last-at : (b : Bool) → ownsLast w m i ≡ b → lastEntry w i m ≡ cond b (mostRecords + (m - 1)) (i - 1)
@@ -150,7 +150,7 @@ module _ {w ds : List ℕ} {t : Tables} {o₀ : List ℕ} (g : Arrangeable w t o
           let b = below-top in
           let s = x .same in
           let f = g .few in
-          record { long = g .long; known = set-known; inside = omega arith; few = omega arith }
+          record { items = record { long = g .items .long; known = set-known }; inside = omega arith; few = omega arith }
 
       module _ {o′ : List ℕ} {r : ℕ} (y : Settled w ds (top - 1) (set o (top - 1) e) o′ r) where
         placed : itemsIn w ds o′ r (length o′) ≡ arranged (map (itemAt w ds) (e ∷ x .taken))

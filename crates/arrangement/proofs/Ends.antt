@@ -1,20 +1,16 @@
 -- Where a run ends: at the first entry behind its own that is not deeper. Assumes nothing.
-use Prim.Native.Nat.{_*_, _+_, _<_, _≤_, ℕ}
+use Prim.Native.Nat.{_+_, _<_, _≤_, ℕ}
 use mathlib.Core.Bool.{Bool, cond}
 use mathlib.Core.List.{List, [], _++_, _∷_, append-assoc, append-nil}
-use mathlib.Core.Path.{_∙_, _≡_, ap, refl, subst, sym}
+use mathlib.Core.Path.{_∙_, _≡_, ap, refl, sym}
 use lib.Dec.{eqb, ltb}
 use lib.ListN.{getD, length}
 use native.Mathlib.Omega.{arith}
 use borrow.Author.Tests.{le-ltb, lt-ltb}
 use Rattle.arrangement.specs.Insertion.{behind, deeper}
-use Rattle.arrangement.specs.Steps.{Ready, RunEnds, isNext}
+use Rattle.arrangement.specs.Steps.{RunEnds, isNext}
 use Rattle.entries.proofs.Runs.{item-depth, items-first, items-none, items-split}
-use Rattle.entries.specs.Entries.{HasItem, Item, depthAt, itemAt, itemsIn}
-use Rattle.meaning.specs.Limits.{mostRecords}
-
-pub ready-entry : {w o : List ℕ} {i : ℕ} → Ready w o i → (j : ℕ) {e : ℕ} → e ≡ getD o j 0 → HasItem e w
-ready-entry g j e = record { known = subst (λ (n : ℕ). n < 2 * mostRecords) (sym e) (g .known j); long = g .long }
+use Rattle.entries.specs.Entries.{Item, depthAt, itemAt, itemsIn}
 
 pub next-past : (w ds o : List ℕ) (at d : ℕ) → length o ≤ at → ltb at (length o) ≡ isNext w ds o at d
 next-past w ds o at d h = rw (le-ltb at (length o) h)

@@ -181,7 +181,7 @@ module _ (w ds o : List ℕ) where
 
   pub comparable : {a b c d : ℕ} → Ready w o a → RunEnds w ds o a b → RunEnds w ds o c d → Comparable w o a b c d
   comparable g x y = record {
-    known = record { long = g .long; entries = g .known; first = x .within; second = y .within };
+    known = record { items = g .items; first = x .within; second = y .within };
     first = x .first;
     second = y .first;
   }

@@ -51,7 +51,7 @@ module _ {w ds o : List ℕ} {top : ℕ} (g : Ready w o top) {b : ℕ} (x : RunE
     items = sym (f .standing e);
     low = (let l = x .first in omega arith);
     high = x .within;
-    known = g .known;
+    known = g .items .known;
     same = refl;
   }
 
@@ -68,7 +68,7 @@ module _ {w ds o : List ℕ} {top : ℕ} (g : Ready w o top) {b : ℕ} (x : RunE
             ∙ sym (f .missing e);
         low = omega arith;
         high = omega arith;
-        known = g .known;
+        known = g .items .known;
         same = refl;
       }
 
@@ -111,7 +111,7 @@ module _ {w ds o : List ℕ} {top : ℕ} (g : Ready w o top) {b : ℕ} (x : RunE
 
       kept : All (λ e. e < 2 * mostRecords) (putAt o top (upper ++ lower))
       kept =
-          let a = known-all (2 * mostRecords) o (g .known) in
+          let a = known-all (2 * mostRecords) o (g .items .known) in
           all-append (all-take (2 * mostRecords) top a)
           (all-append (all-append (all-take (2 * mostRecords) (p .at - b) (all-drop (2 * mostRecords) b a)) (all-take (2 * mostRecords) (b - top) (all-drop (2 * mostRecords) top a)))
           (all-drop (2 * mostRecords) (top + length (upper ++ lower)) a))

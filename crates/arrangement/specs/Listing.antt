@@ -6,7 +6,7 @@ use mathlib.Core.Path.{_≡_}
 use lib.Dec.{eqb}
 use lib.ListN.{getD, length}
 use Rattle.arrangement.specs.Insertion.{arranged}
-use Rattle.entries.specs.Entries.{itemAt, itemsIn}
+use Rattle.entries.specs.Entries.{HasItems, itemAt, itemsIn}
 use Rattle.layout.specs.Places.{tablesEnd}
 use Rattle.layout.specs.Tables.{holderAt}
 use Rattle.layout.specs.declared.Tables.{Tables}
@@ -42,12 +42,11 @@ listing (suc most) w (suc i) (suc m) rest =
 abbrev pub entriesOf : List ℕ → Tables → List ℕ
 entriesOf w t = listing (t .individuals + t .constraints) w (t .individuals) (t .constraints) []
 
--- there is room for all of them in the order, whose entries are known
+-- there is room for all of them in the order, of which the slice has every entry
 pub record Arrangeable (w : List ℕ) (t : Tables) (o : List ℕ) : Type 0 where
-  pub long : tablesEnd ≤ length w
+  pub items : HasItems w o
   pub room : t .individuals + t .constraints ≤ length o
   pub few : length o ≤ mostRecords
-  pub known : (j : ℕ) → getD o j 0 < 2 * mostRecords
 
 -- from place r on the order has the entries of the tables, arranged
 pub record Arranged (w ds : List ℕ) (t : Tables) (o o′ : List ℕ) (r : ℕ) : Type 0 where

@@ -7,9 +7,8 @@ use lib.Dec.{eqb, ltb}
 use lib.ListN.{getD, length}
 use Rattle.arrangement.specs.Insertion.{behind, deeper, insertItem}
 use Rattle.arrangement.specs.declared.Place.{Place}
-use Rattle.entries.specs.Entries.{Item, depthAt, itemAt, itemsIn}
+use Rattle.entries.specs.Entries.{HasItems, Item, depthAt, itemAt, itemsIn}
 use Rattle.frames.specs.Rows.{putAt, rowAt}
-use Rattle.layout.specs.Places.{tablesEnd}
 use Rattle.layout.specs.Tables.{HasEntries, parentAt}
 use Rattle.meaning.specs.Limits.{mostRecords}
 
@@ -20,20 +19,17 @@ pub record Listable (w : List ℕ) (n : ℕ) (ds : List ℕ) : Type 0 where
   pub rows : HasEntries n w
   pub before : (j : ℕ) → j < n → parentAt w j ≤ j
   pub room : n < length ds
-  pub small : (i : ℕ) → getD ds i 0 ≤ mostRecords
 
 -- an individual's conjuncts are one deeper than it
 pub record Depths (w : List ℕ) (n : ℕ) (ds : List ℕ) : Type 0 where
   pub first : getD ds 0 0 ≡ 0
   pub later : (j : ℕ) → j < n → getD ds (j + 1) 0 ≡ getD ds (parentAt w j) 0 + 1
-  pub small : (i : ℕ) → getD ds i 0 ≤ mostRecords
 
 -- ---- runs
 
--- the order's entries are known, and it has one at place i
+-- the slice has every entry of the order, and one stands at place i
 pub record Ready (w o : List ℕ) (i : ℕ) : Type 0 where
-  pub long : tablesEnd ≤ length w
-  pub known : (j : ℕ) → getD o j 0 < 2 * mostRecords
+  pub items : HasItems w o
   pub inside : i < length o
   pub few : length o ≤ mostRecords
 

@@ -11,7 +11,6 @@ use layout::parent_of;
 use meaning::limits::MOST_RECORDS;
 use records::word;
 use words::place;
-ghost use Prim.Native.Nat.{_+_};
 ghost use mathlib.Core.Path.{_≡_};
 ghost use Rattle.arrangement.specs.Listing.{Arrangeable, Arranged, HasLast, lastEntry, ownsLast};
 ghost use Rattle.arrangement.specs.Steps.{Depths, FindsPlace, Listable, Ready, Rotatable, RunEnds, Settled, isNext, rotated};

@@ -9,7 +9,7 @@ use lib.Seq.{drop-cons, drop-drop, take-add}
 use native.Mathlib.Omega.{arith}
 use borrow.Author.Tests.{ltb-false, ltb-true}
 use Rattle.entries.proofs.Ordering.{beginnings, depth-same, other-then, same-lists, same-then}
-use Rattle.entries.specs.Entries.{Beside, Comparable, ComparesClasses, ComparesNext, HasItem, Known, Steps, classFields, classesAt, depthAt, fieldsAt, itemAt, itemsIn, listed}
+use Rattle.entries.specs.Entries.{Beside, Comparable, ComparesClasses, ComparesNext, HasItem, HasItems, Known, Steps, classFields, classesAt, depthAt, fieldsAt, itemAt, itemsIn, listed}
 use Rattle.entries.specs.Entries.{rankOf, restFields, runFields, runKey, siblingFields}
 use Rattle.entries.specs.Order.{Continues, andThen, isSame, orderOf}
 use Rattle.entries.specs.declared.Fields.{Fields}
@@ -17,6 +17,9 @@ use Rattle.entries.specs.declared.Order.{Order}
 use Rattle.entries.specs.declared.Order.the-variants as order
 use Rattle.meaning.specs.Limits.{mostRecords}
 use Rattle.words.specs.Members.{members}
+
+pub has-item : {w o : List ℕ} → HasItems w o → (j : ℕ) {e : ℕ} → e ≡ getD o j 0 → HasItem e w
+has-item h j e = record { known = subst (λ (n : ℕ). n < 2 * mostRecords) (sym e) (h .known j); long = h .long }
 
 -- ---- the entries from one place on
 
@@ -45,9 +48,6 @@ module _ (w ds o : List ℕ) where
       go : {d : ℕ} (b : Bool) (r c : Fields) → r .depth ≡ d → c .depth ≡ d → cond b r c .depth ≡ d
       go true r c p q = p
       go false r c p q = q
-
-  pub entry-known : {b d : ℕ} → Known w o b d → (i : ℕ) {e : ℕ} → e ≡ getD o i 0 → HasItem e w
-  entry-known k i e = record { known = subst (λ (n : ℕ). n < 2 * mostRecords) (sym e) (k .entries i); long = k .long }
 
   kind-later : (e : ℕ) → 1 < fieldsAt w ds e .kind
   unfolding fieldsAt

@@ -22,6 +22,11 @@ pub record HasItem (e : ℕ) (w : List ℕ) : Type 0 where
   pub known : e < 2 * mostRecords
   pub long : tablesEnd ≤ length w
 
+-- the slice has every entry of the order o
+pub record HasItems (w o : List ℕ) : Type 0 where
+  pub long : tablesEnd ≤ length w
+  pub known : (j : ℕ) → getD o j 0 < 2 * mostRecords
+
 -- an entry's record, and the classes that are written behind it
 pub record Item : Type 0 where
   pub fields : Fields
@@ -104,10 +109,9 @@ pub record ComparesClasses (s t : List ℕ) (more other : Bool) (r : Order) : Ty
   pub says : (d : ℕ) (l m : List ℕ) → Continues more l → Continues other m →
       orderOf (classFields d (members s) l) (classFields d (members t) m) ≡ andThen r (orderOf l m)
 
--- the entries of the order are all known, and runs that end before b and d are inside
+-- the slice has every entry of the order, and runs that end before b and d are inside
 pub record Known (w o : List ℕ) (b d : ℕ) : Type 0 where
-  pub long : tablesEnd ≤ length w
-  pub entries : (i : ℕ) → getD o i 0 < 2 * mostRecords
+  pub items : HasItems w o
   pub first : b ≤ length o
   pub second : d ≤ length o
 

@@ -27,25 +27,19 @@ use Rattle.writing.proofs.Whole.{words-count}
 use Rattle.writing.specs.Written.{Ordered, Writable, areTooLong, itemWords, itemsFrom, recordsIn}
 
 module _ {w : List ℕ} {t : Tables} (g : Listed w t) where
-  pub filing-listable : (ds : List ℕ) → ((i : ℕ) → getD ds i 0 ≡ 0) → mostRecords < length ds → Listable w (t .individuals) ds
-  filing-listable ds z h = record {
-    rows = (let f = g .few in omega arith, g .long);
-    before = g .before;
-    room = (let f = g .few in omega arith);
-    small = λ i. let e = z i in omega arith;
-  }
+  pub filing-listable : (ds : List ℕ) → mostRecords < length ds → Listable w (t .individuals) ds
+  filing-listable ds h = record { rows = (let f = g .few in omega arith, g .long); before = g .before; room = (let f = g .few in omega arith) }
 
   pub filing-arrangeable : (o : List ℕ) → ((i : ℕ) → getD o i 0 ≡ 0) → length o ≡ mostRecords → Arrangeable w t o
   filing-arrangeable o z e = record {
-    long = g .long;
+    items = record { long = g .long; known = λ i. let e = z i in omega arith };
     room = (let f = g .few in omega arith);
     few = omega arith;
-    known = λ i. let e = z i in omega arith;
   }
 
   module _ {ds o o′ : List ℕ} {top : ℕ} (small : length o ≤ mostRecords) (a : Arranged w ds t o o′ top) where
     pub filing-ordered : Ordered w o′ top
-    filing-ordered = record { long = g .long; entries = a .known; few = (let s = a .same in omega arith); within = a .within }
+    filing-ordered = record { items = record { long = g .long; known = a .known }; few = (let s = a .same in omega arith); within = a .within }
 
     -- what is not too long is few records
     pub filing-writable : {b : Bool} {n : ℕ} (out : List ℕ) → b ≡ areTooLong (itemsFrom w ds o′ top) → b ≡ false →

@@ -2,13 +2,13 @@
 use Prim.Native.Nat.{_*_, _+_, _<_, _≤_, suc, ℕ}
 use mathlib.Core.Bool.{Bool, _||_, cond, false, true}
 use mathlib.Core.List.{List, [], _∷_}
-use mathlib.Core.Path.{_∙_, _≡_, ap, refl, subst, sym}
+use mathlib.Core.Path.{_∙_, _≡_, ap, refl, sym}
 use lib.Dec.{leb, leb·suc-suc, ltb}
 use lib.ListN.{getD, length}
 use native.Mathlib.Omega.{arith}
 use borrow.Author.Tests.{le-ltb, lt-ltb}
 use Rattle.entries.proofs.Runs.{items-first, items-none}
-use Rattle.entries.specs.Entries.{HasItem, Item, classesAt, depthAt, fieldsAt, itemAt}
+use Rattle.entries.specs.Entries.{Item, classesAt, depthAt, fieldsAt, itemAt}
 use Rattle.entries.specs.declared.Fields.{Fields}
 use Rattle.meaning.specs.Limits.{mostClasses, mostDepth, mostRecords}
 use Rattle.meaning.specs.Lists.{any}
@@ -19,11 +19,8 @@ use Rattle.writing.specs.Written.{CountsEntry, Ordered, areTooLong, isDe
 
 -- ---- an entry
 
-pub entry-known : {w o : List ℕ} {i : ℕ} → Ordered w o i → (j : ℕ) {e : ℕ} → e ≡ getD o j 0 → HasItem e w
-entry-known r j e = record { known = subst (λ (n : ℕ). n < 2 * mostRecords) (sym e) (r .entries j); long = r .long }
-
 pub place-known : {w o : List ℕ} {i j : ℕ} → Ordered w o i → j ≤ length o → Ordered w o j
-place-known r h = record { long = r .long; entries = r .entries; few = r .few; within = h }
+place-known r h = record { items = r .items; few = r .few; within = h }
 
 pub next-known : {w o : List ℕ} {i : ℕ} → Ordered w o i → i < length o → Ordered w o (i + 1)
 next-known r h = place-known r (omega arith)

@@ -1,12 +1,11 @@
 -- The words that items are written as: an item's record, its individual's classes behind it, then those below it.
-use Prim.Native.Nat.{_*_, _+_, _<_, _≤_, suc, ℕ}
+use Prim.Native.Nat.{_*_, _+_, _≤_, suc, ℕ}
 use mathlib.Core.Bool.{Bool, _||_, cond}
 use mathlib.Core.List.{List, [], _∷_}
 use mathlib.Core.Path.{_≡_}
 use lib.Dec.{eqb, ltb}
 use lib.ListN.{getD, length}
-use Rattle.entries.specs.Entries.{Item, itemAt, itemsIn}
-use Rattle.layout.specs.Places.{tablesEnd}
+use Rattle.entries.specs.Entries.{HasItems, Item, itemAt, itemsIn}
 use Rattle.meaning.specs.Limits.{mostClasses, mostDepth, mostRecords}
 use Rattle.meaning.specs.Lists.{any}
 use Rattle.meaning.specs.Records.{linkTo}
@@ -89,10 +88,9 @@ entryAt w ds o i = itemAt w ds (getD o i 0)
 abbrev pub itemsFrom : List ℕ → List ℕ → List ℕ → ℕ → List Item
 itemsFrom w ds o i = itemsIn w ds o i (length o)
 
--- the order's entries are known and few, and it has a place i
+-- the slice has every entry of the order, they are few, and it has a place i
 pub record Ordered (w o : List ℕ) (i : ℕ) : Type 0 where
-  pub long : tablesEnd ≤ length w
-  pub entries : (j : ℕ) → getD o j 0 < 2 * mostRecords
+  pub items : HasItems w o
   pub few : length o ≤ mostRecords
   pub within : i ≤ length o
 

@@ -4,7 +4,7 @@ use mathlib.Core.Path.{_∙_, ap, sym}
 use lib.ListN.{length}
 use native.Mathlib.Omega.{arith}
 use Rattle.entries.specs.Entries.{depthAt}
-use Rattle.arrangement.proofs.Ends.{ready-entry}
+use Rattle.entries.proofs.Runs.{has-item}
 use Rattle.arrangement.proofs.Finding.{Finding, comparable, finding-starts, finds-before, finds-further, finds-last, finds-same, here}
 use Rattle.arrangement.proofs.find_place.Statement.{statement}
 use Rattle.arrangement.proofs.find_place.Tie as tie
@@ -26,7 +26,7 @@ run-end-requires c κs =
     let s = c .before .before .before .before .before .before .before .before in
     let a = s .args in
     let g = s .pre .0 in
-    record { long = g .long; known = g .known; inside = here (a .work .now) (a .depths .now) (a .order .now) (c .before .before .loop .inv) (sym (c .before .is-at .ensures) ∙ c .if1 .taken); few = g .few }
+    record { items = g .items; inside = here (a .work .now) (a .depths .now) (a .order .now) (c .before .before .loop .inv) (sym (c .before .is-at .ensures) ∙ c .if1 .taken); few = g .few }
 
 compare-runs-requires : tie.Need-compare-runs-requires Inv-loop μ-loop
 compare-runs-requires c κs =
@@ -61,9 +61,9 @@ find-place-spec =
     Inv-loop
     μ-loop
     (λ c κs. search needs)
-    (λ c κs. ready-entry (c .before .before .before .before .pre .0) (c .before .before .before .before .args .a) (c .word .ensures))
+    (λ c κs. has-item (c .before .before .before .before .pre .0 .items) (c .before .before .before .before .args .a) (c .word .ensures))
     loop-holds
-    (λ c κs. let g = c .before .before .before .before .before .before .pre .0 in record { long = g .long; known = g .known; inside = (let i = g .inside in omega arith); few = g .few })
+    (λ c κs. let g = c .before .before .before .before .before .before .pre .0 in record { items = g .items; inside = (let i = g .inside in omega arith); few = g .few })
     run-end-requires
     compare-runs-requires
     (λ c. search needs)

@@ -3,7 +3,8 @@ use Prim.Native.Nat.{_-_}
 use mathlib.Core.Path.{_∙_, ap}
 use lib.ListN.{length}
 use Rattle.entries.specs.Entries.{depthAt}
-use Rattle.arrangement.proofs.Ends.{Ending, ending-here, ending-last, ending-more, ending-starts, ready-entry}
+use Rattle.arrangement.proofs.Ends.{Ending, ending-here, ending-last, ending-more, ending-starts}
+use Rattle.entries.proofs.Runs.{has-item}
 use Rattle.arrangement.proofs.run_end.Statement.{statement}
 use Rattle.arrangement.proofs.run_end.Tie as tie
 
@@ -14,7 +15,7 @@ abbrev μ-loop : tie.MeasureT-loop
 μ-loop work depths order i d at₀ at = length order - at
 
 depth-of-requires-2 : tie.Need-depth-of-requires-2 Inv-loop μ-loop
-depth-of-requires-2 c κs = ready-entry (c .before .before .before .before .before .before .before .before .pre) (c .before .before .loop .at) (c .word2 .ensures)
+depth-of-requires-2 c κs = has-item (c .before .before .before .before .before .before .before .before .pre .items) (c .before .before .loop .at) (c .word2 .ensures)
 
 returns : tie.Need-returns Inv-loop μ-loop
 returns c =
@@ -40,7 +41,7 @@ run-end-spec =
     Inv-loop
     μ-loop
     (λ c κs. search needs)
-    (λ c κs. ready-entry (c .before .before .before .before .pre) (c .before .before .before .before .args .i) (c .word .ensures))
+    (λ c κs. has-item (c .before .before .before .before .pre .items) (c .before .before .before .before .args .i) (c .word .ensures))
     (λ c. search needs)
     (λ c. let a = c .before .before .before .before .before .args in ending-starts (a .work .now) (a .depths .now) (a .order .now) (a .i) (c .depth-of .result) (c .before .before .before .before .before .pre .inside))
     (λ c κs. search needs)

@@ -1,7 +1,7 @@
 use borrow.Author.Needs.{needs}
 use mathlib.Core.Path.{_∙_, ap}
 use Rattle.entries.specs.Entries.{fieldsAt}
-use Rattle.entries.proofs.Runs.{entry-known, next-ends, next-fields, next-longer, next-shorter}
+use Rattle.entries.proofs.Runs.{has-item, next-ends, next-fields, next-longer, next-shorter}
 use Rattle.entries.proofs.compare_next.Statement.{statement}
 use Rattle.entries.proofs.compare_next.Tie as tie
 
@@ -26,13 +26,13 @@ fields-of-requires : tie.Need-fields-of-requires
 fields-of-requires c κs =
     let s = c .before .before .before .before .before .before in
     let a = s .args in
-    entry-known (a .work .now) (a .depths .now) (a .order .now) (s .pre) (a .i) (c .word .ensures)
+    has-item (s .pre .items) (a .i) (c .word .ensures)
 
 fields-of-requires-2 : tie.Need-fields-of-requires-2
 fields-of-requires-2 c κs =
     let s = c .before .before .before .before .before .before .before .before in
     let a = s .args in
-    entry-known (a .work .now) (a .depths .now) (a .order .now) (s .pre) (a .j) (c .word2 .ensures)
+    has-item (s .pre .items) (a .j) (c .word2 .ensures)
 
 returns-4 : tie.Need-returns-4
 returns-4 c =

@@ -2,7 +2,7 @@ use borrow.Author.Needs.{needs}
 use borrow.Author.Tests.{not-false, not-true}
 use mathlib.Core.Path.{_∙_, ap, sym}
 use Rattle.entries.specs.Entries.{fieldsAt}
-use Rattle.entries.proofs.Runs.{entry-known, runs-beside, runs-first, runs-rest}
+use Rattle.entries.proofs.Runs.{has-item, runs-beside, runs-first, runs-rest}
 use Rattle.entries.proofs.compare_runs.Statement.{statement}
 use Rattle.entries.proofs.compare_runs.Tie as tie
 
@@ -10,13 +10,13 @@ fields-of-requires : tie.Need-fields-of-requires
 fields-of-requires c κs =
     let s = c .before .before .before .before in
     let a = s .args in
-    entry-known (a .work .now) (a .depths .now) (a .order .now) (s .pre .known) (a .a) (c .word .ensures)
+    has-item (s .pre .known .items) (a .a) (c .word .ensures)
 
 fields-of-requires-2 : tie.Need-fields-of-requires-2
 fields-of-requires-2 c κs =
     let s = c .before .before .before .before .before .before in
     let a = s .args in
-    entry-known (a .work .now) (a .depths .now) (a .order .now) (s .pre .known) (a .c) (c .word2 .ensures)
+    has-item (s .pre .known .items) (a .c) (c .word2 .ensures)
 
 returns : tie.Need-returns
 returns c =

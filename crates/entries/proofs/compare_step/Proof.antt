@@ -2,7 +2,7 @@ use borrow.Author.Needs.{needs}
 use borrow.Author.Tests.{not-false, not-true}
 use mathlib.Core.Path.{_∙_, ap, refl, sym}
 use Rattle.entries.specs.Entries.{classesAt}
-use Rattle.entries.proofs.Runs.{entry-known, step-classes, step-next}
+use Rattle.entries.proofs.Runs.{has-item, step-classes, step-next}
 use Rattle.entries.proofs.compare_step.Statement.{statement}
 use Rattle.entries.proofs.compare_step.Tie as tie
 
@@ -10,13 +10,13 @@ classes-at-requires : tie.Need-classes-at-requires
 classes-at-requires c κs =
     let s = c .before .before .before .before in
     let a = s .args in
-    entry-known (a .work .now) (a .depths .now) (a .order .now) (s .pre .0 .known) (a .i) (c .word .ensures)
+    has-item (s .pre .0 .known .items) (a .i) (c .word .ensures)
 
 classes-at-requires-2 : tie.Need-classes-at-requires-2
 classes-at-requires-2 c κs =
     let s = c .before .before .before .before .before .before in
     let a = s .args in
-    entry-known (a .work .now) (a .depths .now) (a .order .now) (s .pre .0 .known) (a .j) (c .word2 .ensures)
+    has-item (s .pre .0 .known .items) (a .j) (c .word2 .ensures)
 
 returns : tie.Need-returns
 returns c =

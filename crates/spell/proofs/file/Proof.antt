@@ -11,7 +11,7 @@ file-spec =
     tie.close
     (tie.spec
     (λ c. search needs)
-    (λ c κs. filing-listable (c .before .before .before .pre) _ (λ i. zeros-at 513 i) (omega arith))
+    (λ c κs. filing-listable (c .before .before .before .pre) _ (omega arith))
     (λ c. search needs)
     (λ c. search needs)
     (λ c κs. filing-arrangeable (c .before .before .before .before .before .before .before .pre) _ (λ i. zeros-at 512 i) refl)

@@ -2,7 +2,8 @@ use borrow.Author.Needs.{needs}
 use Prim.Native.Nat.{_-_}
 use native.Mathlib.Omega.{arith}
 use lib.ListN.{length}
-use Rattle.writing.proofs.Counting.{Counting, counting-ends, counting-more, counting-starts, entry-known}
+use Rattle.entries.proofs.Runs.{has-item}
+use Rattle.writing.proofs.Counting.{Counting, counting-ends, counting-more, counting-starts}
 use Rattle.writing.proofs.count_records.Statement.{statement}
 use Rattle.writing.proofs.count_records.Tie as tie
 
@@ -20,7 +21,7 @@ count-records-spec =
     μ-loop
     (λ c. counting-starts (c .before .before .pre))
     (λ c κs. search needs)
-    (λ c κs. entry-known (c .before .before .before .before .before .pre) (c .before .before .loop .i) (c .word .ensures))
+    (λ c κs. has-item (c .before .before .before .before .before .pre .items) (c .before .before .loop .i) (c .word .ensures))
     (λ c. omega (arith, c .before .before .before .loop .inv .few, c .count-at .ensures .few, c .before .before .before .before .before .before .pre .few))
     (λ c. search needs)
     (λ c. search needs)

@@ -1,7 +1,8 @@
 use borrow.Author.Needs.{needs}
 use Prim.Native.Nat.{_-_}
 use lib.ListN.{length}
-use Rattle.writing.proofs.Counting.{Passing, entry-known, passing-ends, passing-found, passing-more, passing-starts}
+use Rattle.entries.proofs.Runs.{has-item}
+use Rattle.writing.proofs.Counting.{Passing, passing-ends, passing-found, passing-more, passing-starts}
 use Rattle.writing.proofs.is_too_deep.Statement.{statement}
 use Rattle.writing.proofs.is_too_deep.Tie as tie
 
@@ -19,7 +20,7 @@ is-too-deep-spec =
     μ-loop
     (λ c. passing-starts (c .before .before .before .pre))
     (λ c κs. search needs)
-    (λ c κs. entry-known (c .before .before .before .before .before .before .pre) (c .before .before .loop .i) (c .word .ensures))
+    (λ c κs. has-item (c .before .before .before .before .before .before .pre .items) (c .before .before .loop .i) (c .word .ensures))
     (λ c. passing-found (c .before .before .before .before .loop .inv) (c .before .before .before .loop-test .taken) (c .before .before .word .ensures) (c .before .is-deep .ensures) (c .if1 .taken))
     (λ c. search needs)
     (λ c. search needs)

@@ -2,7 +2,7 @@ use borrow.Author.Needs.{needs}
 use Prim.Native.Nat.{_-_}
 use native.Mathlib.Omega.{arith}
 use lib.ListN.{length}
-use Rattle.writing.proofs.Counting.{entry-known}
+use Rattle.entries.proofs.Runs.{has-item}
 use Rattle.writing.proofs.Linking.{Skipping, beside-above, beside-here, skipping-ends, skipping-more, skipping-starts}
 use Rattle.writing.proofs.link_beside.Statement.{statement}
 use Rattle.writing.proofs.link_beside.Tie as tie
@@ -21,10 +21,10 @@ link-beside-spec =
     μ-loop
     (λ c. skipping-starts (c .before .before .before .args .d) (c .before .before .before .args .first) (c .before .before .before .pre .0) (c .before .before .before .pre .1))
     (λ c κs. search needs)
-    (λ c κs. entry-known (c .before .before .before .before .before .before .pre .0) (c .before .before .loop .at) (c .word .ensures))
+    (λ c κs. has-item (c .before .before .before .before .before .before .pre .0 .items) (c .before .before .loop .at) (c .word .ensures))
     (λ c. beside-here (c .before .before .before .before .before .loop .inv) (c .before .before .before .before .loop-test .taken) (c .before .before .before .word .ensures) (c .before .before .depth-of .ensures) (c .before .if1 .taken) (c .if2 .taken))
     (λ c. beside-above (c .before .before .before .before .before .loop .inv) (c .before .before .before .before .loop-test .taken) (c .before .before .before .word .ensures) (c .before .before .depth-of .ensures) (c .before .if1 .taken) (c .if2 .left))
-    (λ c κs. entry-known (c .before .before .before .before .before .before .before .before .pre .0) (c .before .before .before .before .loop .at) (c .before .before .word .ensures))
+    (λ c κs. has-item (c .before .before .before .before .before .before .before .before .pre .0 .items) (c .before .before .before .before .loop .at) (c .before .before .word .ensures))
     (λ c. omega (arith, c .before .before .before .before .before .loop .inv .few, c .count-at .ensures .few, c .before .before .before .before .before .before .before .before .before .pre .0 .few))
     (λ c. search needs)
     (λ c. search needs)

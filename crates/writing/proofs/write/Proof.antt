@@ -2,7 +2,8 @@ use borrow.Author.Needs.{needs}
 use Prim.Native.Nat.{_-_}
 use native.Mathlib.Omega.{arith}
 use lib.ListN.{length}
-use Rattle.writing.proofs.Counting.{entry-known, place-known}
+use Rattle.entries.proofs.Runs.{has-item}
+use Rattle.writing.proofs.Counting.{place-known}
 use Rattle.writing.proofs.Whole.{Writing, writing-ends, writing-more, writing-room, writing-starts}
 use Rattle.writing.proofs.write.Statement.{statement}
 use Rattle.writing.proofs.write.Tie as tie
@@ -41,7 +42,7 @@ write-spec =
     (λ c. writing-starts _ (c .before .before .before .before .before .before .before .before .before .pre .ordered))
     write-entry-requires
     (λ c κs. search needs)
-    (λ c κs. entry-known (c .before .before .before .before .before .before .before .before .before .before .before .before .before .before .before .before .pre .ordered) (c .before .before .before .before .before .before .loop .i) (c .word .ensures))
+    (λ c κs. has-item (c .before .before .before .before .before .before .before .before .before .before .before .before .before .before .before .before .pre .ordered .items) (c .before .before .before .before .before .before .loop .i) (c .word .ensures))
     (λ c. omega (arith, c .before .before .before .before .before .before .before .loop .inv .count, c .before .before .before .before .before .before .before .before .before .before .before .before .before .before .before .before .before .pre .few, c .count-at .ensures .few))
     (λ c. search needs)
     (λ c. search needs)

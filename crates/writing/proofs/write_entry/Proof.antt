@@ -1,6 +1,7 @@
 use borrow.Author.Needs.{needs}
 use native.Mathlib.Omega.{arith}
-use Rattle.writing.proofs.Counting.{entry-known, next-known}
+use Rattle.entries.proofs.Runs.{has-item}
+use Rattle.writing.proofs.Counting.{next-known}
 use Rattle.writing.proofs.Words.{entry-few, entry-put, entry-rest, entry-room}
 use Rattle.writing.proofs.write_entry.Statement.{statement}
 use Rattle.writing.proofs.write_entry.Tie as tie
@@ -42,8 +43,8 @@ write-entry-spec =
     tie.close
     (tie.spec
     (λ c κs. search needs)
-    (λ c κs. entry-known (c .before .before .before .before .before .pre .0 .0) (c .before .before .before .before .before .args .i) (c .word .ensures))
-    (λ c κs. entry-known (c .before .before .before .before .before .before .pre .0 .0) (c .before .before .before .before .before .before .args .i) (c .before .word .ensures))
+    (λ c κs. has-item (c .before .before .before .before .before .pre .0 .0 .items) (c .before .before .before .before .before .args .i) (c .word .ensures))
+    (λ c κs. has-item (c .before .before .before .before .before .before .pre .0 .0 .items) (c .before .before .before .before .before .before .args .i) (c .before .word .ensures))
     (λ c κs. search needs)
     (λ c. omega (arith, c .before .before .before .before .before .before .before .before .pre .1 .few))
     add-after
