@@ -2,10 +2,11 @@
 use Prim.Native.Nat.{ℕ}
 use mathlib.Core.List.{List}
 use mathlib.Core.Path.{_≡_}
+use Rattle.meaning.proofs.Defaults.{accepted-stated}
 use Rattle.meaning.proofs.Normal.{BoundedChain}
 use Rattle.meaning.proofs.Rules.{all-mono, all-of}
 use Rattle.meaning.proofs.Stated.{all-stated, ranges-in}
-use Rattle.meaning.proofs.Wellformed.{accepted-axioms, accepted-terms}
+use Rattle.meaning.proofs.Wellformed.{accepted-terms}
 use Rattle.meaning.specs.Accepted.{NamedChain}
 use Rattle.meaning.specs.Lists.{All}
 use Rattle.meaning.specs.Normal.{Bounded}
@@ -17,17 +18,17 @@ use Rattle.meaning.specs.Vocabulary.{classCount, featureCount, roleCount
 pub bounded : (v : List ℕ) → vocabularyRefusal v ≡ 0 → Bounded (vocabularyOf v)
 unfolding vocabularyOf
 bounded v e =
-    let named = all-stated (vocabularyOf v) (accepted-axioms v e) in
+    let named = all-stated (vocabularyOf v) (accepted-stated v e) in
     record { above = λ a b m. named .subclass a b m .1; ranged = λ r c m. named .ranged r c m .1 }
 
 -- the names of the pairs that are stated
 pub subclasses-named : (v : List ℕ) → vocabularyRefusal v ≡ 0 → All (λ p. Name (classCount v) (p .0) × Name (classCount v) (p .1)) (subclasses (vocabularyOf v))
-subclasses-named v e = all-of (subclasses (vocabularyOf v)) (λ p m. all-stated (vocabularyOf v) (accepted-axioms v e) .subclass (p .0) (p .1) m)
+subclasses-named v e = all-of (subclasses (vocabularyOf v)) (λ p m. all-stated (vocabularyOf v) (accepted-stated v e) .subclass (p .0) (p .1) m)
 
 pub rangePairs-named : (v : List ℕ) → vocabularyRefusal v ≡ 0 → All (λ p. Name (roleCount v) (p .0) × Name (classCount v) (p .1)) (rangePairs (vocabularyOf v))
 rangePairs-named v e =
     all-of (rangePairs (vocabularyOf v)) (λ p m.
-    all-stated (vocabularyOf v) (accepted-axioms v e) .ranged (p .0) (p .1) (ranges-in (vocabularyOf v) (p .0) (p .1) m))
+    all-stated (vocabularyOf v) (accepted-stated v e) .ranged (p .0) (p .1) (ranges-in (vocabularyOf v) (p .0) (p .1) m))
 
 pub chain-bounded : (N R F : ℕ) (c : Chain) → NamedChain N R F c → BoundedChain N c
 chain-bounded N R F end h = tt

@@ -193,7 +193,7 @@ module _ (K : Vocabulary) (w : Bounded K) (u : Form) (r : Consistent K u) where
   pub satisfied : Satisfies (stands (individuals u) (canonicalModel K u)) K
   unfolding F canonicalModel
   satisfied = record {
-    stated = stated-all K (record {
+    obeyed = stated-all K (record {
       subclass = λ a b m i p. all-at closed p b (below-subclass K a b m);
       apart = λ a b m i p q. no-clash K (at .0 i .node) (at .0 i .ready .clean) a b m (all-at (at .2) p) (all-at (at .2) q);
       role = λ q t i j k x y.
@@ -201,6 +201,8 @@ module _ (K : Vocabulary) (w : Bounded K) (u : Form) (r : Consistent K u) where
       feature = λ f t i v z x y.
           one-value K f v z (at .0 i .node .constraints) (at .0 i .ready .normal .node .distinct) t (all-at (at .2) x) (all-at (at .2) y);
       ranged = λ q c m i j x. all-at (all-at closed x) m;
+      manyRole = λ q t. tt;
+      manyFeature = λ f t. tt;
     });
   }
     where

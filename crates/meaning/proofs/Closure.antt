@@ -100,7 +100,7 @@ below-sound I K s a b i t h = go (below-iff K a b .0 t)
   where
     go : {c : ℕ} → Steps (subclasses K) a c → I .inClass c i
     go (start e) = subst (λ (z : ℕ). I .inClass z i) e h
-    go (then {b = c} {c = d} p m) = all-stated K (s .stated) .subclass c d m i (go p)
+    go (then {b = c} {c = d} p m) = all-stated K (s .obeyed) .subclass c d m i (go p)
 
 -- what lies above a class that the vocabulary counts is one too
 pub below-bounded : (K : Vocabulary) → Bounded K → (a b : ℕ) → Name (K .classes) a → T (isBelow K a b) → Name (K .classes) b

@@ -50,14 +50,16 @@ module _ (I J : Interpretation) (g : Agree I J) where
 
   pub agree-satisfies : (K : Vocabulary) → Satisfies I K → Satisfies J K
   agree-satisfies K s =
-      let o = all-stated K (s .stated) in
+      let o = all-stated K (s .obeyed) in
       record {
-        stated = stated-all K (record {
+        obeyed = stated-all K (record {
           subclass = λ a b m i p. g .classes b i .0 (o .subclass a b m i (g .classes a i .1 p));
           apart = λ a b m i p q. o .apart a b m i (g .classes a i .1 p) (g .classes b i .1 q);
           role = λ r t i j k p q. o .role r t i j k (g .roles r i j .1 p) (g .roles r i k .1 q);
           feature = λ f t i v w p q. o .feature f t i v w (g .values f i v .1 p) (g .values f i w .1 q);
           ranged = λ r c m i j p. g .classes c j .0 (o .ranged r c m i j (g .roles r i j .1 p));
+          manyRole = λ r t. tt;
+          manyFeature = λ f t. tt;
         });
       }
 

@@ -34,6 +34,7 @@ pub mod ModelWords
 pub mod VocabularyWords
 pub mod Terms
 pub mod Wellformed
+pub mod Defaults
 pub mod Bounds
 pub mod Sizes
 pub mod Refusals

@@ -15,7 +15,8 @@ use Rattle.meaning.specs.Model.{Fact, edge, member, stands, value}
 use Rattle.meaning.specs.ModelCheck.{hasWithin, holds, isIn, isMember, isModel, obeys, onEdge, onMember, onValue, reaches}
 use Rattle.meaning.specs.ModelCheck.{refutes}
 use Rattle.meaning.specs.Policy.{Chain, Policy, class, end, impossible, interval, some}
-use Rattle.meaning.specs.Vocabulary.{Axiom, Vocabulary, below, disjoint, functionalFeature, functionalRole, range}
+use Rattle.meaning.specs.Vocabulary.{Axiom, Vocabulary, below, disjoint, functionalFeature, functionalRole, manyFeature, manyRole}
+use Rattle.meaning.specs.Vocabulary.{range, stated}
 
 pub member-is : (a i : ℕ) (x : Fact) → T (isMember a i x) → member a i ≡ x
 member-is a i (member b j) t = let u = T-and (eqb a b) (eqb i j) t in ap₂ member (eqb→eq a b (u .0)) (eqb→eq i j (u .1))
@@ -125,11 +126,13 @@ module _ (F : List Fact) where
     λ o. values f _ .1 (λ i j m. values f _ .1 (λ h k u. alike i j h k .1 (λ e. o i j k m (subst (λ (z : ℕ). value f z k ∈ F) (sym e) u)))),
   )
   obeys-iff n (range r c) = (λ t i j m. is-in c j .0 (links r _ .0 t i j m), λ o. links r _ .1 (λ i j m. is-in c j .1 (o i j m)))
+  obeys-iff n (manyRole r) = (λ t. tt, λ o. tt)
+  obeys-iff n (manyFeature f) = (λ t. tt, λ o. tt)
 
   pub model-iff : (n : ℕ) (K : Vocabulary) → T (isModel F K) ↔ Satisfies (stands n F) K
   model-iff n K = (
-    λ t. record { stated = all-mono (λ x u. obeys-iff n x .0 u) (all-out (obeys F) (K .axioms) t) },
-    λ s. all-in (obeys F) (all-mono (λ x o. obeys-iff n x .1 o) (s .stated)),
+    λ t. record { obeyed = all-mono (λ x u. obeys-iff n x .0 u) (all-out (obeys F) (stated K) t) },
+    λ s. all-in (obeys F) (all-mono (λ x o. obeys-iff n x .1 o) (s .obeyed)),
   )
 
   pub in-iff : (n : ℕ) (P : Policy) (i : ℕ) → T (isIn F P i) ↔ In (stands n F) P i

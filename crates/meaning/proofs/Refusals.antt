@@ -15,7 +15,8 @@ use Rattle.meaning.specs.Operations.{AcceptedInput, Early, inputRefusal,
 use Rattle.meaning.specs.Policy.{Walk, childOf, fault, faultOf, firstTerm, headedPolicy, nextOf, onward, policyRefusal, reached}
 use Rattle.meaning.specs.Policy.{secondRefusal, soundRecord, walk}
 use Rattle.meaning.specs.Records.{isSized, orElse, refusalAlong}
-use Rattle.meaning.specs.Vocabulary.{axiomNext, firstAxiom, headedVocabulary, soundAxiom, vocabularyRefusal}
+use Rattle.meaning.specs.Vocabulary.{axiomNext, axiomsOf, axiomsRefusal, firstAxiom, headedVocabulary, isOpposed, soundAxiom}
+use Rattle.meaning.specs.Vocabulary.{vocabularyRefusal}
 
 pub orElse-zero : (a b : ℕ) → orElse a b ≡ 0 → (a ≡ 0) × (b ≡ 0)
 orElse-zero zero b e = (refl, e)
@@ -82,7 +83,9 @@ orElse-early (suc a) b h k = h
 pub vocabulary-early : (v : List ℕ) → Early (vocabularyRefusal v)
 unfolding vocabularyRefusal
 vocabulary-early v =
-    cond-all Early (isSized 4 mostVocabularyWords (length v)) (cond-all Early (headedVocabulary v) (along-all Early (axiomNext v) (soundAxiom v) refl refl (length v) (firstAxiom v)) refl) refl
+    let chain = along-all Early (axiomNext v) (soundAxiom v) refl refl (length v) (firstAxiom v) in
+    let opposed = cond-all Early (isOpposed (axiomsOf v)) refl refl in
+    cond-all Early (isSized 4 mostVocabularyWords (length v)) (cond-all Early (headedVocabulary v) (orElse-early (axiomsRefusal (length v) v (firstAxiom v)) _ chain opposed) refl) refl
 
 pub policy-early : (v p : List ℕ) → Early (policyRefusal v p)
 policy-early v p = few-early (policyRefusal v p) (let a = policyRefusal-≤ v p in omega arith)

@@ -20,7 +20,7 @@ use Rattle.meaning.specs.Stated.{disjointPairs, isBelow, isFunctionalFea
 use Rattle.meaning.specs.Vocabulary.{Vocabulary, functionalFeature, functionalRole}
 
 in-ranges : (I : Interpretation) (K : Vocabulary) → Satisfies I K → (r d e : ℕ) → I .byRole r d e → All (λ c. I .inClass c e) (ranges K r)
-in-ranges I K s r d e h = all-of (ranges K r) (λ c m. all-stated K (s .stated) .ranged r c m d e h)
+in-ranges I K s r d e h = all-of (ranges K r) (λ c m. all-stated K (s .obeyed) .ranged r c m d e h)
 
 -- rule 5
 constraint-in : (I : Interpretation) (one : Bool) (s : Constraint) (d : ℕ) → (T one → Obeys I (functionalFeature (s .feature))) →
@@ -94,13 +94,13 @@ add-in I K s (some r child next) t d h k =
     let v = h .0 in
     add-in I K s next (withSuccessor K r (add K child) t) d (h .1) (record {
       node = k .node;
-      successors = successor-in I (isFunctionalRole K r) r _ (add K child) (Holds I child) (all-stated K (s .stated) .role r) (add-in I K s child) d (v .0) (v .1)
+      successors = successor-in I (isFunctionalRole K r) r _ (add K child) (Holds I child) (all-stated K (s .obeyed) .role r) (add-in I K s child) d (v .0) (v .1)
           (record { node = record { classes = in-ranges I K s r d (v .0) (v .1); constraints = nil }; successors = tt }) (v .2) (t .successors) (k .successors);
     })
 add-in I K s (interval f lo hi next) t d h k =
     let new : Constraint = record { feature = f; lo = lo; hi = hi } in
     add-in I K s next (withConstraint K new t) d (h .1) (record {
-      node = record { classes = k .node .classes; constraints = constraint-in I (isFunctionalFeature K f) new d (all-stated K (s .stated) .feature f) (h .0) (t .node .constraints) (k .node .constraints) };
+      node = record { classes = k .node .classes; constraints = constraint-in I (isFunctionalFeature K f) new d (all-stated K (s .obeyed) .feature f) (h .0) (t .node .constraints) (k .node .constraints) };
       successors = k .successors;
     })
 
@@ -129,7 +129,7 @@ clash-free I K s a b d h k =
     let r = any-at (any-out (λ p. isBelow K a (p .0) && isBelow K b (p .1)) (disjointPairs K) t) in
     let p = r .0 in
     let w = T-and (isBelow K a (p .0)) (isBelow K b (p .1)) (r .2) in
-    all-stated K (s .stated) .apart (p .0) (p .1) (r .1) d (below-sound I K s a (p .0) d (w .0) h) (below-sound I K s b (p .1) d (w .1) k))
+    all-stated K (s .obeyed) .apart (p .0) (p .1) (r .1) d (below-sound I K s a (p .0) d (w .0) h) (below-sound I K s b (p .1) d (w .1) k))
 
 fits-clean : (I : Interpretation) (K : Vocabulary) → Satisfies I K → (n : Node) (d : ℕ) → HoldsNode I n d → T (cleanNode K n)
 fits-clean I K s n d h =

@@ -1,7 +1,7 @@
 -- The laws of what a vocabulary states: what holds of every axiom holds of all that is stated, kind by kind, and back.
 use Prim.Native.Nat.{_≤_, ℕ}
 use mathlib.Core.Bool.{Bool, So, cond, false, true}
-use mathlib.Core.List.{List, [], _∷_}
+use mathlib.Core.List.{List, [], _∷_, map}
 use mathlib.Core.Logic.{_⊎_, inl, inr}
 use mathlib.Core.Path.{_≡_, ap, ap₂, refl, subst, sym}
 use lib.Dec.{T, eqb, eqb-refl, eqb→eq}
@@ -9,16 +9,16 @@ use borrow.Author.Tests.{eqb-true}
 use native.Mathlib.Omega.{arith}
 use lib.ListN.{length}
 use Rattle.meaning.proofs.Links.{choose, split, tests}
-use Rattle.meaning.proofs.Rules.{all-any, all-of, any-cases, any-flatMap, any-in, any-none, any-out, any-single, at-any}
-use Rattle.meaning.proofs.Rules.{flatMap-any}
+use Rattle.meaning.proofs.Rules.{all-any, all-append, all-fst, all-map, all-of, any-cases, any-flatMap, any-in, any-left, any-map}
+use Rattle.meaning.proofs.Rules.{any-mono, any-none, any-out, any-right, any-single, at-any, flatMap-any}
 use Rattle.meaning.specs.Accepted.{AxiomOf}
 use Rattle.meaning.specs.Lists.{All, Any, _∈_, cons, here, nil, there}
 use Rattle.meaning.specs.Records.{Name}
-use Rattle.meaning.specs.Stated.{disjointPair, disjointPairs, functionalFeatureName, functionalFeatures, functionalRoleName}
-use Rattle.meaning.specs.Stated.{functionalRoles, isFunctionalFeature, isFunctionalRole, rangePair, rangePairs, ranges}
-use Rattle.meaning.specs.Stated.{rangesIn, subclass, subclasses}
-use Rattle.meaning.specs.Vocabulary.{Axiom, Vocabulary, axiomAt, axiomFits, axiomKind, axiomLeft, axiomRight, below}
-use Rattle.meaning.specs.Vocabulary.{classCount, disjoint, functionalFeature, functionalRole, range, roleCount}
+use Rattle.meaning.specs.Stated.{disjointPair, disjointPairs, isFunctionalFeature, isFunctionalRole, isManyFeature, isManyRole}
+use Rattle.meaning.specs.Stated.{rangePair, rangePairs, ranges, rangesIn, subclass, subclasses}
+use Rattle.meaning.specs.Vocabulary.{Axiom, Vocabulary, axiomAt, axiomFits, axiomKind, axiomLeft, axiomRight, below, classCount}
+use Rattle.meaning.specs.Vocabulary.{defaults, disjoint, functionalFeature, functionalFeatureName, functionalRole, functionalRoleName}
+use Rattle.meaning.specs.Vocabulary.{isNamed, manyFeature, manyFeatureName, manyRole, manyRoleName, range, roleCount, stated, unnamed}
 
 -- ---- the classes of a role's ranges
 
@@ -71,13 +71,35 @@ module _ (K : Vocabulary) where
   unfolding disjointPairs
   disjoint-stated a b m = any-flatMap disjointPair (at-any m (here refl))
 
-  pub functionalRole-stated : (r : ℕ) → functionalRole r ∈ K .axioms → T (isFunctionalRole K r)
-  unfolding isFunctionalRole functionalRoles
+  pub functionalRole-stated : (r : ℕ) → functionalRole r ∈ stated K → T (isFunctionalRole K r)
+  unfolding isFunctionalRole isNamed
   functionalRole-stated r m = any-in (eqb r) (any-flatMap functionalRoleName (at-any m (here (eqb-refl r))))
 
-  pub functionalFeature-stated : (f : ℕ) → functionalFeature f ∈ K .axioms → T (isFunctionalFeature K f)
-  unfolding isFunctionalFeature functionalFeatures
+  pub functionalFeature-stated : (f : ℕ) → functionalFeature f ∈ stated K → T (isFunctionalFeature K f)
+  unfolding isFunctionalFeature isNamed
   functionalFeature-stated f m = any-in (eqb f) (any-flatMap functionalFeatureName (at-any m (here (eqb-refl f))))
+
+  pub manyRole-stated : (r : ℕ) → manyRole r ∈ K .axioms → T (isManyRole K r)
+  unfolding isManyRole isNamed
+  manyRole-stated r m = any-in (eqb r) (any-flatMap manyRoleName (at-any m (here (eqb-refl r))))
+
+  pub manyFeature-stated : (f : ℕ) → manyFeature f ∈ K .axioms → T (isManyFeature K f)
+  unfolding isManyFeature isNamed
+  manyFeature-stated f m = any-in (eqb f) (any-flatMap manyFeatureName (at-any m (here (eqb-refl f))))
+
+  -- an axiom of the chain is stated, and so is the default
+  pub axiom-stated : (x : Axiom) → x ∈ K .axioms → x ∈ stated K
+  unfolding stated
+  axiom-stated x m = any-left (defaults K) m
+
+  pub role-default : (r : ℕ) → r ∈ unnamed manyRoleName (K .axioms) (K .roles) → functionalRole r ∈ stated K
+  unfolding stated defaults
+  role-default r m = any-right (K .axioms) (any-left _ (any-map functionalRole (any-mono (λ q e. ap functionalRole e) m)))
+
+  pub feature-default : (f : ℕ) → f ∈ unnamed manyFeatureName (K .axioms) (K .features) → functionalFeature f ∈ stated K
+  unfolding stated defaults
+  feature-default f m =
+      any-right (K .axioms) (any-right (map functionalRole (unnamed manyRoleName (K .axioms) (K .roles))) (any-map functionalFeature (any-mono (λ g e. ap functionalFeature e) m)))
 
   pub range-stated : (r c : ℕ) → range r c ∈ K .axioms → c ∈ ranges K r
   unfolding rangePairs
@@ -95,17 +117,23 @@ pub record AllStated (P : Axiom → Type 0) (K : Vocabulary) : Type 0 where
   pub role : (r : ℕ) → T (isFunctionalRole K r) → P (functionalRole r)
   pub feature : (f : ℕ) → T (isFunctionalFeature K f) → P (functionalFeature f)
   pub ranged : (r c : ℕ) → c ∈ ranges K r → P (range r c)
+  pub manyRole : (r : ℕ) → T (isManyRole K r) → P (manyRole r)
+  pub manyFeature : (f : ℕ) → T (isManyFeature K f) → P (manyFeature f)
 
 module _ {P : Axiom → Type 0} (K : Vocabulary) where
-  pub all-stated : All P (K .axioms) → AllStated P K
-  unfolding subclasses disjointPairs isFunctionalRole functionalRoles isFunctionalFeature functionalFeatures rangePairs
-  all-stated s = record {
-    subclass = λ a b m. let h = all-any s (flatMap-any subclass (K .axioms) m) in below-of a b (h .0) (h .1) (h .2);
-    apart = λ a b m. let h = all-any s (flatMap-any disjointPair (K .axioms) m) in disjoint-of a b (h .0) (h .1) (h .2);
-    role = λ r t. let h = all-any s (flatMap-any functionalRoleName (K .axioms) (any-out (eqb r) (functionalRoles K) t)) in role-of r (h .0) (h .1) (h .2);
-    feature = λ f t. let h = all-any s (flatMap-any functionalFeatureName (K .axioms) (any-out (eqb f) (functionalFeatures K) t)) in feature-of f (h .0) (h .1) (h .2);
-    ranged = λ r c m. let h = all-any s (flatMap-any rangePair (K .axioms) (ranges-out K r c m)) in range-of r c (h .0) (h .1) (h .2);
-  }
+  pub all-stated : All P (stated K) → AllStated P K
+  unfolding stated subclasses disjointPairs isFunctionalRole isFunctionalFeature isManyRole isManyFeature isNamed rangePairs
+  all-stated s =
+      let chain = all-fst (K .axioms) (defaults K) s in
+      record {
+        subclass = λ a b m. let h = all-any chain (flatMap-any subclass (K .axioms) m) in below-of a b (h .0) (h .1) (h .2);
+        apart = λ a b m. let h = all-any chain (flatMap-any disjointPair (K .axioms) m) in disjoint-of a b (h .0) (h .1) (h .2);
+        role = λ r t. let h = all-any s (flatMap-any functionalRoleName (stated K) (any-out (eqb r) _ t)) in role-of r (h .0) (h .1) (h .2);
+        feature = λ f t. let h = all-any s (flatMap-any functionalFeatureName (stated K) (any-out (eqb f) _ t)) in feature-of f (h .0) (h .1) (h .2);
+        ranged = λ r c m. let h = all-any chain (flatMap-any rangePair (K .axioms) (ranges-out K r c m)) in range-of r c (h .0) (h .1) (h .2);
+        manyRole = λ r t. let h = all-any chain (flatMap-any manyRoleName (K .axioms) (any-out (eqb r) _ t)) in many-role-of r (h .0) (h .1) (h .2);
+        manyFeature = λ f t. let h = all-any chain (flatMap-any manyFeatureName (K .axioms) (any-out (eqb f) _ t)) in many-feature-of f (h .0) (h .1) (h .2);
+      }
     where
       below-of : (a b : ℕ) (x : Axiom) → P x → (a, b) ∈ subclass x → P (below a b)
       below-of a b (below c d) o m = subst (λ (p : ℕ × ℕ). P (below (p .0) (p .1))) (sym (any-single m)) o
@@ -113,6 +141,8 @@ module _ {P : Axiom → Type 0} (K : Vocabulary) where
       below-of a b (functionalRole r) o m = absurd (any-none m)
       below-of a b (functionalFeature f) o m = absurd (any-none m)
       below-of a b (range r c) o m = absurd (any-none m)
+      below-of a b (manyRole r) o m = absurd (any-none m)
+      below-of a b (manyFeature f) o m = absurd (any-none m)
 
       disjoint-of : (a b : ℕ) (x : Axiom) → P x → (a, b) ∈ disjointPair x → P (disjoint a b)
       disjoint-of a b (below c d) o m = absurd (any-none m)
@@ -120,6 +150,8 @@ module _ {P : Axiom → Type 0} (K : Vocabulary) where
       disjoint-of a b (functionalRole r) o m = absurd (any-none m)
       disjoint-of a b (functionalFeature f) o m = absurd (any-none m)
       disjoint-of a b (range r c) o m = absurd (any-none m)
+      disjoint-of a b (manyRole r) o m = absurd (any-none m)
+      disjoint-of a b (manyFeature f) o m = absurd (any-none m)
 
       role-of : (q : ℕ) (x : Axiom) → P x → Any (λ y. T (eqb q y)) (functionalRoleName x) → P (functionalRole q)
       role-of q (below c d) o m = absurd (any-none m)
@@ -127,6 +159,8 @@ module _ {P : Axiom → Type 0} (K : Vocabulary) where
       role-of q (functionalRole r) o m = subst (λ (k : ℕ). P (functionalRole k)) (sym (eqb→eq q r (any-single m))) o
       role-of q (functionalFeature f) o m = absurd (any-none m)
       role-of q (range r c) o m = absurd (any-none m)
+      role-of q (manyRole r) o m = absurd (any-none m)
+      role-of q (manyFeature f) o m = absurd (any-none m)
 
       feature-of : (g : ℕ) (x : Axiom) → P x → Any (λ y. T (eqb g y)) (functionalFeatureName x) → P (functionalFeature g)
       feature-of g (below c d) o m = absurd (any-none m)
@@ -134,6 +168,8 @@ module _ {P : Axiom → Type 0} (K : Vocabulary) where
       feature-of g (functionalRole r) o m = absurd (any-none m)
       feature-of g (functionalFeature f) o m = subst (λ (k : ℕ). P (functionalFeature k)) (sym (eqb→eq g f (any-single m))) o
       feature-of g (range r c) o m = absurd (any-none m)
+      feature-of g (manyRole r) o m = absurd (any-none m)
+      feature-of g (manyFeature f) o m = absurd (any-none m)
 
       range-of : (q d : ℕ) (x : Axiom) → P x → (q, d) ∈ rangePair x → P (range q d)
       range-of q d (below a b) o m = absurd (any-none m)
@@ -141,16 +177,43 @@ module _ {P : Axiom → Type 0} (K : Vocabulary) where
       range-of q d (functionalRole r) o m = absurd (any-none m)
       range-of q d (functionalFeature f) o m = absurd (any-none m)
       range-of q d (range r c) o m = subst (λ (p : ℕ × ℕ). P (range (p .0) (p .1))) (sym (any-single m)) o
+      range-of q d (manyRole r) o m = absurd (any-none m)
+      range-of q d (manyFeature f) o m = absurd (any-none m)
 
-  pub stated-all : AllStated P K → All P (K .axioms)
-  stated-all o = all-of (K .axioms) each
+      many-role-of : (q : ℕ) (x : Axiom) → P x → Any (λ y. T (eqb q y)) (manyRoleName x) → P (manyRole q)
+      many-role-of q (below c d) o m = absurd (any-none m)
+      many-role-of q (disjoint c d) o m = absurd (any-none m)
+      many-role-of q (functionalRole r) o m = absurd (any-none m)
+      many-role-of q (functionalFeature f) o m = absurd (any-none m)
+      many-role-of q (range r c) o m = absurd (any-none m)
+      many-role-of q (manyRole r) o m = subst (λ (k : ℕ). P (manyRole k)) (sym (eqb→eq q r (any-single m))) o
+      many-role-of q (manyFeature f) o m = absurd (any-none m)
+
+      many-feature-of : (g : ℕ) (x : Axiom) → P x → Any (λ y. T (eqb g y)) (manyFeatureName x) → P (manyFeature g)
+      many-feature-of g (below c d) o m = absurd (any-none m)
+      many-feature-of g (disjoint c d) o m = absurd (any-none m)
+      many-feature-of g (functionalRole r) o m = absurd (any-none m)
+      many-feature-of g (functionalFeature f) o m = absurd (any-none m)
+      many-feature-of g (range r c) o m = absurd (any-none m)
+      many-feature-of g (manyRole r) o m = absurd (any-none m)
+      many-feature-of g (manyFeature f) o m = subst (λ (k : ℕ). P (manyFeature k)) (sym (eqb→eq g f (any-single m))) o
+
+  pub stated-all : AllStated P K → All P (stated K)
+  unfolding stated defaults
+  stated-all o =
+      all-append (all-of (K .axioms) each)
+      (all-append
+      (all-map functionalRole (all-of (unnamed manyRoleName (K .axioms) (K .roles)) (λ r m. o .role r (functionalRole-stated K r (role-default K r m)))))
+      (all-map functionalFeature (all-of (unnamed manyFeatureName (K .axioms) (K .features)) (λ f m. o .feature f (functionalFeature-stated K f (feature-default K f m))))))
     where
       each : (x : Axiom) → x ∈ K .axioms → P x
       each (below a b) m = o .subclass a b (below-stated K a b m)
       each (disjoint a b) m = o .apart a b (disjoint-stated K a b m)
-      each (functionalRole r) m = o .role r (functionalRole-stated K r m)
-      each (functionalFeature f) m = o .feature f (functionalFeature-stated K f m)
+      each (functionalRole r) m = o .role r (functionalRole-stated K r (axiom-stated K _ m))
+      each (functionalFeature f) m = o .feature f (functionalFeature-stated K f (axiom-stated K _ m))
       each (range r c) m = o .ranged r c (range-stated K r c m)
+      each (manyRole r) m = o .manyRole r (manyRole-stated K r m)
+      each (manyFeature f) m = o .manyFeature f (manyFeature-stated K f m)
 
 -- ---- what an axiom with names of v's states
 
@@ -161,6 +224,8 @@ module _ (v : List ℕ) where
   subclass-named (functionalRole r) n = nil
   subclass-named (functionalFeature f) n = nil
   subclass-named (range r c) n = nil
+  subclass-named (manyRole r) n = nil
+  subclass-named (manyFeature f) n = nil
 
   pub rangePair-named : (x : Axiom) → AxiomOf v x → All (λ p. Name (roleCount v) (p .0) × Name (classCount v) (p .1)) (rangePair x)
   rangePair-named (below a b) n = nil
@@ -168,6 +233,8 @@ module _ (v : List ℕ) where
   rangePair-named (functionalRole r) n = nil
   rangePair-named (functionalFeature f) n = nil
   rangePair-named (range r c) n = cons n nil
+  rangePair-named (manyRole r) n = nil
+  rangePair-named (manyFeature f) n = nil
 
 -- an axiom states at most one pair of disjoint classes
 pub disjointPair-one : (x : Axiom) → length (disjointPair x) ≤ 1
@@ -176,6 +243,8 @@ disjointPair-one (disjoint a b) = omega arith
 disjointPair-one (functionalRole r) = omega arith
 disjointPair-one (functionalFeature f) = omega arith
 disjointPair-one (range r c) = omega arith
+disjointPair-one (manyRole r) = omega arith
+disjointPair-one (manyFeature f) = omega arith
 
 -- ---- what record k states, by its kind
 
@@ -183,47 +252,64 @@ module _ (v : List ℕ) (k : ℕ) where
   by-kind : (P : Axiom → Type 0) →
       (axiomKind v k ≡ 1 → P (below (axiomLeft v k) (axiomRight v k))) → (axiomKind v k ≡ 2 → P (disjoint (axiomLeft v k) (axiomRight v k))) →
       (axiomKind v k ≡ 3 → P (functionalRole (axiomLeft v k))) → (axiomKind v k ≡ 4 → P (functionalFeature (axiomLeft v k))) →
-      P (range (axiomLeft v k) (axiomRight v k)) → P (axiomAt v k)
-  by-kind P one two three four five =
+      (axiomKind v k ≡ 5 → P (range (axiomLeft v k) (axiomRight v k))) → (axiomKind v k ≡ 6 → P (manyRole (axiomLeft v k))) →
+      P (manyFeature (axiomLeft v k)) → P (axiomAt v k)
+  by-kind P one two three four five six seven =
       split P (eqb (axiomKind v k) 1) (λ t. one (eqb-true (axiomKind v k) 1 t)) (λ _.
       split P (eqb (axiomKind v k) 2) (λ t. two (eqb-true (axiomKind v k) 2 t)) (λ _.
       split P (eqb (axiomKind v k) 3) (λ t. three (eqb-true (axiomKind v k) 3 t)) (λ _.
-      split P (eqb (axiomKind v k) 4) (λ t. four (eqb-true (axiomKind v k) 4 t)) (λ _. five))))
+      split P (eqb (axiomKind v k) 4) (λ t. four (eqb-true (axiomKind v k) 4 t)) (λ _.
+      split P (eqb (axiomKind v k) 5) (λ t. five (eqb-true (axiomKind v k) 5 t)) (λ _.
+      split P (eqb (axiomKind v k) 6) (λ t. six (eqb-true (axiomKind v k) 6 t)) (λ _. seven))))))
 
   pub subclass-at : axiomKind v k ≡ 1 → subclass (axiomAt v k) ≡ (axiomLeft v k, axiomRight v k) ∷ []
   subclass-at e = rw e
 
   pub subclass-other : (axiomKind v k ≡ 1 → ⊥) → subclass (axiomAt v k) ≡ []
-  subclass-other n = by-kind (λ x. subclass x ≡ []) (λ e. absurd (n e)) (λ _. refl) (λ _. refl) (λ _. refl) refl
+  subclass-other n = by-kind (λ x. subclass x ≡ []) (λ e. absurd (n e)) (λ _. refl) (λ _. refl) (λ _. refl) (λ _. refl) (λ _. refl) refl
 
   pub disjointPair-at : axiomKind v k ≡ 2 → disjointPair (axiomAt v k) ≡ (axiomLeft v k, axiomRight v k) ∷ []
   disjointPair-at e = rw e
 
   pub disjointPair-other : (axiomKind v k ≡ 2 → ⊥) → disjointPair (axiomAt v k) ≡ []
-  disjointPair-other n = by-kind (λ x. disjointPair x ≡ []) (λ _. refl) (λ e. absurd (n e)) (λ _. refl) (λ _. refl) refl
+  disjointPair-other n = by-kind (λ x. disjointPair x ≡ []) (λ _. refl) (λ e. absurd (n e)) (λ _. refl) (λ _. refl) (λ _. refl) (λ _. refl) refl
 
   pub functionalRoleName-at : axiomKind v k ≡ 3 → functionalRoleName (axiomAt v k) ≡ axiomLeft v k ∷ []
   functionalRoleName-at e = rw e
 
   pub functionalRoleName-other : (axiomKind v k ≡ 3 → ⊥) → functionalRoleName (axiomAt v k) ≡ []
-  functionalRoleName-other n = by-kind (λ x. functionalRoleName x ≡ []) (λ _. refl) (λ _. refl) (λ e. absurd (n e)) (λ _. refl) refl
+  functionalRoleName-other n = by-kind (λ x. functionalRoleName x ≡ []) (λ _. refl) (λ _. refl) (λ e. absurd (n e)) (λ _. refl) (λ _. refl) (λ _. refl) refl
 
   pub functionalFeatureName-at : axiomKind v k ≡ 4 → functionalFeatureName (axiomAt v k) ≡ axiomLeft v k ∷ []
   functionalFeatureName-at e = rw e
 
   pub functionalFeatureName-other : (axiomKind v k ≡ 4 → ⊥) → functionalFeatureName (axiomAt v k) ≡ []
-  functionalFeatureName-other n = by-kind (λ x. functionalFeatureName x ≡ []) (λ _. refl) (λ _. refl) (λ _. refl) (λ e. absurd (n e)) refl
+  functionalFeatureName-other n = by-kind (λ x. functionalFeatureName x ≡ []) (λ _. refl) (λ _. refl) (λ _. refl) (λ e. absurd (n e)) (λ _. refl) (λ _. refl) refl
 
   pub rangePair-at : axiomKind v k ≡ 5 → rangePair (axiomAt v k) ≡ (axiomLeft v k, axiomRight v k) ∷ []
   rangePair-at e = rw e
 
-  -- a record that fits is of one of the five kinds
-  pub rangePair-other : axiomFits v k ≡ true → (axiomKind v k ≡ 5 → ⊥) → rangePair (axiomAt v k) ≡ []
-  rangePair-other f n =
+  pub rangePair-other : (axiomKind v k ≡ 5 → ⊥) → rangePair (axiomAt v k) ≡ []
+  rangePair-other n = by-kind (λ x. rangePair x ≡ []) (λ _. refl) (λ _. refl) (λ _. refl) (λ _. refl) (λ e. absurd (n e)) (λ _. refl) refl
+
+  pub manyRoleName-at : axiomKind v k ≡ 6 → manyRoleName (axiomAt v k) ≡ axiomLeft v k ∷ []
+  manyRoleName-at e = rw e
+
+  pub manyRoleName-other : (axiomKind v k ≡ 6 → ⊥) → manyRoleName (axiomAt v k) ≡ []
+  manyRoleName-other n = by-kind (λ x. manyRoleName x ≡ []) (λ _. refl) (λ _. refl) (λ _. refl) (λ _. refl) (λ _. refl) (λ e. absurd (n e)) refl
+
+  pub manyFeatureName-at : axiomKind v k ≡ 7 → manyFeatureName (axiomAt v k) ≡ axiomLeft v k ∷ []
+  manyFeatureName-at e = rw e
+
+  -- a record that fits is of one of the seven kinds
+  pub manyFeatureName-other : axiomFits v k ≡ true → (axiomKind v k ≡ 7 → ⊥) → manyFeatureName (axiomAt v k) ≡ []
+  manyFeatureName-other f n =
       choose So P (eqb (axiomKind v k) 1) (λ _ _. refl) (λ _.
       choose So P (eqb (axiomKind v k) 2) (λ _ _. refl) (λ _.
       choose So P (eqb (axiomKind v k) 3) (λ _ _. refl) (λ _.
-      choose So P (eqb (axiomKind v k) 4) (λ _ _. refl) (λ _ g. let u = simp tests at g in absurd (n (u .0)))))) f
+      choose So P (eqb (axiomKind v k) 4) (λ _ _. refl) (λ _.
+      choose So P (eqb (axiomKind v k) 5) (λ _ _. refl) (λ _.
+      choose So P (eqb (axiomKind v k) 6) (λ _ _. refl) (λ _ g. let u = simp tests at g in absurd (n (u .0)))))))) f
     where
       P : Axiom → Type 0
-      P x = rangePair x ≡ []
+      P x = manyFeatureName x ≡ []

@@ -47,13 +47,17 @@ module _ {v v′ : List ℕ} (S : SameVocabulary v v′) where
   axioms-read : (f k : ℕ) → ReachedAxiom v k → axiomsFrom f v k ≡ axiomsFrom f v′ k
   axioms-read = along S _ (λ k. refl) (λ f. refl) (λ f k same r o on. let next = on _ (axiomByNext r o) in cc)
 
+  axioms-same : axiomsOf v ≡ axiomsOf v′
+  unfolding axiomsOf
+  axioms-same = let same = agree S axiomByHeader in let chain = axioms-read (length v) _ axiomByHeader in cc
+
   pub vocabulary-refused : vocabularyRefusal v ≡ vocabularyRefusal v′
   unfolding vocabularyRefusal
-  vocabulary-refused = let same = agree S axiomByHeader in let chain = axioms-refused (length v) _ axiomByHeader in cc
+  vocabulary-refused = let same = agree S axiomByHeader in let chain = axioms-refused (length v) _ axiomByHeader in cc axioms-same
 
   pub vocabulary-read : vocabularyOf v ≡ vocabularyOf v′
-  unfolding vocabularyOf axiomsOf
-  vocabulary-read = let same = agree S axiomByHeader in let chain = axioms-read (length v) _ axiomByHeader in cc
+  unfolding vocabularyOf
+  vocabulary-read = let same = agree S axiomByHeader in cc axioms-same
 
   pub counted : SameCounts v v′
   counted = let same = agree S axiomByHeader in record { classes = cc; roles = cc; features = cc }

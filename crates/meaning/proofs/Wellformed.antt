@@ -1,6 +1,6 @@
 -- What the tables that are not refused state: axioms and terms with names of their series, and not too many.
 use Prim.Native.Nat.{_+_, _≤_, max, suc, zero, ℕ}
-use mathlib.Core.Bool.{So, false, true}
+use mathlib.Core.Bool.{Bool, So, cond, false, true}
 use mathlib.Core.List.{List, [], _∷_}
 use mathlib.Core.Path.{_≡_, ap, refl}
 use lib.Dec.{eqb, eqb·suc-zero}
@@ -8,18 +8,41 @@ use lib.ListN.{length}
 use native.Mathlib.Omega.{arith}
 use borrow.Author.Tests.{eqb-false}
 use Rattle.meaning.proofs.Links.{Once, choose, enough-end, falling-le, length-once-≤, once-more, once-none, passed, split, tests}
+use Rattle.meaning.proofs.Refusals.{orElse-zero}
 use Rattle.meaning.proofs.Terms.{chain-at, chain-is, child-enough, next-enough}
 use Rattle.meaning.specs.Accepted.{Accepted, AxiomOf, ChainOf, Here, NamedChain, Reads, ReadsTerms, count, depth, reads-class}
 use Rattle.meaning.specs.Accepted.{reads-end, reads-impossible, reads-interval, reads-none, reads-some, reads-term, total}
-use Rattle.meaning.specs.Limits.{mostClasses, mostFeatures, mostPolicyWords, mostRoles}
+use Rattle.meaning.specs.Limits.{mostClasses, mostFeatures, mostPolicyWords, mostRoles, mostVocabularyWords}
 use Rattle.meaning.specs.Lists.{All, any, cons, nil}
 use Rattle.meaning.specs.Policy.{Chain, Policy, Walk, chainFrom, childOf, conjunctAt, end, fault, faultOf, firstTerm, kindOf}
 use Rattle.meaning.specs.Policy.{nextOf, onward, policyOf, policyRefusal, reached, recordFits, soundRecord, termsFrom, walk}
-use Rattle.meaning.specs.Records.{Enough, Name, lastOf}
-use Rattle.meaning.specs.Vocabulary.{axiomAt, axiomFits, axiomKind, axiomNext, axiomsFrom, axiomsOf, axiomsRefusal}
-use Rattle.meaning.specs.Vocabulary.{classCount, featureCount, firstAxiom, roleCount, vocabularyOf, vocabularyRefusal}
+use Rattle.meaning.specs.Records.{Enough, Name, isSized, lastOf}
+use Rattle.meaning.specs.Vocabulary.{axiomAt, axiomFits, axiomKind, axiomNext, axiomsFrom, axiomsOf, axiomsRefusal, classCount}
+use Rattle.meaning.specs.Vocabulary.{featureCount, firstAxiom, headedVocabulary, isOpposed, roleCount, vocabularyOf, vocabularyRefusal}
 
 -- ---- the vocabulary
+
+-- Read vocabulary refuses nothing: 1, 2, 3 and 44 in order
+pub record SoundVocabulary (v : List ℕ) : Type 0 where
+  pub sized : isSized 4 mostVocabularyWords (length v) ≡ true
+  pub headed : headedVocabulary v ≡ true
+  pub chain : axiomsRefusal (length v) v (firstAxiom v) ≡ 0
+  pub apart : isOpposed (axiomsOf v) ≡ false
+
+pub vocabulary-sound : (v : List ℕ) → vocabularyRefusal v ≡ 0 → SoundVocabulary v
+unfolding vocabularyRefusal
+vocabulary-sound v h =
+    let u = simp (passed 0, passed 1) at h in
+    let a = orElse-zero (axiomsRefusal (length v) v (firstAxiom v)) _ (u .1 .1) in
+    record { sized = u .0; headed = u .1 .0; chain = a .0; apart = unopposed (isOpposed (axiomsOf v)) (a .1) }
+  where
+    unopposed : (b : Bool) → _≡_ {A = ℕ} (cond b 44 0) 0 → b ≡ false
+    unopposed true e = absurd (omega arith)
+    unopposed false e = refl
+
+pub sound-vocabulary : (v : List ℕ) → SoundVocabulary v → vocabularyRefusal v ≡ 0
+unfolding vocabularyRefusal
+sound-vocabulary v s = rw (s .sized, s .headed, s .chain, s .apart)
 
 module _ (v : List ℕ) where
   pub axiom-named : (k : ℕ) → axiomFits v k ≡ true → AxiomOf v (axiomAt v k)
@@ -27,7 +50,9 @@ module _ (v : List ℕ) where
       choose So (AxiomOf v) (eqb (axiomKind v k) 1) (λ _ h. simp tests at h) (λ _.
       choose So (AxiomOf v) (eqb (axiomKind v k) 2) (λ _ h. simp tests at h) (λ _.
       choose So (AxiomOf v) (eqb (axiomKind v k) 3) (λ _ h. let u = simp tests at h in u .0) (λ _.
-      choose So (AxiomOf v) (eqb (axiomKind v k) 4) (λ _ h. let u = simp tests at h in u .0) (λ _ h. let u = simp tests at h in u .1))))
+      choose So (AxiomOf v) (eqb (axiomKind v k) 4) (λ _ h. let u = simp tests at h in u .0) (λ _.
+      choose So (AxiomOf v) (eqb (axiomKind v k) 5) (λ _ h. simp tests at h) (λ _.
+      choose So (AxiomOf v) (eqb (axiomKind v k) 6) (λ _ h. let u = simp tests at h in u .0) (λ _ h. let u = simp tests at h in u .1 .0))))))
 
   axioms-named : (f k : ℕ) → axiomsRefusal f v k ≡ 0 → All (AxiomOf v) (axiomsFrom f v k)
   axioms-named zero k = λ h. nil
@@ -36,12 +61,11 @@ module _ (v : List ℕ) where
       let u = simp (passed 2, tests) at h in cons (axiom-named k (u .0 .0)) (axioms-named f (axiomNext v k) (u .1)))
 
   pub accepted-axioms : vocabularyRefusal v ≡ 0 → All (AxiomOf v) (vocabularyOf v .axioms)
-  unfolding vocabularyRefusal vocabularyOf axiomsOf
-  accepted-axioms h = let u = simp (passed 0, passed 1, tests) at h in axioms-named (length v) (firstAxiom v) (u .1 .1)
+  unfolding vocabularyOf axiomsOf
+  accepted-axioms h = axioms-named (length v) (firstAxiom v) (vocabulary-sound v h .chain)
 
   pub accepted-counts : vocabularyRefusal v ≡ 0 → Name mostClasses (classCount v) × (roleCount v ≤ mostRoles) × (featureCount v ≤ mostFeatures)
-  unfolding vocabularyRefusal
-  accepted-counts h = let u = simp (passed 0, passed 1, tests) at h in omega arith
+  accepted-counts h = let u = simp tests at (vocabulary-sound v h .headed) in omega arith
 
 -- ---- the walk
 

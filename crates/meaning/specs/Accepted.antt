@@ -8,8 +8,8 @@ use Rattle.meaning.specs.Lists.{All}
 use Rattle.meaning.specs.Policy.{Chain, Policy, childOf, class, end, firstTerm, hiOf, impossible, interval, kindOf, loOf, nameOf}
 use Rattle.meaning.specs.Policy.{nextOf, policyOf, some}
 use Rattle.meaning.specs.Records.{Name, Onward, lastOf}
-use Rattle.meaning.specs.Vocabulary.{Axiom, below, classCount, disjoint, featureCount, functionalFeature, functionalRole, range}
-use Rattle.meaning.specs.Vocabulary.{roleCount}
+use Rattle.meaning.specs.Vocabulary.{Axiom, below, classCount, disjoint, featureCount, functionalFeature, functionalRole, manyFeature}
+use Rattle.meaning.specs.Vocabulary.{manyRole, range, roleCount}
 
 -- ---- the vocabulary
 
@@ -20,6 +20,8 @@ NamedAxiom N R F (disjoint a b) = Name N a × Name N b
 NamedAxiom N R F (functionalRole r) = Name R r
 NamedAxiom N R F (functionalFeature f) = Name F f
 NamedAxiom N R F (range r c) = Name R r × Name N c
+NamedAxiom N R F (manyRole r) = Name R r
+NamedAxiom N R F (manyFeature f) = Name F f
 
 -- an axiom's names are by the counts of v
 abbrev pub AxiomOf : List ℕ → Axiom → Type 0

@@ -26,9 +26,30 @@ five a b c d e rest = a ∷ four b c d e rest
 abbrev six : ℕ → ℕ → ℕ → ℕ → ℕ → ℕ → List ℕ → List ℕ
 six a b c d e f rest = a ∷ five b c d e f rest
 
--- SPECIFICATION 11.1: the desk's vocabulary
+-- SPECIFICATION 11.1: the desk's vocabulary, whose record 7 says how many values feature 1 has, and whose last record lets role 3 have many
+abbrev deskWith : ℕ → List ℕ
+deskWith kind =
+    four 4 3 1 1
+    (four 1 2 1 2
+    (four 1 4 1 3
+    (four 1 4 3 4
+    (four 2 1 3 5
+    (four 3 1 0 6
+    (four 3 2 0 7
+    (four kind 1 0 8
+    (four 5 3 1 9
+    (four 6 3 0 0 [])))))))))
+
 abbrev pub desk : List ℕ
-desk =
+desk = deskWith 4
+
+-- the same, with a feature that is not functional
+abbrev pub loose : List ℕ
+loose = deskWith 7
+
+-- the desk's vocabulary before kind 6: role 3, of which it says nothing more, is functional
+abbrev pub former : List ℕ
+former =
     four 4 3 1 1
     (four 1 2 1 2
     (four 1 4 1 3
@@ -38,18 +59,6 @@ desk =
     (four 3 2 0 7
     (four 4 1 0 8
     (four 5 3 1 0 []))))))))
-
--- the same, with a feature that is not functional
-abbrev pub loose : List ℕ
-loose =
-    four 4 3 1 1
-    (four 1 2 1 2
-    (four 1 4 1 3
-    (four 1 4 3 4
-    (four 2 1 3 5
-    (four 3 1 0 6
-    (four 3 2 0 7
-    (four 5 3 1 0 [])))))))
 
 -- role r reaching class c; R1.2 is `reaching 1 2`
 abbrev reaching : ℕ → ℕ → List ℕ
@@ -149,6 +158,7 @@ complies p q = complianceIs desk p q compliant []
 abbrev pub starred : List Example
 starred =
     complies (reaching 1 2) (reaching 1 1)
+    ∷ (prints former (reaching 1 1) (reaching 1 2) ("outside 1 1" ∷ ("edge 1 1 2" ∷ ("member 1 2" ∷ [])))
     ∷ (prints desk (reaching 1 1) (reaching 1 2) ("outside 1 1" ∷ ("edge 1 1 2" ∷ ("member 1 2" ∷ [])))
     ∷ (possibleIs desk reachingBoth nonePossible
     ∷ (possibleIs desk inClass4 nonePossible
@@ -161,7 +171,7 @@ starred =
     ∷ (possibleIs desk (spanWith 0 4 6 9) nonePossible
     ∷ (possibleIs loose (spanWith 0 4 6 9) (firstPossible 1)
     ∷ (map (λ p. complies nobody p) policies
-    ++ map (λ p. complies p everybody) (nobody ∷ policies)))))))))))))
+    ++ map (λ p. complies p everybody) (nobody ∷ policies))))))))))))))
 
 -- further examples, which tell the listed misreadings and others apart
 
@@ -266,6 +276,39 @@ shortcuts =
     ∷ (equalityRefuses wide manySpans (inClass 1) 22
     ∷ [])))))))))))
 
+-- a class, a role and a feature, with such records
+abbrev small : List ℕ → List ℕ
+small records = four 1 1 1 1 records
+
+-- kind 3 with kind 6
+abbrev bothWays : List ℕ
+bothWays = small (four 3 1 0 2 (four 6 1 0 0 []))
+
+-- one value unless a record of kind 6 or 7 says otherwise
+abbrev valued : List Example
+valued =
+    vocabularyIs bothWays (refused 44)
+    ∷ (vocabularyIs (small (four 7 1 0 2 (four 4 1 0 0 []))) (refused 44)
+    -- in every operation straight after 3, which is told of any record of the chain
+    ∷ (policyIs bothWays (nested 17) (refused 44)
+    ∷ (prints bothWays (nested 17) nobody ("refused 44" ∷ [])
+    ∷ (vocabularyIs (small (four 3 1 0 2 (four 6 1 0 3 (four 6 2 0 0 [])))) (refused 3)
+    -- a wrong zero, and a kind past the last
+    ∷ (vocabularyIs (small (four 6 1 1 0 [])) (refused 3)
+    ∷ (vocabularyIs (small (four 8 1 0 0 [])) (refused 3)
+    -- a role and a feature of one number are two names, and one may be named twice
+    ∷ (vocabularyIs (small (four 3 1 0 2 (four 7 1 0 3 (four 7 1 0 0 [])))) (result accepted)
+    -- by default a feature has one value, a role too
+    ∷ (possibleIs (four 1 1 1 0 []) (spanWith 0 4 6 9) nonePossible
+    ∷ (possibleIs (small (four 7 1 0 0 [])) (spanWith 0 4 6 9) (firstPossible 1)
+    ∷ (possibleIs former (reachingSpans 3 0 4 6 9) nonePossible
+    -- a record that is not reached lifts nothing
+    ∷ (possibleIs (four 1 1 1 0 (four 7 1 0 0 [])) (spanWith 0 4 6 9) nonePossible
+    -- the default is asked of a model
+    ∷ (checkIs (four 1 1 1 0 []) (span 0 9) (span 0 4) (five 1 1 0 0 0 (five 3 1 1 8 2 (five 3 1 1 7 0 []))) no
+    ∷ (checkIs (small (four 7 1 0 0 [])) (span 0 9) (span 0 4) (five 1 1 0 0 0 (five 3 1 1 8 2 (five 3 1 1 7 0 []))) yes
+    ∷ [])))))))))))))
+
 abbrev pub further : List Example
 further =
     vocabularyIs desk (result accepted)
@@ -289,4 +332,4 @@ further =
     ∷ (checkIs desk (span 0 9) (span 0 4) (five 1 1 0 0 0 (five 3 1 1 8 0 [])) yes
     ∷ (checkIs desk (span 0 4) (span 0 9) (five 1 1 0 0 0 (five 3 1 1 8 0 [])) no
     ∷ (checkIs desk (span 0 9) (span 0 4) (five 1 1 0 0 0 (five 3 1 1 8 2 (five 3 1 1 7 0 []))) no
-    ∷ shortcuts)))))))))))))))))
+    ∷ (valued ++ shortcuts))))))))))))))))))

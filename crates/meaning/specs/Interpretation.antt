@@ -6,7 +6,8 @@ use lib.Dec.{T}
 use Rattle.meaning.specs.Intervals.{Within}
 use Rattle.meaning.specs.Lists.{All, Any}
 use Rattle.meaning.specs.Policy.{Chain, Policy, class, end, impossible, interval, some}
-use Rattle.meaning.specs.Vocabulary.{Axiom, Vocabulary, below, disjoint, functionalFeature, functionalRole, range}
+use Rattle.meaning.specs.Vocabulary.{Axiom, Vocabulary, below, disjoint, functionalFeature, functionalRole, manyFeature, manyRole}
+use Rattle.meaning.specs.Vocabulary.{range, stated}
 
 -- SPECIFICATION 5.1: sets of whole numbers, and of pairs of them. A predicate may be of any kind, so that finite and countable
 -- interpretations are among these
@@ -31,10 +32,12 @@ Obeys I (disjoint a b) = (i : ℕ) → I .inClass a i → I .inClass b i → ⊥
 Obeys I (functionalRole r) = (i j k : ℕ) → I .byRole r i j → I .byRole r i k → j ≡ k
 Obeys I (functionalFeature f) = (i v w : ℕ) → I .hasValue f i v → I .hasValue f i w → v ≡ w
 Obeys I (range r c) = (i j : ℕ) → I .byRole r i j → I .inClass c j
+Obeys I (manyRole r) = Unit {0}
+Obeys I (manyFeature f) = Unit {0}
 
--- SPECIFICATION 5.2: every axiom of the vocabulary is obeyed
+-- SPECIFICATION 5.2: all that the vocabulary states is obeyed, the default too
 pub record Satisfies (I : Interpretation) (K : Vocabulary) : Type 0 where
-  pub stated : All (Obeys I) (K .axioms)
+  pub obeyed : All (Obeys I) (stated K)
 
 -- SPECIFICATION 5.3: every conjunct of the chain holds of individual d
 abbrev pub Holds : Interpretation → Chain → ℕ → Type 0

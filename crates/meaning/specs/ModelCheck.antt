@@ -7,7 +7,8 @@ use Rattle.meaning.specs.Intervals.{isWithin}
 use Rattle.meaning.specs.Lists.{all, any}
 use Rattle.meaning.specs.Model.{Fact, edge, member, value}
 use Rattle.meaning.specs.Policy.{Chain, Policy, class, end, impossible, interval, some}
-use Rattle.meaning.specs.Vocabulary.{Axiom, Vocabulary, below, disjoint, functionalFeature, functionalRole, range}
+use Rattle.meaning.specs.Vocabulary.{Axiom, Vocabulary, below, disjoint, functionalFeature, functionalRole, manyFeature, manyRole}
+use Rattle.meaning.specs.Vocabulary.{range, stated}
 
 -- a term at an individual, by tests on the facts
 abbrev pub isMember : ℕ → ℕ → Fact → Bool
@@ -57,9 +58,11 @@ obeys F (disjoint a b) = all (onMember a (λ i. not (any (isMember b i) F))) F
 obeys F (functionalRole r) = all (onEdge r (λ i j. all (onEdge r (λ h k. not (eqb i h) || eqb j k)) F)) F
 obeys F (functionalFeature f) = all (onValue f (λ i v. all (onValue f (λ h w. not (eqb i h) || eqb v w)) F)) F
 obeys F (range r c) = all (onEdge r (λ i j. any (isMember c j) F)) F
+obeys F (manyRole r) = true
+obeys F (manyFeature f) = true
 
 abbrev pub isModel : List Fact → Vocabulary → Bool
-isModel F K = all (obeys F) (K .axioms)
+isModel F K = all (obeys F) (stated K)
 
 -- it satisfies the vocabulary, and individual 1 is in the first policy and outside the second
 unfoldable pub refutes : List Fact → Vocabulary → Policy → Policy → Bool

@@ -2,6 +2,7 @@
 use Prim.Native.Nat.{_≤_, suc, ℕ}
 use mathlib.Core.Bool.{Bool, not}
 use mathlib.Core.List.{List, _++_, _∷_}
+use mathlib.Core.Logic.{_⊎_}
 use mathlib.Core.Path.{_≡_}
 use lib.Dec.{T}
 use lib.ListN.{length}
@@ -21,6 +22,23 @@ use Rattle.meaning.specs.Vocabulary.{Vocabulary, vocabularyOf}
 -- the answer is a refusal
 abbrev pub IsRefusal : {A : Type 0} → Answer A → Type 0
 IsRefusal a = (n : ℕ) × (a ≡ refused n)
+
+-- SPECIFICATION 9.10, one value or many: the interpretation with other pairs of role r, and with other values of feature f
+abbrev pub withPairs : Interpretation → ℕ → (ℕ → ℕ → Type 0) → Interpretation
+withPairs I r S = record {
+  individual = I .individual;
+  inClass = I .inClass;
+  byRole = λ q i j. ((q ≡ r) × S i j) ⊎ ((q ≡ r → ⊥) × I .byRole q i j);
+  hasValue = I .hasValue;
+}
+
+abbrev pub withValues : Interpretation → ℕ → (ℕ → ℕ → Type 0) → Interpretation
+withValues I f S = record {
+  individual = I .individual;
+  inClass = I .inClass;
+  byRole = I .byRole;
+  hasValue = λ g i v. ((g ≡ f) × S i v) ⊎ ((g ≡ f → ⊥) × I .hasValue g i v);
+}
 
 -- Possible: no interpretation that satisfies the vocabulary has an individual in the policy
 abbrev pub Vacant : Vocabulary → Policy → Type 1

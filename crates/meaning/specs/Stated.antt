@@ -4,8 +4,9 @@ use Prim.Native.Nat.{ℕ}
 use mathlib.Core.Bool.{Bool, _&&_, _||_, cond}
 use mathlib.Core.List.{List, [], _∷_}
 use lib.Dec.{eqb}
-use Rattle.meaning.specs.Lists.{any, flatMap}
-use Rattle.meaning.specs.Vocabulary.{Axiom, Vocabulary, below, disjoint, functionalFeature, functionalRole, range}
+use Rattle.meaning.specs.Lists.{flatMap}
+use Rattle.meaning.specs.Vocabulary.{Axiom, Vocabulary, below, disjoint, functionalFeature, functionalFeatureName, functionalRole}
+use Rattle.meaning.specs.Vocabulary.{functionalRoleName, isNamed, manyFeature, manyFeatureName, manyRole, manyRoleName, range, stated}
 
 -- kind 1: a is below b
 abbrev pub subclass : Axiom → List (ℕ × ℕ)
@@ -14,6 +15,8 @@ subclass (disjoint a b) = []
 subclass (functionalRole r) = []
 subclass (functionalFeature f) = []
 subclass (range r c) = []
+subclass (manyRole r) = []
+subclass (manyFeature f) = []
 
 unfoldable pub subclasses : Vocabulary → List (ℕ × ℕ)
 subclasses K = flatMap subclass (K .axioms)
@@ -25,31 +28,11 @@ disjointPair (disjoint a b) = (a, b) ∷ []
 disjointPair (functionalRole r) = []
 disjointPair (functionalFeature f) = []
 disjointPair (range r c) = []
+disjointPair (manyRole r) = []
+disjointPair (manyFeature f) = []
 
 unfoldable pub disjointPairs : Vocabulary → List (ℕ × ℕ)
 disjointPairs K = flatMap disjointPair (K .axioms)
-
--- kind 3: role a is functional
-abbrev pub functionalRoleName : Axiom → List ℕ
-functionalRoleName (below a b) = []
-functionalRoleName (disjoint a b) = []
-functionalRoleName (functionalRole r) = r ∷ []
-functionalRoleName (functionalFeature f) = []
-functionalRoleName (range r c) = []
-
-unfoldable pub functionalRoles : Vocabulary → List ℕ
-functionalRoles K = flatMap functionalRoleName (K .axioms)
-
--- kind 4: feature a is functional
-abbrev pub functionalFeatureName : Axiom → List ℕ
-functionalFeatureName (below a b) = []
-functionalFeatureName (disjoint a b) = []
-functionalFeatureName (functionalRole r) = []
-functionalFeatureName (functionalFeature f) = f ∷ []
-functionalFeatureName (range r c) = []
-
-unfoldable pub functionalFeatures : Vocabulary → List ℕ
-functionalFeatures K = flatMap functionalFeatureName (K .axioms)
 
 -- kind 5: b is a range of role a
 abbrev pub rangePair : Axiom → List (ℕ × ℕ)
@@ -58,6 +41,8 @@ rangePair (disjoint a b) = []
 rangePair (functionalRole r) = []
 rangePair (functionalFeature f) = []
 rangePair (range r c) = (r, c) ∷ []
+rangePair (manyRole r) = []
+rangePair (manyFeature f) = []
 
 unfoldable pub rangePairs : Vocabulary → List (ℕ × ℕ)
 rangePairs K = flatMap rangePair (K .axioms)
@@ -71,12 +56,19 @@ closure ((x, y) ∷ l) a b = closure l a b || (closure l a x && closure l y b)
 unfoldable pub isBelow : Vocabulary → ℕ → ℕ → Bool
 isBelow K a b = closure (subclasses K) a b
 
--- func(R) ∈ K, for a role and for a feature
+-- func(R) ∈ K, for a role and for a feature: by a record of kind 3 or 4, or by default
 unfoldable pub isFunctionalRole : Vocabulary → ℕ → Bool
-isFunctionalRole K r = any (eqb r) (functionalRoles K)
+isFunctionalRole K r = isNamed functionalRoleName (stated K) r
 
 unfoldable pub isFunctionalFeature : Vocabulary → ℕ → Bool
-isFunctionalFeature K f = any (eqb f) (functionalFeatures K)
+isFunctionalFeature K f = isNamed functionalFeatureName (stated K) f
+
+-- a record of kind 6 or 7 lifts the default
+unfoldable pub isManyRole : Vocabulary → ℕ → Bool
+isManyRole K r = isNamed manyRoleName (K .axioms) r
+
+unfoldable pub isManyFeature : Vocabulary → ℕ → Bool
+isManyFeature K f = isNamed manyFeatureName (K .axioms) f
 
 -- the classes A with range(R, A) ∈ K
 abbrev pub rangesIn : List (ℕ × ℕ) → ℕ → List ℕ

@@ -1,20 +1,23 @@
--- SPECIFICATION 3 and 9.2: a vocabulary's records, what Read vocabulary refuses, the axioms that an accepted table states, and the words
--- that are written for axioms.
+-- SPECIFICATION 3 and 9.2: a vocabulary's records and what they state, by default too, what Read vocabulary refuses, the axioms of an
+-- accepted table, and the words that are written for axioms.
 use Prim.Native.Nat.{_*_, _+_, ℕ}
-use mathlib.Core.Bool.{Bool, _&&_, cond}
-use mathlib.Core.List.{List, [], _∷_}
+use mathlib.Core.Bool.{Bool, _&&_, _||_, cond, not}
+use mathlib.Core.List.{List, [], _++_, _∷_, map}
 use lib.Dec.{eqb, leb}
 use lib.ListN.{getD, length}
 use Rattle.meaning.specs.Limits.{mostClasses, mostFeatures, mostRoles, mostVocabularyWords}
-use Rattle.meaning.specs.Records.{chainedWords, isName, isOnward, isSized, lastOf, linkTo, listAlong, refusalAlong}
+use Rattle.meaning.specs.Lists.{any, counting, filter, flatMap}
+use Rattle.meaning.specs.Records.{chainedWords, isName, isOnward, isSized, lastOf, linkTo, listAlong, orElse, refusalAlong}
 
--- SPECIFICATION 3.2: what a record states, kinds 1 to 5
+-- SPECIFICATION 3.2: what a record states, kinds 1 to 7
 pub data Axiom : Type 0 where
   below : ℕ → ℕ → Axiom
   disjoint : ℕ → ℕ → Axiom
   functionalRole : ℕ → Axiom
   functionalFeature : ℕ → Axiom
   range : ℕ → ℕ → Axiom
+  manyRole : ℕ → Axiom
+  manyFeature : ℕ → Axiom
 
 -- what a vocabulary says: how many names each series has, and the axioms of its chain, in order
 pub record Vocabulary : Type 0 where
@@ -22,6 +25,74 @@ pub record Vocabulary : Type 0 where
   pub roles : ℕ
   pub features : ℕ
   pub axioms : List Axiom
+
+-- ---- one value or many
+
+-- kind 3: role a is functional
+abbrev pub functionalRoleName : Axiom → List ℕ
+functionalRoleName (below a b) = []
+functionalRoleName (disjoint a b) = []
+functionalRoleName (functionalRole r) = r ∷ []
+functionalRoleName (functionalFeature f) = []
+functionalRoleName (range r c) = []
+functionalRoleName (manyRole r) = []
+functionalRoleName (manyFeature f) = []
+
+-- kind 4: feature a is functional
+abbrev pub functionalFeatureName : Axiom → List ℕ
+functionalFeatureName (below a b) = []
+functionalFeatureName (disjoint a b) = []
+functionalFeatureName (functionalRole r) = []
+functionalFeatureName (functionalFeature f) = f ∷ []
+functionalFeatureName (range r c) = []
+functionalFeatureName (manyRole r) = []
+functionalFeatureName (manyFeature f) = []
+
+-- kind 6: role a is many-valued
+abbrev pub manyRoleName : Axiom → List ℕ
+manyRoleName (below a b) = []
+manyRoleName (disjoint a b) = []
+manyRoleName (functionalRole r) = []
+manyRoleName (functionalFeature f) = []
+manyRoleName (range r c) = []
+manyRoleName (manyRole r) = r ∷ []
+manyRoleName (manyFeature f) = []
+
+-- kind 7: feature a is many-valued
+abbrev pub manyFeatureName : Axiom → List ℕ
+manyFeatureName (below a b) = []
+manyFeatureName (disjoint a b) = []
+manyFeatureName (functionalRole r) = []
+manyFeatureName (functionalFeature f) = []
+manyFeatureName (range r c) = []
+manyFeatureName (manyRole r) = []
+manyFeatureName (manyFeature f) = f ∷ []
+
+-- an axiom of the list names x, by such a selector
+unfoldable pub isNamed : (Axiom → List ℕ) → List Axiom → ℕ → Bool
+isNamed select l x = any (eqb x) (flatMap select l)
+
+-- the names of a series of n that no axiom of the list names, rising
+unfoldable pub unnamed : (Axiom → List ℕ) → List Axiom → ℕ → List ℕ
+unnamed select l n = filter (λ x. not (isNamed select l x)) (counting 1 n)
+
+-- SPECIFICATION 3.2, the default: a role is functional unless a record of kind 6 names it, a feature unless one of kind 7 does
+unfoldable pub defaults : Vocabulary → List Axiom
+defaults K =
+    map functionalRole (unnamed manyRoleName (K .axioms) (K .roles))
+    ++ map functionalFeature (unnamed manyFeatureName (K .axioms) (K .features))
+
+-- all that a vocabulary states: the axioms of its chain, then the default, as if records stated it
+unfoldable pub stated : Vocabulary → List Axiom
+stated K = K .axioms ++ defaults K
+
+-- a role or a feature is named both ways
+unfoldable pub isOpposed : List Axiom → Bool
+isOpposed l =
+    any (isNamed manyRoleName l) (flatMap functionalRoleName l)
+    || any (isNamed manyFeatureName l) (flatMap functionalFeatureName l)
+
+-- ---- reading
 
 -- SPECIFICATION 3.2: the words of record k
 abbrev pub axiomKind : List ℕ → ℕ → ℕ
@@ -56,7 +127,9 @@ axiomFits v k =
     (cond (eqb (axiomKind v k) 2) (isName (classCount v) (axiomLeft v k) && isName (classCount v) (axiomRight v k))
     (cond (eqb (axiomKind v k) 3) (isName (roleCount v) (axiomLeft v k) && eqb (axiomRight v k) 0)
     (cond (eqb (axiomKind v k) 4) (isName (featureCount v) (axiomLeft v k) && eqb (axiomRight v k) 0)
-    (eqb (axiomKind v k) 5 && (isName (roleCount v) (axiomLeft v k) && isName (classCount v) (axiomRight v k))))))
+    (cond (eqb (axiomKind v k) 5) (isName (roleCount v) (axiomLeft v k) && isName (classCount v) (axiomRight v k))
+    (cond (eqb (axiomKind v k) 6) (isName (roleCount v) (axiomLeft v k) && eqb (axiomRight v k) 0)
+    (eqb (axiomKind v k) 7 && (isName (featureCount v) (axiomLeft v k) && eqb (axiomRight v k) 0)))))))
 
 abbrev pub soundAxiom : List ℕ → ℕ → Bool
 soundAxiom v k = axiomFits v k && isOnward (lastOf 4 v) k (axiomNext v k)
@@ -71,13 +144,6 @@ headedVocabulary v =
     isName mostClasses (classCount v)
     && (leb (roleCount v) mostRoles && (leb (featureCount v) mostFeatures && leb (firstAxiom v) (lastOf 4 v)))
 
--- 1: the length; then 2, then 3. The first refusal of Read vocabulary (SPECIFICATION 9.2); 0 is none
-unfoldable pub vocabularyRefusal : List ℕ → ℕ
-vocabularyRefusal v =
-    let chain = axiomsRefusal (length v) v (firstAxiom v) in
-    let header = cond (headedVocabulary v) chain 2 in
-    cond (isSized 4 mostVocabularyWords (length v)) header 1
-
 -- what record k states
 abbrev pub axiomAt : List ℕ → ℕ → Axiom
 axiomAt v k =
@@ -85,7 +151,9 @@ axiomAt v k =
     (cond (eqb (axiomKind v k) 2) (disjoint (axiomLeft v k) (axiomRight v k))
     (cond (eqb (axiomKind v k) 3) (functionalRole (axiomLeft v k))
     (cond (eqb (axiomKind v k) 4) (functionalFeature (axiomLeft v k))
-    (range (axiomLeft v k) (axiomRight v k)))))
+    (cond (eqb (axiomKind v k) 5) (range (axiomLeft v k) (axiomRight v k))
+    (cond (eqb (axiomKind v k) 6) (manyRole (axiomLeft v k))
+    (manyFeature (axiomLeft v k)))))))
 
 abbrev pub axiomsFrom : ℕ → List ℕ → ℕ → List Axiom
 axiomsFrom f v k = listAlong (axiomNext v) (axiomAt v) f k
@@ -93,6 +161,14 @@ axiomsFrom f v k = listAlong (axiomNext v) (axiomAt v) f k
 -- all that the vocabulary's chain states
 unfoldable pub axiomsOf : List ℕ → List Axiom
 axiomsOf v = axiomsFrom (length v) v (firstAxiom v)
+
+-- 1: the length; then 2, then 3, then 44: a name both ways. The first refusal of Read vocabulary (SPECIFICATION 9.2); 0 is none
+unfoldable pub vocabularyRefusal : List ℕ → ℕ
+vocabularyRefusal v =
+    let opposed : ℕ = cond (isOpposed (axiomsOf v)) 44 0 in
+    let chain = orElse (axiomsRefusal (length v) v (firstAxiom v)) opposed in
+    let header = cond (headedVocabulary v) chain 2 in
+    cond (isSized 4 mostVocabularyWords (length v)) header 1
 
 unfoldable pub vocabularyOf : List ℕ → Vocabulary
 vocabularyOf v = record { classes = classCount v; roles = roleCount v; features = featureCount v; axioms = axiomsOf v }
@@ -106,6 +182,8 @@ axiomWords (disjoint a b) next = 2 ∷ (a ∷ (b ∷ (next ∷ [])))
 axiomWords (functionalRole r) next = 3 ∷ (r ∷ (0 ∷ (next ∷ [])))
 axiomWords (functionalFeature f) next = 4 ∷ (f ∷ (0 ∷ (next ∷ [])))
 axiomWords (range r c) next = 5 ∷ (r ∷ (c ∷ (next ∷ [])))
+axiomWords (manyRole r) next = 6 ∷ (r ∷ (0 ∷ (next ∷ [])))
+axiomWords (manyFeature f) next = 7 ∷ (f ∷ (0 ∷ (next ∷ [])))
 
 -- the words for what a vocabulary says
 unfoldable pub vocabularyWords : Vocabulary → List ℕ
