@@ -6,8 +6,9 @@ use mathlib.Core.Logic.{_⊎_, inl, inr}
 use mathlib.Core.Path.{_∙_, _≡_, ap, ap₂, refl, sym}
 use native.Mathlib.Numerals.{add-one}
 use native.Mathlib.Omega.{arith}
-use Rattle.meaning.proofs.Rules.{any-at, any-in, any-out, at-any, isTrue, order, same-test}
-use Rattle.meaning.specs.Lists.{_∈_, all, any, counting, here, there}
+use Rattle.meaning.proofs.Rules.{all-mono, any-at, any-in, any-out, at-any, isTrue, order, same-test}
+use Rattle.meaning.specs.Lists.{All, _∈_, all, any, cons, counting, here, nil, there}
+use Rattle.meaning.specs.Records.{Name}
 
 pub counting-append : (k m n : ℕ) → counting k (m + n) ≡ counting k m ++ counting (k + m) n
 counting-append k zero n = rw (zero-add n) (ap (λ (i : ℕ). counting i n) (omega arith))
@@ -28,6 +29,15 @@ in-counting k (suc n) z l h = go (in-counting (suc k) n z) (order k z)
     go f (inr d) = here {x = k} (omega arith)
 
 -- one more, after the others
+counting-within : (from n : ℕ) → All (λ x. (suc from ≤ x) × (x ≤ from + n)) (counting (suc from) n)
+counting-within from zero = nil
+counting-within from (suc n) =
+    cons {x = suc from} (omega arith, omega arith) (all-mono (λ x h. (omega arith, omega arith)) (counting-within (suc from) n))
+
+-- from 1 on they are names
+pub counting-names : (n : ℕ) → All (Name n) (counting 1 n)
+counting-names n = all-mono (λ x h. (omega arith, omega arith)) (counting-within 0 n)
+
 pub counted-more : {A : Type 0} (f : ℕ → A) (n : ℕ) → map f (counting 0 (n + 1)) ≡ map f (counting 0 n) ++ (f n ∷ [])
 counted-more {A} f n = rw (add-one n) (go 0 n ∙ ap (λ (x : ℕ). map f (counting 0 n) ++ (f x ∷ [])) (omega arith))
   where

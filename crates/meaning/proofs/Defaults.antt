@@ -10,7 +10,7 @@ use lib.Ieee.Bits.{is-false, is-true}
 use lib.ListN.{length}
 use native.Mathlib.Omega.{arith}
 use borrow.Author.Tests.{le-leb}
-use Rattle.meaning.proofs.Counting.{in-counting}
+use Rattle.meaning.proofs.Counting.{counting-names, in-counting}
 use Rattle.meaning.proofs.Links.{bounds}
 use Rattle.meaning.proofs.Refusals.{along-all}
 use Rattle.meaning.proofs.Rules.{all-append, all-at, all-map, all-mono, all-of, any-flatMap, any-in, at-any, in-filter, isFalse}
@@ -44,11 +44,6 @@ kept {P} p (x ∷ l) (cons h a) = go (p x) (λ t. t) (kept p l a)
     go true f m = cons (h, f tt) m
     go false f m = m
 
-counting-within : (from n : ℕ) → All (λ x. (suc from ≤ x) × (x ≤ from + n)) (counting (suc from) n)
-counting-within from zero = nil
-counting-within from (suc n) =
-    cons {x = suc from} (omega arith, omega arith) (all-mono (λ x h. (omega arith, omega arith)) (counting-within (suc from) n))
-
 module _ (select : Axiom → List ℕ) (l : List Axiom) (n : ℕ) where
   pub in-unnamed : (x : ℕ) → Name n x → isNamed select l x ≡ false → x ∈ unnamed select l n
   unfolding unnamed
@@ -56,10 +51,7 @@ module _ (select : Axiom → List ℕ) (l : List Axiom) (n : ℕ) where
 
   pub unnamed-names : All (λ x. Name n x × (isNamed select l x ≡ false)) (unnamed select l n)
   unfolding unnamed
-  unnamed-names = all-mono (λ x h. (h .0, is-false (isNamed select l x) (h .1))) (kept _ (counting 1 n) named)
-    where
-      named : All (Name n) (counting 1 n)
-      named = all-mono (λ x h. (omega arith, omega arith)) (counting-within 0 n)
+  unnamed-names = all-mono (λ x h. (h .0, is-false (isNamed select l x) (h .1))) (kept _ (counting 1 n) (counting-names n))
 
 -- ---- who is functional
 

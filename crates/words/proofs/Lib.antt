@@ -5,4 +5,5 @@ pub mod Laws
 pub mod Listing
 pub mod Growth
 pub mod Steps
+pub mod Others
 pub mod Examples

@@ -1,6 +1,6 @@
 -- The members of a set of numbers, in rising order.
 use Prim.Native.Nat.{_+_, suc, zero, ℕ}
-use mathlib.Core.Bool.{cond}
+use mathlib.Core.Bool.{cond, not}
 use mathlib.Core.List.{List, [], _∷_}
 use lib.Count.{onesIn}
 use lib.Dec.{eqb, ltb}
@@ -11,6 +11,10 @@ use Rattle.words.specs.Sets.{capacity, inSet}
 -- the members, rising
 unfoldable pub members : List ℕ → List ℕ
 members ws = filter (inSet ws) (counting 1 (capacity ws))
+
+-- the numbers from 1 to n that are no members, rising
+unfoldable pub othersOf : List ℕ → ℕ → List ℕ
+othersOf ws n = filter (λ x. not (inSet ws x)) (counting 1 n)
 
 -- the members above c, rising
 unfoldable pub membersAbove : List ℕ → ℕ → List ℕ

@@ -1,7 +1,7 @@
 -- Sets of numbers, from 1, in a row of 32-bit words, as many words as there are.
 use Prim.Native.Nat.{_%_, _*_, _+_, _/_, _^_, suc, zero, ℕ}
 use mathlib.Core.Bool.{Bool, false}
-use mathlib.Core.List.{List, [], _∷_}
+use mathlib.Core.List.{List, [], _∷_, foldl}
 use lib.Bits.{bitOr}
 use lib.Dec.{eqb}
 use lib.ListN.{getD, length, set}
@@ -23,6 +23,10 @@ inSet ws (suc i) = testBit (getD ws (i / 32) 0) (i % 32)
 unfoldable pub including : List ℕ → ℕ → List ℕ
 including ws zero = ws
 including ws (suc i) = set ws (i / 32) (bitOr (getD ws (i / 32) 0) (2 ^ (i % 32)))
+
+-- the words with the bits of the numbers of a list set, one after another
+unfoldable pub includingAll : List ℕ → List ℕ → List ℕ
+includingAll ws l = foldl including ws l
 
 -- the union, word by word
 unfoldable pub unionOf : List ℕ → List ℕ → List ℕ

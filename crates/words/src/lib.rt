@@ -8,9 +8,9 @@ ghost use mathlib.Core.Logic.{_↔_};
 ghost use Prim.Native.Nat.{_+_, _<_, _^_, _≤_, ℕ};
 ghost use lib.ListN.{length, replicate};
 ghost use Rattle.frames.specs.Rows.{putAt, rowAt};
-ghost use Rattle.words.specs.Members.{members, nextMember};
+ghost use Rattle.words.specs.Members.{members, nextMember, othersOf};
 ghost use Rattle.words.specs.Rows.{ContainsAlso, classWords};
-ghost use Rattle.words.specs.Sets.{capacity, inSet, including, unionOf};
+ghost use Rattle.words.specs.Sets.{capacity, inSet, including, includingAll, unionOf};
 
 // A number as a place in a slice: a cast of an element read asks that the element fits, and this call does not.
 pub fn place(x: u32) -> usize
@@ -45,6 +45,18 @@ pub fn insert(words: &mut [u32], x: u32)
         return;
     }
     words[at] = words[at] | 1 << (x - 1) % 32;
+}
+
+// Puts those of the numbers 1 to n into the set that another set lacks.
+pub fn insert_others(words: &mut [u32], named: &[u32], n: u32)
+    ensures { λ _. ⌜ now (words .exit) ≡ includingAll (now (words .entry)) (othersOf (now (named .entry)) n) ⌝ }
+{
+    for i in 0..n {
+        if has(named, i + 1) {
+            continue;
+        }
+        insert(words, i + 1);
+    }
 }
 
 // How many members the set has. The words are few enough that each number fits.
