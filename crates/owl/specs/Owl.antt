@@ -1,7 +1,7 @@
 -- SPECIFICATION 3.4 and 9.12: the vocabulary that an OWL text states, and the operation Read OWL.
 use Prim.Native.Nat.{ℕ}
 use mathlib.Core.Bool.{cond}
-use mathlib.Core.List.{List, [], _∷_, map}
+use mathlib.Core.List.{List, [], _++_, _∷_, map}
 use mathlib.Core.Path.{_≡_}
 use lib.Dec.{eqb, leb}
 use lib.ListN.{getD, length}
@@ -11,7 +11,8 @@ use Rattle.meaning.specs.Limits.{mostAxioms, mostText}
 use Rattle.meaning.specs.Lists.{flatMap}
 use Rattle.meaning.specs.Operations.{Outcome, outputAfter, refuses, unless, written}
 use Rattle.meaning.specs.Records.{orElse}
-use Rattle.meaning.specs.Vocabulary.{Axiom, Vocabulary, below, disjoint, functionalFeature, functionalRole, range, vocabularyWords}
+use Rattle.meaning.specs.Vocabulary.{Axiom, Vocabulary, below, disjoint, functionalFeature, functionalFeatureName, functionalRole}
+use Rattle.meaning.specs.Vocabulary.{functionalRoleName, manyFeature, manyRole, range, unnamed, vocabularyWords}
 use Rattle.meaning.specs.declared.Filling.{Filling}
 use Rattle.statements.specs.Forms.{Parsed, Statement, class, declares, feature, ontology, parsed, role, states, wrong}
 use Rattle.tokens.specs.Tokens.{tokens}
@@ -29,14 +30,24 @@ abbrev pub axiomsBy : List Statement → Statement → List Axiom
 axiomsBy l (declares s us) = []
 axiomsBy l (states k us) = axiomOf k (map (numberIn l) us) ∷ []
 
--- what statements say: how many names each sort has, and the axioms, in text order
+-- the axioms of statements, in text order
+unfoldable pub axiomsIn : List Statement → List Axiom
+axiomsIn l = flatMap (axiomsBy l) l
+
+-- a role that no axiom makes functional has many values, and so has a feature: OWL knows no default
+unfoldable pub manyIn : List Statement → List Axiom
+manyIn l =
+    map manyRole (unnamed functionalRoleName (axiomsIn l) (length (declared role l)))
+    ++ map manyFeature (unnamed functionalFeatureName (axiomsIn l) (length (declared feature l)))
+
+-- what statements say: how many names each sort has, the axioms, then who has many values
 unfoldable pub vocabularyIn : List Statement → Vocabulary
 vocabularyIn l =
     record {
       classes = length (declared class l);
       roles = length (declared role l);
       features = length (declared feature l);
-      axioms = flatMap (axiomsBy l) l;
+      axioms = axiomsIn l ++ manyIn l;
     }
 
 -- the statements of a text that is not too long
