@@ -17,8 +17,9 @@ use Rattle.meaning.specs.Records.{Name}
 use Rattle.meaning.specs.Stated.{disjointPair, disjointPairs, isFunctionalFeature, isFunctionalRole, isManyFeature, isManyRole}
 use Rattle.meaning.specs.Stated.{rangePair, rangePairs, ranges, rangesIn, subclass, subclasses}
 use Rattle.meaning.specs.Vocabulary.{Axiom, Vocabulary, axiomAt, axiomFits, axiomKind, axiomLeft, axiomRight, below, classCount}
-use Rattle.meaning.specs.Vocabulary.{defaults, disjoint, functionalFeature, functionalFeatureName, functionalRole, functionalRoleName}
-use Rattle.meaning.specs.Vocabulary.{isNamed, manyFeature, manyFeatureName, manyRole, manyRoleName, range, roleCount, stated, unnamed}
+use Rattle.meaning.specs.Vocabulary.{defaults, disjoint, featureCount, functionalFeature, functionalFeatureName, functionalRole}
+use Rattle.meaning.specs.Vocabulary.{functionalRoleName, isNamed, manyFeature, manyFeatureName, manyRole, manyRoleName, range, roleCount}
+use Rattle.meaning.specs.Vocabulary.{stated, unnamed}
 
 -- ---- the classes of a role's ranges
 
@@ -235,6 +236,24 @@ module _ (v : List ℕ) where
   rangePair-named (range r c) n = cons n nil
   rangePair-named (manyRole r) n = nil
   rangePair-named (manyFeature f) n = nil
+
+  pub manyRoleName-named : (x : Axiom) → AxiomOf v x → All (Name (roleCount v)) (manyRoleName x)
+  manyRoleName-named (below a b) n = nil
+  manyRoleName-named (disjoint a b) n = nil
+  manyRoleName-named (functionalRole r) n = nil
+  manyRoleName-named (functionalFeature f) n = nil
+  manyRoleName-named (range r c) n = nil
+  manyRoleName-named (manyRole r) n = cons n nil
+  manyRoleName-named (manyFeature f) n = nil
+
+  pub manyFeatureName-named : (x : Axiom) → AxiomOf v x → All (Name (featureCount v)) (manyFeatureName x)
+  manyFeatureName-named (below a b) n = nil
+  manyFeatureName-named (disjoint a b) n = nil
+  manyFeatureName-named (functionalRole r) n = nil
+  manyFeatureName-named (functionalFeature f) n = nil
+  manyFeatureName-named (range r c) n = nil
+  manyFeatureName-named (manyRole r) n = nil
+  manyFeatureName-named (manyFeature f) n = cons n nil
 
 -- an axiom states at most one pair of disjoint classes
 pub disjointPair-one : (x : Axiom) → length (disjointPair x) ≤ 1

@@ -54,7 +54,7 @@ module _ (v : List ℕ) where
       choose So (AxiomOf v) (eqb (axiomKind v k) 5) (λ _ h. simp tests at h) (λ _.
       choose So (AxiomOf v) (eqb (axiomKind v k) 6) (λ _ h. let u = simp tests at h in u .0) (λ _ h. let u = simp tests at h in u .1 .0))))))
 
-  axioms-named : (f k : ℕ) → axiomsRefusal f v k ≡ 0 → All (AxiomOf v) (axiomsFrom f v k)
+  pub axioms-named : (f k : ℕ) → axiomsRefusal f v k ≡ 0 → All (AxiomOf v) (axiomsFrom f v k)
   axioms-named zero k = λ h. nil
   axioms-named (suc f) k =
       choose (λ (n : ℕ). n ≡ 0) (All (AxiomOf v)) (eqb k 0) (λ _ _. nil) (λ _ h.

@@ -8,13 +8,15 @@ use lib.ListN.{length}
 use native.Mathlib.Omega.{arith}
 use borrow.Author.Tests.{le-leb, lt-leb, ne-eqb, not-false, not-true}
 use Rattle.meaning.proofs.Links.{bounds, falling-le, passed, tests}
+use Rattle.meaning.proofs.Refusals.{orElse-first}
 use Rattle.meaning.specs.Answers.{Answer, ReadingResult, accepted, refused, result}
 use Rattle.meaning.specs.Limits.{mostClasses, mostFeatures, mostRoles, mostVocabularyWords}
 use Rattle.meaning.specs.Operations.{readVocabulary, unless}
 use Rattle.meaning.specs.Records.{Onward, falling, isName, isOnward, isSized, lastOf}
-use Rattle.meaning.specs.Vocabulary.{axiomFits, axiomKind, axiomLeft, axiomNext, axiomRight, axiomsRefusal, classCount, featureCount}
-use Rattle.meaning.specs.Vocabulary.{firstAxiom, headedVocabulary, roleCount, soundAxiom, vocabularyRefusal}
+use Rattle.meaning.specs.Vocabulary.{axiomFits, axiomKind, axiomLeft, axiomNext, axiomRight, axiomsOf, axiomsRefusal, classCount, featureCount}
+use Rattle.meaning.specs.Vocabulary.{firstAxiom, headedVocabulary, isOpposed, roleCount, soundAxiom, vocabularyRefusal}
 use Rattle.records.proofs.Chains.{Reading, reading-ends, reading-falls, reading-on, reading-starts, reading-stops}
+use Rattle.vocabulary.specs.Names.{Walkable}
 
 -- ---- the header: its four tests in order, each with those before it
 
@@ -52,8 +54,9 @@ module _ (v : List ℕ) (k : ℕ) {l x : ℕ} {t : Bool} (p : l ≡ lastOf 4 v) 
     fitted : {r : ℕ} (f : Bool) → r ≡ cond f 0 3 → f ≡ axiomFits v k → Refuses v k r
     fitted f c g = c ∙ rw (sym link ∙ not-false t h, and-true (axiomFits v k), sym g)
 
-    pub unknown : (kind ≡ 1 → ⊥) → (kind ≡ 2 → ⊥) → (kind ≡ 3 → ⊥) → (kind ≡ 4 → ⊥) → (kind ≡ 5 → ⊥) → Refuses v k 3
-    unknown n₁ n₂ n₃ n₄ n₅ = fitted false refl (rw (sym ek, ne-eqb kind 1 n₁, ne-eqb kind 2 n₂, ne-eqb kind 3 n₃, ne-eqb kind 4 n₄, ne-eqb kind 5 n₅))
+    pub unknown : (kind ≡ 1 → ⊥) → (kind ≡ 2 → ⊥) → (kind ≡ 3 → ⊥) → (kind ≡ 4 → ⊥) → (kind ≡ 5 → ⊥) → (kind ≡ 6 → ⊥) → (kind ≡ 7 → ⊥) → Refuses v k 3
+    unknown n₁ n₂ n₃ n₄ n₅ n₆ n₇ =
+        fitted false refl (rw (sym ek, ne-eqb kind 1 n₁, ne-eqb kind 2 n₂, ne-eqb kind 3 n₃, ne-eqb kind 4 n₄, ne-eqb kind 5 n₅, ne-eqb kind 6 n₆, ne-eqb kind 7 n₇))
 
     -- the two tests of a kind
     module _ {f : Bool} {r : ℕ} where
@@ -73,6 +76,12 @@ module _ (v : List ℕ) (k : ℕ) {l x : ℕ} {t : Bool} (p : l ≡ lastOf 4 v) 
 
         pub feature-fits : kind ≡ 4 → f ≡ isName (featureCount v) a → Refuses v k r
         feature-fits z m = fitted (f && eqb b 0) c (rw (sym ek ∙ z, sym ea, sym eb, m))
+
+        pub many-role-fits : kind ≡ 6 → f ≡ isName (roleCount v) a → Refuses v k r
+        many-role-fits z m = fitted (f && eqb b 0) c (rw (sym ek ∙ z, sym ea, sym eb, m))
+
+        pub many-feature-fits : kind ≡ 7 → f ≡ isName (featureCount v) a → Refuses v k r
+        many-feature-fits z m = fitted (f && eqb b 0) c (rw (sym ek ∙ z, sym ea, sym eb, m))
 
 -- ---- the chain
 
@@ -132,9 +141,23 @@ module _ (v : List ℕ) {t : Bool} (e : t ≡ isSized 4 mostVocabularyWords (len
     unfolding vocabularyRefusal
     wrong-header {s} f g = rw (right-size, sym f ∙ not-true s g)
 
-    pub chained : {s : Bool} {r : ℕ} → s ≡ headedVocabulary v → not s ≡ false → r ≡ axiomsRefusal (length v) v (firstAxiom v) → r ≡ vocabularyRefusal v
-    unfolding vocabularyRefusal
-    chained f g p = rw (right-size, right-header v f g) p
+    module _ {s : Bool} {n : ℕ} (f : s ≡ headedVocabulary v) (g : not s ≡ false) (p : n ≡ axiomsRefusal (length v) v (firstAxiom v)) where
+      pub wrong-chain : (n ≡ 0 → ⊥) → n ≡ vocabularyRefusal v
+      unfolding vocabularyRefusal
+      wrong-chain z = rw (right-size, right-header v f g, ← p) (orElse-first n _ z)
+
+      module _ (z : n ≡ 0) where
+        pub walkable : Walkable v
+        walkable = record { headed = right-header v f g; read = sym p ∙ z }
+
+        module _ {o : Bool} (q : o ≡ isOpposed (axiomsOf v)) where
+          pub opposed : o ≡ true → 44 ≡ vocabularyRefusal v
+          unfolding vocabularyRefusal
+          opposed t = rw (right-size, right-header v f g, sym p ∙ z, sym q ∙ t)
+
+          pub accepts : o ≡ false → 0 ≡ vocabularyRefusal v
+          unfolding vocabularyRefusal
+          accepts t = rw (right-size, right-header v f g, sym p ∙ z, sym q ∙ t)
 
 pub told : (v : List ℕ) {r : ℕ} {a : Answer ReadingResult} → r ≡ vocabularyRefusal v → a ≡ unless refused r (result accepted) → a ≡ readVocabulary v
 unfolding readVocabulary

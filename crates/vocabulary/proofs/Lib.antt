@@ -1,3 +1,4 @@
 -- Laws that the proofs of the functions cite.
 pub mod Laws
 pub mod Chain
+pub mod Names

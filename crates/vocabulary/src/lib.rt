@@ -10,15 +10,21 @@ use meaning::limits::MOST_VOCABULARY_WORDS;
 use records::is_name;
 use records::is_onward;
 use records::word;
+use words::has;
+use words::insert;
 ghost use mathlib.Core.Path.{_≡_};
 ghost use mathlib.Core.Bool.{_&&_, cond};
+ghost use mathlib.Core.List.{List};
 ghost use Prim.Native.Nat.{_≤_};
 ghost use lib.ListN.{length};
 ghost use Rattle.meaning.specs.Answers.{readingAnswer};
 ghost use Rattle.meaning.specs.Operations.{readVocabulary};
 ghost use Rattle.meaning.specs.Records.{isName, lastOf};
-ghost use Rattle.meaning.specs.Vocabulary.{axiomKind, axiomLeft, axiomNext, axiomRight, axiomsRefusal, classCount, featureCount};
-ghost use Rattle.meaning.specs.Vocabulary.{firstAxiom, headedVocabulary, roleCount, soundAxiom, vocabularyRefusal};
+ghost use Rattle.meaning.specs.Lists.{any};
+ghost use Rattle.meaning.specs.Vocabulary.{axiomKind, axiomLeft, axiomNext, axiomRight, axiomsOf, axiomsRefusal, classCount, featureCount};
+ghost use Rattle.meaning.specs.Vocabulary.{firstAxiom, headedVocabulary, isOpposed, roleCount, soundAxiom, vocabularyRefusal};
+ghost use Rattle.vocabulary.specs.Names.{BothNamed, NameFound, NamesIn, Walkable, nameAt};
+ghost use Rattle.words.specs.Sets.{inSet, includingAll};
 
 pub fn class_count(v: &[u32]) -> u32
     ensures { λ r. ⌜ r ≡ classCount (now (v .entry)) ⌝ }
@@ -127,6 +133,8 @@ fn axiom_refusal(v: &[u32], k: u32) -> u32
         3 => refused_unless(is_role(v, RoleNo(a)), b == 0),
         4 => refused_unless(is_feature(v, FeatureNo(a)), b == 0),
         5 => refused_unless(is_role(v, RoleNo(a)), is_class(v, ClassNo(b))),
+        6 => refused_unless(is_role(v, RoleNo(a)), b == 0),
+        7 => refused_unless(is_feature(v, FeatureNo(a)), b == 0),
         _ => 3,
     }
 }
@@ -147,6 +155,81 @@ fn axioms_refusal(v: &[u32]) -> u32
     0
 }
 
+// ---- one value or many
+
+// A set of roles or of features: a bit for each of the 64 that a vocabulary may count.
+pub const NAME_WORDS: usize = MOST_ROLES as usize / 32;
+
+// Puts the name of record k into a set, where the record is of a kind.
+fn insert_name(v: &[u32], k: u32, kind: u32, names: &mut [u32])
+    ensures { λ _. ⌜ now (names .exit) ≡ includingAll (now (names .entry)) (nameAt (now (v .entry)) kind k) ⌝ }
+{
+    if axiom_kind(v, k) != kind {
+        return;
+    }
+    insert(names, axiom_left(v, k));
+}
+
+// Puts the names of all records of a kind into a set.
+pub fn insert_names(v: &[u32], kind: u32, names: &mut [u32])
+    requires { ⌜ Walkable (now v) ⌝ }
+    ensures { λ _. ⌜ NamesIn (now (v .entry)) kind (now (names .entry)) (now (names .exit)) ⌝ }
+{
+    let mut k = first_axiom(v);
+    while k != 0 {
+        insert_name(v, k, kind, names);
+        k = axiom_next(v, k);
+    }
+}
+
+// Whether record k is of a kind, and its name in a set.
+fn is_in(v: &[u32], k: u32, kind: u32, names: &[u32]) -> bool
+    ensures { λ r. ⌜ r ≡ any (inSet (now (names .entry))) (nameAt (now (v .entry)) kind k) ⌝ }
+{
+    if axiom_kind(v, k) != kind {
+        return false;
+    }
+    has(names, axiom_left(v, k))
+}
+
+// Whether some record of a kind has its name in a set.
+fn is_any_in(v: &[u32], kind: u32, names: &[u32]) -> bool
+    requires { ⌜ Walkable (now v) ⌝ }
+    ensures { λ r. ⌜ NameFound (now (v .entry)) kind (now (names .entry)) r ⌝ }
+{
+    let mut k = first_axiom(v);
+    while k != 0 {
+        if is_in(v, k, kind, names) {
+            return true;
+        }
+        k = axiom_next(v, k);
+    }
+    false
+}
+
+// Whether a name stands in records of both kinds.
+fn are_both(v: &[u32], kind: u32, other: u32) -> bool
+    requires { ⌜ Walkable (now v) ⌝ }
+    ensures { λ r. ⌜ BothNamed (now (v .entry)) kind other r ⌝ }
+{
+    let mut names = [0u32; NAME_WORDS];
+    insert_names(v, other, &mut names[..]);
+    is_any_in(v, kind, &names[..])
+}
+
+// Whether a role or a feature is said to be functional and many-valued.
+fn is_opposed(v: &[u32]) -> bool
+    requires { ⌜ Walkable (now v) ⌝ }
+    ensures { λ r. ⌜ r ≡ isOpposed (axiomsOf (now (v .entry))) ⌝ }
+{
+    if are_both(v, 3, 6) {
+        return true;
+    }
+    are_both(v, 4, 7)
+}
+
+// ---- the reader
+
 // The number of the first refusal, 0 for none: the operations that read a vocabulary first pass it on.
 pub fn vocabulary_refusal(v: &[u32]) -> u32
     ensures { λ r. ⌜ r ≡ vocabularyRefusal (now (v .entry)) ⌝ }
@@ -157,7 +240,11 @@ pub fn vocabulary_refusal(v: &[u32]) -> u32
     if !is_headed(v) {
         return 2;
     }
-    axioms_refusal(v)
+    let chain = axioms_refusal(v);
+    if chain != 0 {
+        return chain;
+    }
+    if is_opposed(v) { 44 } else { 0 }
 }
 
 pub fn read_vocabulary(v: &[u32]) -> Reading

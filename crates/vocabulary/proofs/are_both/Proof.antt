@@ -1,0 +1,14 @@
+use borrow.Author.Needs.{needs}
+use Rattle.vocabulary.proofs.Names.{both-named}
+use Rattle.vocabulary.proofs.are_both.Statement.{statement}
+use Rattle.vocabulary.proofs.are_both.Tie as tie
+
+pub are-both-spec : {M : Type 1} → statement M
+are-both-spec =
+    tie.close
+    (tie.spec
+    (λ c. search needs)
+    (λ c κs. search needs)
+    (λ c. search needs)
+    (λ c κs. c .before .before .before .before .before .pre)
+    (λ c. both-named (c .before .before .before .insert-names .ensures) (c .is-any-in .ensures)))

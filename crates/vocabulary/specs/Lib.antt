@@ -1,0 +1,2 @@
+-- The names that the records of a kind have.
+pub mod Names
