@@ -1,73 +1,48 @@
 // The functional roles and features of a vocabulary, worked out once a call.
 use meaning::FeatureNo;
 use meaning::RoleNo;
-use vocabulary::axiom_kind;
-use vocabulary::axiom_left;
-use vocabulary::axiom_next;
-use vocabulary::first_axiom;
+use vocabulary::NAME_WORDS;
+use vocabulary::feature_count;
+use vocabulary::insert_names;
+use vocabulary::role_count;
 use words::has;
-use words::insert;
+use words::insert_others;
 ghost use Prim.Native.Nat.{ℕ};
 ghost use mathlib.Core.List.{List};
 ghost use mathlib.Core.Path.{_≡_};
-ghost use Rattle.functional.specs.FunctionalNames.{FunctionalNames, marked, withFeature, withRole};
+ghost use Rattle.functional.specs.FunctionalNames.{FunctionalNames, UnnamedIn};
 ghost use Rattle.meaning.specs.Stated.{isFunctionalFeature, isFunctionalRole};
-ghost use Rattle.meaning.specs.Vocabulary.{axiomAt, vocabularyOf, vocabularyRefusal};
+ghost use Rattle.meaning.specs.Vocabulary.{vocabularyOf, vocabularyRefusal};
+ghost use Rattle.vocabulary.specs.Names.{Walkable};
 ghost use Rattle.words.specs.Sets.{inSet};
 
-// The names of which no individual has two values: a bit for each of the 64 roles and features that a vocabulary may count.
+// Puts those of the names 1 to n into a set that no record of a kind has.
+fn insert_unnamed(v: &[u32], kind: u32, n: u32, names: &mut [u32])
+    requires { ⌜ Walkable (now v) ⌝ }
+    ensures { λ _. ⌜ UnnamedIn (now (v .entry)) kind n (now (names .entry)) (now (names .exit)) ⌝ }
+{
+    let mut named = [0u32; NAME_WORDS];
+    insert_names(v, kind, &mut named[..]);
+    insert_others(names, &named[..], n);
+}
+
+// The names of which no individual has two values.
 pub struct Functional {
-    pub roles: [u32; 2],
-    pub features: [u32; 2],
+    pub roles: [u32; NAME_WORDS],
+    pub features: [u32; NAME_WORDS],
 }
 
 impl Functional {
-    fn with_role(self, r: RoleNo) -> Self
-        ensures { λ s. ⌜ s ≡ withRole self (r .0) ⌝ }
-    {
-        let mut roles = self.roles;
-        let features = self.features;
-        insert(&mut roles, r.0);
-        Functional { roles, features }
-    }
-
-    fn with_feature(self, f: FeatureNo) -> Self
-        ensures { λ s. ⌜ s ≡ withFeature self (f .0) ⌝ }
-    {
-        let roles = self.roles;
-        let mut features = self.features;
-        insert(&mut features, f.0);
-        Functional { roles, features }
-    }
-
-    // The names with what record k says.
-    fn marked(self, v: &[u32], k: u32) -> Self
-        ensures { λ s. ⌜ s ≡ marked self (axiomAt (now (v .entry)) k) ⌝ }
-    {
-        let kind = axiom_kind(v, k);
-        let a = axiom_left(v, k);
-        match kind {
-            3 => self.with_role(RoleNo(a)),
-            4 => self.with_feature(FeatureNo(a)),
-            _ => self,
-        }
-    }
-
-    // The functional names of a vocabulary, by one walk over its records.
+    // A name is functional unless a record lets it have many values; what kinds 3 and 4 say is so by default.
     pub fn of(v: &[u32]) -> Self
         requires { ⌜ vocabularyRefusal (now v) ≡ 0 ⌝ }
         ensures { λ s. ⌜ FunctionalNames (now (v .entry)) s ⌝ }
     {
-        let mut names = Functional {
-            roles: [0; 2],
-            features: [0; 2],
-        };
-        let mut k = first_axiom(v);
-        while k != 0 {
-            names = names.marked(v, k);
-            k = axiom_next(v, k);
-        }
-        names
+        let mut roles = [0u32; NAME_WORDS];
+        let mut features = [0u32; NAME_WORDS];
+        insert_unnamed(v, 6, role_count(v), &mut roles[..]);
+        insert_unnamed(v, 7, feature_count(v), &mut features[..]);
+        Functional { roles, features }
     }
 
     pub fn has_role(self, r: RoleNo) -> bool
