@@ -72,7 +72,7 @@ module _ (v w : List ℕ) (k : ℕ) {kind : ℕ} (e : kind ≡ axiomKind v k) wh
 module _ (v w : List ℕ) (k : ℕ) {kind : ℕ} (e : kind ≡ axiomKind v k)
     (h : (axiomFits v k ≡ true) × RoleRoom v w) where
   pub widen-other : (kind ≡ 5 → ⊥) → w ≡ widened w (axiomAt v k)
-  widen-other n = sym (ap (foldl extend w) (rangePair-other v k (h .0) (λ z. n (e ∙ z))))
+  widen-other n = sym (ap (foldl extend w) (rangePair-other v k (λ z. n (e ∙ z))))
 
   module _ {a : ℕ} (o : kind ≡ 5) (p : a ≡ axiomLeft v k) where
     range-states : rangePair (axiomAt v k) ≡ (a, axiomRight v k) ∷ []
