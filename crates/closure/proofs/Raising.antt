@@ -11,10 +11,9 @@ use Rattle.closure.proofs.Steps.{lifted-length}
 use Rattle.closure.specs.Index.{Entry, Heads, Met, Nexts, Raisable, Raised, Rises, raised-more, raised-none, records}
 use Rattle.closure.specs.Rows.{Closed, Grown, begun, lifted}
 use Rattle.frames.proofs.Frames.{only-none, only-then}
-use Rattle.meaning.proofs.Links.{passed, tests}
 use Rattle.meaning.proofs.Rules.{all-at, head}
 use Rattle.meaning.proofs.Stated.{subclass-at, subclass-named}
-use Rattle.meaning.proofs.Wellformed.{accepted-axioms, accepted-counts, axiom-named}
+use Rattle.meaning.proofs.Wellformed.{accepted-axioms, accepted-counts, accepted-size, axiom-named}
 use Rattle.meaning.specs.Limits.{mostAxioms, mostClasses}
 use Rattle.meaning.specs.Lists.{All, _∈_, here, there}
 use Rattle.meaning.specs.Records.{Name, Onward, falling, lastOf}
@@ -84,10 +83,6 @@ pub record Indexing (v h n : List ℕ) (k : ℕ) : Type 0 where
   pub heads : Heads v h (before k)
   pub nexts : Nexts v n
 
-accepted-last : (v : List ℕ) → vocabularyRefusal v ≡ 0 → lastOf 4 v ≤ mostAxioms
-unfolding vocabularyRefusal
-accepted-last v h = let u = simp (passed 0, passed 1, tests) at h in omega (arith, u .0)
-
 module _ (v : List ℕ) (r : vocabularyRefusal v ≡ 0) where
   pub indexing-starts : {h n : List ℕ} {k : ℕ} → Heads v h 0 → Nexts v n → k ≡ firstAxiom v → Indexing v h n k
   indexing-starts p q e = record { walk = walking-starts (axioms-along v r) e (λ x m. m); heads = later v (omega arith) p; nexts = q }
@@ -106,7 +101,7 @@ module _ (v : List ℕ) (r : vocabularyRefusal v ≡ 0) where
       indexing-met =
           let i = walking-named (w .walk) z in (
             accepted-counts v r .0 .1,
-            record { within = (i .0, omega (arith, i .1, accepted-last v r)); fits = walking-sound (w .walk) z; stated = walking-found (w .walk) z (λ l m. m (axiomAt v k) (here refl)) },
+            record { within = (i .0, omega (arith, i .1, accepted-size v r .2)); fits = walking-sound (w .walk) z; stated = walking-found (w .walk) z (λ l m. m (axiomAt v k) (here refl)) },
             rw (at-record k z) at (w .heads),
             w .nexts,
           )
@@ -123,7 +118,7 @@ module _ (v : List ℕ) (r : vocabularyRefusal v ≡ 0) where
             record { walk = walking-on (w .walk) z p (λ l m y t. m y (there t)); heads = later v on (e .0); nexts = e .1 }
           where
             further : (y : ℕ) → Name (lastOf 4 v) k → Onward (lastOf 4 v) k y → k + 1 ≤ before y
-            further zero i o = omega (arith, i .1, accepted-last v r)
+            further zero i o = omega (arith, i .1, accepted-size v r .2)
             further (suc y) i (inl q) = absurd (omega arith)
             further (suc y) i (inr q) = omega (arith, q .0)
 

@@ -10,10 +10,9 @@ use native.Mathlib.Omega.{arith}
 use borrow.Author.Tests.{eq-eqb, le-leb}
 use Rattle.flattening.proofs.Steps.{word-beside, word-early}
 use Rattle.flattening.specs.Flat.{flatWordAt, flatWords}
-use Rattle.meaning.proofs.Links.{passed, tests}
+use Rattle.meaning.proofs.Wellformed.{accepted-size}
 use Rattle.meaning.proofs.Rules.{order}
 use Rattle.meaning.specs.Accepted.{ChainOf}
-use Rattle.meaning.specs.Limits.{mostVocabularyWords}
 use Rattle.meaning.specs.Lists.{counting}
 use Rattle.meaning.specs.NormalForm.{normalForm}
 use Rattle.meaning.specs.Policy.{Chain}
@@ -78,10 +77,6 @@ module _ (v : List ℕ) where
   pub flat-chain : (c : Chain) → ChainOf v c → ChainOf (flatWords v) c
   flat-chain c h = let s = flat-counts in rw (s .0, s .1, s .2) h
 
-  pub accepted-size : vocabularyRefusal v ≡ 0 → (length v % 4 ≡ 0) × (length v ≤ mostVocabularyWords)
-  unfolding vocabularyRefusal
-  accepted-size h = let u = simp (passed 0, passed 1, tests) at h in (omega arith, omega arith)
-
   module _ (a : vocabularyRefusal v ≡ 0) where
     pub flat-words : Flat v (flatWords v)
     flat-words = record {
@@ -90,7 +85,7 @@ module _ (v : List ℕ) where
       kind = λ k. beside-stays (4 * k) (λ e. omega arith);
       left = λ k. beside-stays (4 * k + 1) (λ e. omega arith);
       next = λ k. beside-stays (4 * k + 3) (λ e. omega arith);
-      right = second-first (accepted-size a .0);
+      right = second-first (accepted-size v a .0);
     }
 
     flat : vocabularyOf (flatWords v) ≡ flattened (vocabularyOf v)

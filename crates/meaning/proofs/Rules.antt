@@ -1,7 +1,7 @@
 -- The laws of Any, All and the tests.
 use Prim.Native.Nat.{_<_, _≤_, ℕ}
-use mathlib.Core.Bool.{Bool, _&&_, _||_, cond, false, not, true}
-use mathlib.Core.List.{List, [], _++_, _∷_, map}
+use mathlib.Core.Bool.{Bool, _&&_, _||_, cond, false, not, or-assoc, true}
+use mathlib.Core.List.{List, [], _++_, _∷_, append-assoc, map}
 use mathlib.Core.Logic.{_⊎_, inl, inr, ⊎-elim}
 use mathlib.Core.Path.{_≡_, refl, subst, sym}
 use lib.Dec.{T, eqb, eqb-refl, leb, leb→le, nleb→lt}
@@ -231,3 +231,13 @@ module _ {A B : Type 0} {P : B → Type 0} where
   pub map-all : (f : A → B) (l : List A) → All P (map f l) → All (λ x. P (f x)) l
   map-all f [] h = nil
   map-all f (x ∷ l) h = cons (head h) (map-all f l (tail h))
+
+-- what a function makes of two lists
+pub flatMap-append : {A B : Type 0} (f : A → List B) (l m : List A) → flatMap f (l ++ m) ≡ flatMap f l ++ flatMap f m
+flatMap-append f [] m = refl
+flatMap-append f (x ∷ l) m = rw (flatMap-append f l m) (sym (append-assoc (f x) (flatMap f l) (flatMap f m)))
+
+-- a test of some of two lists
+pub any-join : {A : Type 0} (p : A → Bool) (l m : List A) → any p (l ++ m) ≡ any p l || any p m
+any-join p [] m = refl
+any-join p (x ∷ l) m = rw (any-join p l m) (sym (or-assoc (p x) (any p l) (any p m)))

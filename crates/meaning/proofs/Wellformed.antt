@@ -1,5 +1,5 @@
 -- What the tables that are not refused state: axioms and terms with names of their series, and not too many.
-use Prim.Native.Nat.{_+_, _≤_, max, suc, zero, ℕ}
+use Prim.Native.Nat.{_%_, _+_, _≤_, max, suc, zero, ℕ}
 use mathlib.Core.Bool.{Bool, So, cond, false, true}
 use mathlib.Core.List.{List, [], _∷_}
 use mathlib.Core.Path.{_≡_, ap, refl}
@@ -12,7 +12,7 @@ use Rattle.meaning.proofs.Refusals.{orElse-zero}
 use Rattle.meaning.proofs.Terms.{chain-at, chain-is, child-enough, next-enough}
 use Rattle.meaning.specs.Accepted.{Accepted, AxiomOf, ChainOf, Here, NamedChain, Reads, ReadsTerms, count, depth, reads-class}
 use Rattle.meaning.specs.Accepted.{reads-end, reads-impossible, reads-interval, reads-none, reads-some, reads-term, total}
-use Rattle.meaning.specs.Limits.{mostClasses, mostFeatures, mostPolicyWords, mostRoles, mostVocabularyWords}
+use Rattle.meaning.specs.Limits.{mostAxioms, mostClasses, mostFeatures, mostPolicyWords, mostRoles, mostVocabularyWords}
 use Rattle.meaning.specs.Lists.{All, any, cons, nil}
 use Rattle.meaning.specs.Policy.{Chain, Policy, Walk, chainFrom, childOf, conjunctAt, end, fault, faultOf, firstTerm, kindOf}
 use Rattle.meaning.specs.Policy.{nextOf, onward, policyOf, policyRefusal, reached, recordFits, soundRecord, termsFrom, walk}
@@ -66,6 +66,10 @@ module _ (v : List ℕ) where
 
   pub accepted-counts : vocabularyRefusal v ≡ 0 → Name mostClasses (classCount v) × (roleCount v ≤ mostRoles) × (featureCount v ≤ mostFeatures)
   accepted-counts h = let u = simp tests at (vocabulary-sound v h .headed) in omega arith
+
+  -- whole records, at most 1,024 behind the header
+  pub accepted-size : vocabularyRefusal v ≡ 0 → (length v % 4 ≡ 0) × (length v ≤ mostVocabularyWords) × (lastOf 4 v ≤ mostAxioms)
+  accepted-size h = let u = simp tests at (vocabulary-sound v h .sized) in (u .0, u .1 .1, omega arith)
 
 -- ---- the walk
 

@@ -13,7 +13,7 @@ use Rattle.functional.specs.declared.Functional.{Functional}
 use Rattle.layout.specs.Places.{roleRow, rowPlace, tablesEnd}
 use Rattle.layout.specs.Tables.{Above}
 use Rattle.meaning.proofs.Bounds.{rangePairs-named}
-use Rattle.meaning.proofs.Rules.{all-append, head, tail}
+use Rattle.meaning.proofs.Rules.{all-append, any-join, head, tail}
 use Rattle.meaning.proofs.Wellformed.{accepted-counts}
 use Rattle.meaning.specs.Accepted.{ChainOf, count}
 use Rattle.meaning.specs.Intervals.{Constraint}
@@ -166,10 +166,6 @@ front-of true true c = refl
 front-of true false c = refl
 front-of false b c = refl
 
-pub any-append : {A : Type 0} (p : A → Bool) (l m : List A) → any p (l ++ m) ≡ any p l || any p m
-any-append p [] m = refl
-any-append p (x ∷ l) m = ap (λ (b : Bool). p x || b) (any-append p l m) ∙ sym (or-assoc (p x) (any p l) (any p m))
-
 hasBottom-roles : (c : Chain) → hasBottom c ≡ bottomHere c || hasBottomAll (roles c)
 hasBottom-roles end = refl
 hasBottom-roles (class a next) = hasBottom-roles next
@@ -183,7 +179,7 @@ hasBottomAll-roles (a ∷ l) =
     ap (λ (b : Bool). b || hasBottomAll l) (hasBottom-roles (a .child))
     ∙ ap (λ (b : Bool). (bottomHere (a .child) || hasBottomAll (roles (a .child))) || b) (hasBottomAll-roles l)
     ∙ swap (bottomHere (a .child)) (hasBottomAll (roles (a .child))) (bottomHereAll l) (hasBottomAll (rolesAll l))
-    ∙ ap (λ (b : Bool). (bottomHere (a .child) || bottomHereAll l) || b) (sym (any-append (λ x. hasBottom (x .child)) (roles (a .child)) (rolesAll l)))
+    ∙ ap (λ (b : Bool). (bottomHere (a .child) || bottomHereAll l) || b) (sym (any-join (λ x. hasBottom (x .child)) (roles (a .child)) (rolesAll l)))
 
 pub hasBottomAll-filter : (p : Arm → Bool) (l : List Arm) → hasBottomAll l ≡ hasBottomAll (filter p l) || hasBottomAll (filter (λ a. not (p a)) l)
 hasBottomAll-filter p [] = refl
@@ -278,5 +274,5 @@ module _ {v w : List ℕ} {f : Functional} (prepared : Prepared v w f) where
   told-above long l r ws h n t b =
       t b ∙ ap (λ (y : Bool). y || inSet (startOf (front w) r) b) (rows-say long b (named-all v l [] n nil))
       ∙ ap (λ (y : Bool). any (λ c. isBelow (vocabularyOf v) c b) (classesAll l []) || y) (start-says long b r h)
-      ∙ sym (any-append (λ c. isBelow (vocabularyOf v) c b) (classesAll l []) (ranges (vocabularyOf v) r))
+      ∙ sym (any-join (λ c. isBelow (vocabularyOf v) c b) (classesAll l []) (ranges (vocabularyOf v) r))
       ∙ ap (any (λ c. isBelow (vocabularyOf v) c b)) (sym (all-append-classes l [] (ranges (vocabularyOf v) r)))

@@ -11,7 +11,8 @@ use Rattle.frames.proofs.Frames.{only-before, only-none, only-set, only-then, o
 use Rattle.frames.specs.Frames.{Only, Span}
 use Rattle.layout.specs.Places.{mostPairs, pairPlace, pairsAt, pairsEnd}
 use Rattle.meaning.proofs.Counting.{counted-more, counted-same}
-use Rattle.meaning.proofs.Links.{falling-le, passed, tests}
+use Rattle.meaning.proofs.Links.{falling-le}
+use Rattle.meaning.proofs.Wellformed.{accepted-size}
 use Rattle.meaning.proofs.Stated.{disjointPair-at, disjointPair-one, disjointPair-other}
 use Rattle.meaning.specs.Lists.{counting, flatMap}
 use Rattle.meaning.specs.Records.{falling, lastOf}
@@ -120,10 +121,6 @@ pub record Listing (v w₀ : List ℕ) (k : ℕ) (w : List ℕ) : Type 0 where
   pub room : pairCount w + falling (lastOf 4 v) k ≤ mostPairs
   pub walk : Folding v gathered [] k (pairsIn w)
 
-few-records : (v : List ℕ) → vocabularyRefusal v ≡ 0 → lastOf 4 v ≤ mostPairs
-unfolding vocabularyRefusal
-few-records v h = let u = simp (passed 0, passed 1, tests) at h in omega arith
-
 -- from w, with the list begun in w₀
 module _ (v w : List ℕ) (r : vocabularyRefusal v ≡ 0) (fits : pairsEnd ≤ length w) where
   none : pairsIn (set w pairsAt 0) ≡ []
@@ -132,7 +129,7 @@ module _ (v w : List ℕ) (r : vocabularyRefusal v ≡ 0) (fits : pairsEnd ≤ l
   pub listing-starts : {k : ℕ} → k ≡ firstAxiom v → Listing v (set w pairsAt 0) k (set w pairsAt 0)
   listing-starts {k} e = record {
     only = only-none;
-    room = omega (arith, getD-set-same w pairsAt 0 0 (omega arith), falling-le (lastOf 4 v) k, few-records v r);
+    room = omega (arith, getD-set-same w pairsAt 0 0 (omega arith), falling-le (lastOf 4 v) k, accepted-size v r .2);
     walk = rw none (folding-starts r e);
   }
 

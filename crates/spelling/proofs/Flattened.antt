@@ -1,25 +1,27 @@
 -- A vocabulary whose records of kind 1 each place a class below itself: normal forms are the same, and below is equality.
 use Prim.Native.Nat.{_<_, suc, zero, ℕ}
-use mathlib.Core.Bool.{Bool, _&&_, _||_, cond, false, true}
+use mathlib.Core.Bool.{Bool, _&&_, _||_, cond, false, not, true}
 use mathlib.Core.List.{List, [], _++_, _∷_, map}
-use mathlib.Core.Path.{_∙_, _≡_, ap, ap₂, fun-ext, refl}
+use mathlib.Core.Path.{_∙_, _≡_, ap, ap₂, fun-ext, refl, sym}
 use lib.Dec.{T, eqb, eqb→eq}
 use lib.ListN.{getD, length}
 use native.Mathlib.Omega.{arith}
 use borrow.Author.Tests.{eqb-false}
 use mathlib.Core.Logic.{⊎-elim}
-use Rattle.meaning.proofs.Rules.{T-and, T-or, and-T, eqb-of, or-left, same-test}
+use Rattle.meaning.proofs.Rules.{T-and, T-or, and-T, eqb-of, flatMap-append, or-left, same-test}
+use Rattle.meaning.proofs.Wellformed.{sound-vocabulary, vocabulary-sound}
 use Rattle.meaning.specs.Intervals.{Constraint}
-use Rattle.meaning.specs.Limits.{mostVocabularyWords}
-use Rattle.meaning.specs.Lists.{any, flatMap}
+use Rattle.meaning.specs.Lists.{any, counting, filter, flatMap}
 use Rattle.meaning.specs.NormalForm.{Form, add, bare, normalForm, placeConstraint, placeSuccessor, withClass, withConstraint, withSuccessor}
 use Rattle.meaning.specs.Policy.{Chain, class, end, impossible, interval, some}
-use Rattle.meaning.specs.Records.{isName, isOnward, isSized, lastOf}
-use Rattle.meaning.specs.Stated.{closure, functionalFeatureName, functionalFeatures, functionalRoleName, functionalRoles, isBelow}
-use Rattle.meaning.specs.Stated.{isFunctionalFeature, isFunctionalRole, rangePair, rangePairs, ranges, rangesIn, subclass, subclasses}
+use Rattle.meaning.specs.Records.{isName, isOnward, lastOf}
+use Rattle.meaning.specs.Stated.{closure, isBelow, isFunctionalFeature, isFunctionalRole, rangePair, rangePairs, ranges, rangesIn}
+use Rattle.meaning.specs.Stated.{subclass, subclasses}
 use Rattle.meaning.specs.Vocabulary.{Axiom, Vocabulary, axiomAt, axiomFits, axiomKind, axiomLeft, axiomNext, axiomRight, axiomsFrom}
-use Rattle.meaning.specs.Vocabulary.{axiomsOf, axiomsRefusal, below, classCount, disjoint, featureCount, firstAxiom, functionalFeature}
-use Rattle.meaning.specs.Vocabulary.{functionalRole, headedVocabulary, range, roleCount, soundAxiom, vocabularyOf, vocabularyRefusal}
+use Rattle.meaning.specs.Vocabulary.{axiomsOf, axiomsRefusal, below, classCount, defaults, disjoint, featureCount, firstAxiom}
+use Rattle.meaning.specs.Vocabulary.{functionalFeature, functionalFeatureName, functionalRole, functionalRoleName, isNamed, isOpposed}
+use Rattle.meaning.specs.Vocabulary.{manyFeature, manyFeatureName, manyRole, manyRoleName, range, roleCount, soundAxiom, stated}
+use Rattle.meaning.specs.Vocabulary.{unnamed, vocabularyOf, vocabularyRefusal}
 
 abbrev pub flatOne : Axiom → Axiom
 flatOne (below a b) = below a a
@@ -27,6 +29,8 @@ flatOne (disjoint a b) = disjoint a b
 flatOne (functionalRole r) = functionalRole r
 flatOne (functionalFeature f) = functionalFeature f
 flatOne (range r c) = range r c
+flatOne (manyRole r) = manyRole r
+flatOne (manyFeature f) = manyFeature f
 
 abbrev pub flattened : Vocabulary → Vocabulary
 flattened K = record { classes = K .classes; roles = K .roles; features = K .features; axioms = map flatOne (K .axioms) }
@@ -63,44 +67,64 @@ module _ (K L : Vocabulary) (one : (r : ℕ) → isFunctionalRole K r ≡ isFunc
   unfolding normalForm
   normal-by c = ap (λ (g : Form → Form). g (bare [])) (add-by c)
 
--- what flattening keeps is stated as before
-kept : {A : Type 0} (f : Axiom → List A) → ((x : Axiom) → f (flatOne x) ≡ f x) → (l : List Axiom) → flatMap f (map flatOne l) ≡ flatMap f l
-kept f h [] = refl
-kept f h (x ∷ l) = ap₂ _++_ (h x) (kept f h l)
+-- what a selector takes that asks nothing of a class above another is the same
+module _ {A : Type 0} (f : Axiom → List A) (h : (a b : ℕ) → f (below a a) ≡ f (below a b)) where
+  kept-one : (x : Axiom) → f (flatOne x) ≡ f x
+  kept-one (below a b) = h a b
+  kept-one (disjoint a b) = refl
+  kept-one (functionalRole r) = refl
+  kept-one (functionalFeature g) = refl
+  kept-one (range r c) = refl
+  kept-one (manyRole r) = refl
+  kept-one (manyFeature g) = refl
 
-role-kept : (x : Axiom) → functionalRoleName (flatOne x) ≡ functionalRoleName x
-role-kept (below a b) = refl
-role-kept (disjoint a b) = refl
-role-kept (functionalRole r) = refl
-role-kept (functionalFeature f) = refl
-role-kept (range r c) = refl
+  kept : (l : List Axiom) → flatMap f (map flatOne l) ≡ flatMap f l
+  kept [] = refl
+  kept (x ∷ l) = ap₂ _++_ (kept-one x) (kept l)
 
-feature-kept : (x : Axiom) → functionalFeatureName (flatOne x) ≡ functionalFeatureName x
-feature-kept (below a b) = refl
-feature-kept (disjoint a b) = refl
-feature-kept (functionalRole r) = refl
-feature-kept (functionalFeature f) = refl
-feature-kept (range r c) = refl
+module _ (select : Axiom → List ℕ) (h : (a b : ℕ) → select (below a a) ≡ select (below a b)) (l : List Axiom) where
+  kept-named : isNamed select (map flatOne l) ≡ isNamed select l
+  unfolding isNamed
+  kept-named = fun-ext (λ x. ap (any (eqb x)) (kept select h l))
 
-range-kept : (x : Axiom) → rangePair (flatOne x) ≡ rangePair x
-range-kept (below a b) = refl
-range-kept (disjoint a b) = refl
-range-kept (functionalRole r) = refl
-range-kept (functionalFeature f) = refl
-range-kept (range r c) = refl
+  kept-unnamed : (n : ℕ) → unnamed select (map flatOne l) n ≡ unnamed select l n
+  unfolding unnamed
+  kept-unnamed n = ap (λ (p : ℕ → Bool). filter (λ x. not (p x)) (counting 1 n)) kept-named
+
+  -- with more axioms behind them, too
+  kept-stated : (d : List Axiom) → isNamed select (map flatOne l ++ d) ≡ isNamed select (l ++ d)
+  unfolding isNamed
+  kept-stated d =
+      fun-ext (λ x.
+      ap (any (eqb x)) (flatMap-append select (map flatOne l) d ∙ ap (λ (m : List ℕ). m ++ flatMap select d) (kept select h l) ∙ sym (flatMap-append select l d)))
+
+flattened-opposed : (l : List Axiom) → isOpposed (map flatOne l) ≡ isOpposed l
+unfolding isOpposed
+flattened-opposed l =
+    rw (kept-named manyRoleName (λ a b. refl) l, kept-named manyFeatureName (λ a b. refl) l, kept functionalRoleName (λ a b. refl) l,
+    kept functionalFeatureName (λ a b. refl) l)
 
 module _ (K : Vocabulary) where
+  flattened-defaults : defaults (flattened K) ≡ defaults K
+  unfolding defaults
+  flattened-defaults = rw (kept-unnamed manyRoleName (λ a b. refl) (K .axioms), kept-unnamed manyFeatureName (λ a b. refl) (K .axioms))
+
+  flattened-stated : (select : Axiom → List ℕ) → ((a b : ℕ) → select (below a a) ≡ select (below a b)) → (x : ℕ) →
+      isNamed select (stated (flattened K)) x ≡ isNamed select (stated K) x
+  unfolding stated
+  flattened-stated select h x = rw flattened-defaults (ap (λ (p : ℕ → Bool). p x) (kept-stated select h (K .axioms) (defaults K)))
+
   flattened-role : (r : ℕ) → isFunctionalRole (flattened K) r ≡ isFunctionalRole K r
-  unfolding isFunctionalRole functionalRoles
-  flattened-role r = ap (any (eqb r)) (kept functionalRoleName role-kept (K .axioms))
+  unfolding isFunctionalRole
+  flattened-role = flattened-stated functionalRoleName (λ a b. refl)
 
   flattened-feature : (f : ℕ) → isFunctionalFeature (flattened K) f ≡ isFunctionalFeature K f
-  unfolding isFunctionalFeature functionalFeatures
-  flattened-feature f = ap (any (eqb f)) (kept functionalFeatureName feature-kept (K .axioms))
+  unfolding isFunctionalFeature
+  flattened-feature = flattened-stated functionalFeatureName (λ a b. refl)
 
   flattened-ranges : (r : ℕ) → ranges (flattened K) r ≡ ranges K r
   unfolding ranges rangePairs
-  flattened-ranges r = ap (λ (l : List (ℕ × ℕ)). rangesIn l r) (kept rangePair range-kept (K .axioms))
+  flattened-ranges r = ap (λ (l : List (ℕ × ℕ)). rangesIn l r) (kept rangePair (λ a b. refl) (K .axioms))
 
   pub flattened-normal : (c : Chain) → normalForm (flattened K) c ≡ normalForm K c
   flattened-normal c = normal-by (flattened K) K flattened-role flattened-feature flattened-ranges c
@@ -118,6 +142,8 @@ below-flat (disjoint x y ∷ l) a b = below-flat l a b
 below-flat (functionalRole q ∷ l) a b = below-flat l a b
 below-flat (functionalFeature f ∷ l) a b = below-flat l a b
 below-flat (range q c ∷ l) a b = below-flat l a b
+below-flat (manyRole q ∷ l) a b = below-flat l a b
+below-flat (manyFeature f ∷ l) a b = below-flat l a b
 
 pub flattened-below : (K : Vocabulary) (a b : ℕ) → isBelow (flattened K) a b ≡ eqb a b
 unfolding isBelow subclasses
@@ -138,17 +164,21 @@ module _ (v u : List ℕ) (w : Flat v u) where
   axiom-flat : (k : ℕ) → (k ≡ 0 → ⊥) → axiomAt u k ≡ flatOne (axiomAt v k)
   axiom-flat k n =
       rw (w .kind k, w .left k, w .right k n)
-      (go (axiomLeft v k) (axiomRight v k) (eqb (axiomKind v k) 1) (eqb (axiomKind v k) 2) (eqb (axiomKind v k) 3) (eqb (axiomKind v k) 4))
+      (go (axiomLeft v k) (axiomRight v k) (eqb (axiomKind v k) 1) (eqb (axiomKind v k) 2) (eqb (axiomKind v k) 3) (eqb (axiomKind v k) 4)
+      (eqb (axiomKind v k) 5) (eqb (axiomKind v k) 6))
     where
-      go : (a b : ℕ) (k₁ k₂ k₃ k₄ : Bool) →
-          cond k₁ (below a (cond k₁ a b))
-          (cond k₂ (disjoint a (cond k₁ a b)) (cond k₃ (functionalRole a) (cond k₄ (functionalFeature a) (range a (cond k₁ a b)))))
-          ≡ flatOne (cond k₁ (below a b) (cond k₂ (disjoint a b) (cond k₃ (functionalRole a) (cond k₄ (functionalFeature a) (range a b)))))
-      go a b true k₂ k₃ k₄ = refl
-      go a b false true k₃ k₄ = refl
-      go a b false false true k₄ = refl
-      go a b false false false true = refl
-      go a b false false false false = refl
+      go : (a b : ℕ) (k₁ k₂ k₃ k₄ k₅ k₆ : Bool) →
+          cond k₁ (below a (cond k₁ a b)) (cond k₂ (disjoint a (cond k₁ a b)) (cond k₃ (functionalRole a) (cond k₄ (functionalFeature a)
+          (cond k₅ (range a (cond k₁ a b)) (cond k₆ (manyRole a) (manyFeature a))))))
+          ≡ flatOne (cond k₁ (below a b) (cond k₂ (disjoint a b) (cond k₃ (functionalRole a) (cond k₄ (functionalFeature a)
+          (cond k₅ (range a b) (cond k₆ (manyRole a) (manyFeature a)))))))
+      go a b true k₂ k₃ k₄ k₅ k₆ = refl
+      go a b false true k₃ k₄ k₅ k₆ = refl
+      go a b false false true k₄ k₅ k₆ = refl
+      go a b false false false true k₅ k₆ = refl
+      go a b false false false false true k₆ = refl
+      go a b false false false false false true = refl
+      go a b false false false false false false = refl
 
   axioms-flat : (f k : ℕ) → axiomsFrom f u k ≡ map flatOne (axiomsFrom f v k)
   axioms-flat zero k = refl
@@ -171,7 +201,7 @@ module _ (v u : List ℕ) (w : Flat v u) where
   fits-flat k n =
       rw (w .kind k, w .left k, w .right k n, w .header 0 (omega arith), w .header 1 (omega arith), w .header 2 (omega arith))
       (go (axiomLeft v k) (axiomRight v k) (eqb (axiomKind v k) 1) (eqb (axiomKind v k) 2) (eqb (axiomKind v k) 3) (eqb (axiomKind v k) 4)
-      (eqb (axiomKind v k) 5))
+      (eqb (axiomKind v k) 5) (eqb (axiomKind v k) 6) (eqb (axiomKind v k) 7))
     where
       N : ℕ
       N = classCount v
@@ -182,13 +212,14 @@ module _ (v u : List ℕ) (w : Flat v u) where
       F : ℕ
       F = featureCount v
 
-      go : (a b : ℕ) (k₁ k₂ k₃ k₄ k₅ : Bool) →
-          T (cond k₁ (isName N a && isName N b)
-          (cond k₂ (isName N a && isName N b) (cond k₃ (isName R a && eqb b 0) (cond k₄ (isName F a && eqb b 0) (k₅ && (isName R a && isName N b)))))) →
+      go : (a b : ℕ) (k₁ k₂ k₃ k₄ k₅ k₆ k₇ : Bool) →
+          T (cond k₁ (isName N a && isName N b) (cond k₂ (isName N a && isName N b) (cond k₃ (isName R a && eqb b 0) (cond k₄ (isName F a && eqb b 0)
+          (cond k₅ (isName R a && isName N b) (cond k₆ (isName R a && eqb b 0) (k₇ && (isName F a && eqb b 0)))))))) →
           T (cond k₁ (isName N a && isName N (cond k₁ a b)) (cond k₂ (isName N a && isName N (cond k₁ a b)) (cond k₃ (isName R a && eqb (cond k₁ a b) 0)
-          (cond k₄ (isName F a && eqb (cond k₁ a b) 0) (k₅ && (isName R a && isName N (cond k₁ a b)))))))
-      go a b true k₂ k₃ k₄ k₅ t = let s = T-and (isName N a) (isName N b) t in and-T (isName N a) (isName N a) (s .0) (s .0)
-      go a b false k₂ k₃ k₄ k₅ t = t
+          (cond k₄ (isName F a && eqb (cond k₁ a b) 0) (cond k₅ (isName R a && isName N (cond k₁ a b)) (cond k₆ (isName R a && eqb (cond k₁ a b) 0)
+          (k₇ && (isName F a && eqb (cond k₁ a b) 0))))))))
+      go a b true k₂ k₃ k₄ k₅ k₆ k₇ t = let s = T-and (isName N a) (isName N b) t in and-T (isName N a) (isName N a) (s .0) (s .0)
+      go a b false k₂ k₃ k₄ k₅ k₆ k₇ t = t
 
   chain-flat : (f k : ℕ) → axiomsRefusal f v k ≡ 0 → axiomsRefusal f u k ≡ 0
   chain-flat zero k e = refl
@@ -208,12 +239,12 @@ module _ (v u : List ℕ) (w : Flat v u) where
       go false i false b f g e = absurd (omega arith)
 
   pub flat-accepted : vocabularyRefusal v ≡ 0 → vocabularyRefusal u ≡ 0
-  unfolding vocabularyRefusal
-  flat-accepted = rw (w .long, w .header 0 (omega arith), w .header 1 (omega arith), w .header 2 (omega arith), w .header 3 (omega arith))
-      (λ e. go (isSized 4 mostVocabularyWords (length v)) (headedVocabulary v) (chain-flat (length v) (firstAxiom v)) e)
-    where
-      go : (a b : Bool) → (axiomsRefusal (length v) v (firstAxiom v) ≡ 0 → axiomsRefusal (length v) u (firstAxiom v) ≡ 0) →
-          cond a (cond b (axiomsRefusal (length v) v (firstAxiom v)) 2) 1 ≡ 0 → cond a (cond b (axiomsRefusal (length v) u (firstAxiom v)) 2) 1 ≡ 0
-      go true true f e = f e
-      go true false f e = e
-      go false b f e = e
+  unfolding vocabularyOf
+  flat-accepted h =
+      let s = vocabulary-sound v h in
+      sound-vocabulary u (record {
+        sized = rw (w .long) (s .sized);
+        headed = rw (w .long, w .header 0 (omega arith), w .header 1 (omega arith), w .header 2 (omega arith), w .header 3 (omega arith)) (s .headed);
+        chain = rw (w .long, w .header 3 (omega arith)) (chain-flat (length v) (firstAxiom v) (s .chain));
+        apart = ap (λ (K : Vocabulary). isOpposed (K .axioms)) flat-vocabulary ∙ flattened-opposed (axiomsOf v) ∙ s .apart;
+      })

@@ -5,8 +5,9 @@ use mathlib.Core.List.{List, [], _∷_}
 use mathlib.Core.Path.{_≡_, subst, sym}
 use lib.Dec.{eqb}
 use Rattle.meaning.proofs.Rules.{all-append, all-at, all-map, all-of, head, tail}
+use Rattle.meaning.proofs.Defaults.{accepted-stated}
 use Rattle.meaning.proofs.Stated.{all-stated}
-use Rattle.meaning.proofs.Wellformed.{accepted-axioms, accepted-terms}
+use Rattle.meaning.proofs.Wellformed.{accepted-terms}
 use Rattle.meaning.specs.Accepted.{ChainOf, NamedChain}
 use Rattle.meaning.specs.Intervals.{Constraint, meet}
 use Rattle.meaning.specs.Lists.{All, _∈_, cons, nil}
@@ -122,4 +123,4 @@ spelled-named v p a b =
     let t = term-of (vocabularyOf v) (policyOf p) c m in
     subst (ChainOf v) (sym (t .3))
     (term-named (classCount v) (roleCount v) (featureCount v) (vocabularyOf v)
-    (λ r c m. all-stated (vocabularyOf v) (accepted-axioms v a) .ranged r c m .1) (t .0) (all-at (accepted-terms v p b) (t .1))))
+    (λ r c m. all-stated (vocabularyOf v) (accepted-stated v a) .ranged r c m .1) (t .0) (all-at (accepted-terms v p b) (t .1))))

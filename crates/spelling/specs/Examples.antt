@@ -8,18 +8,23 @@ use Rattle.meaning.specs.Answers.{result, wrote}
 use Rattle.meaning.specs.Limits.{workSize}
 use Rattle.meaning.specs.Operations.{refuses}
 use Rattle.meaning.specs.Policy.{Chain, Policy, class, end, impossible, interval, some}
-use Rattle.meaning.specs.Vocabulary.{Vocabulary, below, disjoint, functionalFeature, functionalRole, range, vocabularyWords}
+use Rattle.meaning.specs.Vocabulary.{Vocabulary, below, disjoint, functionalRole, manyFeature, manyRole, range, vocabularyWords}
 use Rattle.spelling.specs.Operation.{spell}
 use Rattle.spelling.specs.Spelling.{spelled, tooLong}
 use Rattle.spelling.specs.Words.{policyWords}
 
--- 1 is below 2, 3 and 4 are disjoint; roles 1 and 2 and feature 1 are functional; what role 3 reaches is in 5
+-- 1 is below 2, 3 and 4 are disjoint; roles 1 and 2 and feature 1 are functional, one stated and two by default; what role 3 reaches is
+-- in 5
 abbrev pub K : Vocabulary
 K = record {
   classes = 9;
   roles = 5;
   features = 3;
-  axioms = below 1 2 ∷ (disjoint 3 4 ∷ (functionalRole 1 ∷ (functionalRole 2 ∷ (functionalFeature 1 ∷ (range 3 5 ∷ [])))));
+  axioms =
+      below 1 2
+      ∷ (disjoint 3 4
+      ∷ (functionalRole 1
+      ∷ (range 3 5 ∷ (manyRole 3 ∷ (manyRole 4 ∷ (manyRole 5 ∷ (manyFeature 2 ∷ (manyFeature 3 ∷ []))))))));
 }
 
 -- a policy and its spelling; whether one is too long; the words that are written for one; a policy's words with the lengths of the work

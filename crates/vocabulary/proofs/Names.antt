@@ -1,6 +1,6 @@
 -- The walks over the records of a kind: their names put into a set, and found in one.
 use Prim.Native.Nat.{_<_, _≤_, ℕ}
-use mathlib.Core.Bool.{Bool, _||_, cond, false, or-assoc, or-false, true}
+use mathlib.Core.Bool.{Bool, _||_, cond, false, or-false, true}
 use mathlib.Core.List.{List, [], _++_, _∷_, foldl-append}
 use mathlib.Core.Path.{_∙_, _≡_, ap, fun-ext, refl, sym}
 use lib.Dec.{eqb}
@@ -8,7 +8,7 @@ use lib.ListN.{length, replicate}
 use native.Mathlib.Omega.{arith}
 use borrow.Author.Tests.{eq-eqb, eqb-false, eqb-true, ne-eqb}
 use Rattle.meaning.proofs.Links.{tests}
-use Rattle.meaning.proofs.Rules.{all-flatMap, all-mono}
+use Rattle.meaning.proofs.Rules.{all-flatMap, all-mono, any-join}
 use Rattle.meaning.proofs.Stated.{functionalFeatureName-at, functionalFeatureName-other, functionalRoleName-at, functionalRoleName-other}
 use Rattle.meaning.proofs.Stated.{manyFeatureName-at, manyFeatureName-named, manyFeatureName-other, manyRoleName-at, manyRoleName-named}
 use Rattle.meaning.proofs.Stated.{manyRoleName-other}
@@ -82,10 +82,6 @@ module _ {v w₀ : List ℕ} {kind k : ℕ} where
             rw (q, ← s v k (walking-sound (p .walk) n)) (sym (foldl-append including w (select (axiomAt v k)) (flatMap select l)) ∙ h select s));
           }
 
-any-append : (p : ℕ → Bool) (l m : List ℕ) → any p (l ++ m) ≡ any p l || any p m
-any-append p [] m = refl
-any-append p (x ∷ l) m = ap (λ (b : Bool). p x || b) (any-append p l m) ∙ sym (or-assoc (p x) (any p l) (any p m))
-
 -- a loop that looks for one in a set has come to record k
 pub record Seeking (v : List ℕ) (kind : ℕ) (names : List ℕ) (k : ℕ) : Type 0 where
   pub walk : Walking (axiomLinks v) (λ l. (select : Axiom → List ℕ) → Selects kind select →
@@ -106,7 +102,7 @@ module _ {v names : List ℕ} {kind k : ℕ} where
           any (inSet names) (flatMap select (axiomAt v k ∷ l)) ≡ b || any (inSet names) (flatMap select l)
       unfolding axiomLinks
       left l select s =
-          any-append (inSet names) (select (axiomAt v k)) (flatMap select l)
+          any-join (inSet names) (select (axiomAt v k)) (flatMap select l)
           ∙ ap (λ (c : Bool). c || any (inSet names) (flatMap select l)) (ap (any (inSet names)) (s v k (walking-sound (p .walk) n)) ∙ sym q)
 
       pub seeking-found : b ≡ true → NameFound v kind names true
