@@ -3,6 +3,8 @@
  * A slice is a pointer and a number of elements. The pointer is aligned and not null, also where the number is 0. Slices and numbers
  * that are written overlap nothing else that is lent. The words of a slice may be anything: an operation takes any contents and ends.
  *
+ * A vocabulary's roles and features have one value each, unless a record of kind 6 or 7 lets one have several (docs/SPECIFICATION.md, 3.2).
+ *
  * A function returns the kind of its answer and writes the answer's values, 0 where it has none:
  *
  *   0  refused: *number is the refusal's number; docs/REFUSALS.md says what each one means

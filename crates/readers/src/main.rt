@@ -4,10 +4,11 @@ use libc::STDOUT_FILENO;
 use meaning::Reading;
 ghost use Prim.Native.Nat.{_<_};
 
-const VOCABULARY: [u32; 36] = [
+// A record of each kind; damage makes names that stand both ways, too.
+const VOCABULARY: [u32; 44] = [
     4,
     3,
-    1,
+    2,
     1,
     1,
     2,
@@ -40,6 +41,14 @@ const VOCABULARY: [u32; 36] = [
     5,
     3,
     1,
+    9,
+    6,
+    3,
+    0,
+    10,
+    7,
+    2,
+    0,
     0,
 ];
 
@@ -139,10 +148,10 @@ fn policy_to(v: &[u32], p: &[u32], n: usize) {
 }
 
 fn vocabularies() {
-    for n in 0..37usize {
+    for n in 0..45usize {
         vocabulary_to(&VOCABULARY, n);
     }
-    for i in 0..36usize {
+    for i in 0..44usize {
         for j in 0..15usize {
             let mut damaged = VOCABULARY;
             damaged[i] = VALUES[j];

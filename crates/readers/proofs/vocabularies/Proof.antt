@@ -4,22 +4,22 @@ use Rattle.readers.proofs.vocabularies.Statement.{statement}
 use Rattle.readers.proofs.vocabularies.Tie as tie
 
 abbrev Inv-loop : tie.InvT-loop
-Inv-loop n₀ t5 n = n ≤ 37
+Inv-loop n₀ t5 n = n ≤ 45
 
 abbrev μ-loop : tie.MeasureT-loop
-μ-loop n₀ t5 n = 37 - n
+μ-loop n₀ t5 n = 45 - n
 
 abbrev Inv-loop3 : tie.InvT-loop3
-Inv-loop3 i j₀ j = (i < 36) × (j ≤ 15)
+Inv-loop3 i j₀ j = (i < 44) × (j ≤ 15)
 
 abbrev μ-loop3 : tie.MeasureT-loop3
 μ-loop3 i j₀ j = 15 - j
 
 abbrev Inv-loop2 : tie.InvT-loop2
-Inv-loop2 i₀ i = i ≤ 36
+Inv-loop2 i₀ i = i ≤ 44
 
 abbrev μ-loop2 : tie.MeasureT-loop2
-μ-loop2 i₀ i = 36 - i
+μ-loop2 i₀ i = 44 - i
 
 slice-aggregate-vocabulary-to :
     tie.Need-slice-aggregate-vocabulary-to Inv-loop μ-loop Inv-loop3 μ-loop3 Inv-loop2 μ-loop2
