@@ -15,10 +15,11 @@ use Rattle.meaning.specs.Policy.{policyOf, policyRefusal, walk}
 use Rattle.meaning.specs.Program.{decimal, printed, program}
 use Rattle.meaning.specs.Splitting.{combinationCount, combinations}
 use Rattle.meaning.specs.Stated.{disjointPairs, isBelow, isFunctionalFeature, isFunctionalRole, rangePairs, ranges, subclasses}
-use Rattle.meaning.specs.Vocabulary.{axiomsOf, defaults, isNamed, isOpposed, stated, unnamed, vocabularyOf, vocabularyRefusal}
+use Rattle.meaning.specs.Vocabulary.{axiomsOf, defaults, isNamed, isOpposed, namesBy, stated, unnamed, vocabularyOf}
+use Rattle.meaning.specs.Vocabulary.{vocabularyRefusal}
 
 pub answered : All Correct (starred ++ further)
-unfolding isNamed unnamed defaults stated isOpposed vocabularyRefusal axiomsOf vocabularyOf subclasses disjointPairs rangePairs isBelow isFunctionalRole isFunctionalFeature ranges policyRefusal walk policyOf normalForm possible valueOf combinations combinationCount passes firstFailure decide tooMany shortWay resolve crowded canonicalModel modelWords countermodel modelRefusal factsOf refutes inputRefusal readVocabulary readPolicy readSecondPolicy possibility complianceOf compliance equalityOf equality modelCheck decimal printed program
+unfolding namesBy isNamed unnamed defaults stated isOpposed vocabularyRefusal axiomsOf vocabularyOf subclasses disjointPairs rangePairs isBelow isFunctionalRole isFunctionalFeature ranges policyRefusal walk policyOf normalForm possible valueOf combinations combinationCount passes firstFailure decide tooMany shortWay resolve crowded canonicalModel modelWords countermodel modelRefusal factsOf refutes inputRefusal readVocabulary readPolicy readSecondPolicy possibility complianceOf compliance equalityOf equality modelCheck decimal printed program
 answered =
     cons refl (cons refl (cons refl (cons refl (cons refl (cons refl (cons refl (cons refl (cons refl (cons refl (cons refl (cons refl
     (cons refl (cons refl (cons refl (cons refl (cons refl (cons refl (cons refl (cons refl (cons refl (cons refl (cons refl (cons refl

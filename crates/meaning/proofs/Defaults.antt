@@ -28,10 +28,9 @@ use Rattle.meaning.specs.Promises.{withPairs, withValues}
 use Rattle.meaning.specs.Records.{Name, isName, isSized, orElse}
 use Rattle.meaning.specs.Stated.{isFunctionalFeature, isFunctionalRole, isManyFeature, isManyRole, ranges}
 use Rattle.meaning.specs.Vocabulary.{Axiom, Vocabulary, axiomNext, axiomsOf, axiomsRefusal, below, defaults, disjoint}
-use Rattle.meaning.specs.Vocabulary.{featureCount, firstAxiom, functionalFeature, functionalFeatureName, functionalRole}
-use Rattle.meaning.specs.Vocabulary.{functionalRoleName, headedVocabulary, isNamed, isOpposed, manyFeature, manyFeatureName}
-use Rattle.meaning.specs.Vocabulary.{manyRole, manyRoleName, range, roleCount, soundAxiom, stated, unnamed, vocabularyOf}
-use Rattle.meaning.specs.Vocabulary.{vocabularyRefusal}
+use Rattle.meaning.specs.Vocabulary.{featureCount, firstAxiom, functionalFeature, functionalRole, headedVocabulary, isNamed}
+use Rattle.meaning.specs.Vocabulary.{isOpposed, manyFeature, manyRole, nameBy, namesBy, range, roleCount, soundAxiom, stated}
+use Rattle.meaning.specs.Vocabulary.{unnamed, vocabularyOf, vocabularyRefusal}
 
 -- ---- the names of a series that no axiom names
 
@@ -44,14 +43,14 @@ kept {P} p (x ∷ l) (cons h a) = go (p x) (λ t. t) (kept p l a)
     go true f m = cons (h, f tt) m
     go false f m = m
 
-module _ (select : Axiom → List ℕ) (l : List Axiom) (n : ℕ) where
-  pub in-unnamed : (x : ℕ) → Name n x → isNamed select l x ≡ false → x ∈ unnamed select l n
+module _ (kind : ℕ) (l : List Axiom) (n : ℕ) where
+  pub in-unnamed : (x : ℕ) → Name n x → isNamed kind l x ≡ false → x ∈ unnamed kind l n
   unfolding unnamed
-  in-unnamed x h e = in-filter _ (in-counting 1 n x (h .0) (omega arith)) (isTrue {b = not (isNamed select l x)} (rw e))
+  in-unnamed x h e = in-filter _ (in-counting 1 n x (h .0) (omega arith)) (isTrue {b = not (isNamed kind l x)} (rw e))
 
-  pub unnamed-names : All (λ x. Name n x × (isNamed select l x ≡ false)) (unnamed select l n)
+  pub unnamed-names : All (λ x. Name n x × (isNamed kind l x ≡ false)) (unnamed kind l n)
   unfolding unnamed
-  unnamed-names = all-mono (λ x h. (h .0, is-false (isNamed select l x) (h .1))) (kept _ (counting 1 n) (counting-names n))
+  unnamed-names = all-mono (λ x h. (h .0, is-false (isNamed kind l x) (h .1))) (kept _ (counting 1 n) (counting-names n))
 
 -- ---- who is functional
 
@@ -60,8 +59,8 @@ pub defaults-named : (K : Vocabulary) → All (NamedAxiom (K .classes) (K .roles
 unfolding defaults
 defaults-named K =
     all-append
-    (all-map functionalRole (all-mono (λ r h. h .0) (unnamed-names manyRoleName (K .axioms) (K .roles))))
-    (all-map functionalFeature (all-mono (λ f h. h .0) (unnamed-names manyFeatureName (K .axioms) (K .features))))
+    (all-map functionalRole (all-mono (λ r h. h .0) (unnamed-names 6 (K .axioms) (K .roles))))
+    (all-map functionalFeature (all-mono (λ f h. h .0) (unnamed-names 7 (K .axioms) (K .features))))
 
 -- a functional name is one of K's that no axiom lets have many values
 abbrev One : Vocabulary → Axiom → Type 0
@@ -77,33 +76,33 @@ module _ (K : Vocabulary) where
   -- a counted name is functional unless it is many-valued
   pub role-functional : (r : ℕ) → Name (K .roles) r → isManyRole K r ≡ false → T (isFunctionalRole K r)
   unfolding isManyRole
-  role-functional r n e = functionalRole-stated K r (role-default K r (in-unnamed manyRoleName (K .axioms) (K .roles) r n e))
+  role-functional r n e = functionalRole-stated K r (role-default K r (in-unnamed 6 (K .axioms) (K .roles) r n e))
 
   pub feature-functional : (f : ℕ) → Name (K .features) f → isManyFeature K f ≡ false → T (isFunctionalFeature K f)
   unfolding isManyFeature
-  feature-functional f n e = functionalFeature-stated K f (feature-default K f (in-unnamed manyFeatureName (K .axioms) (K .features) f n e))
+  feature-functional f n e = functionalFeature-stated K f (feature-default K f (in-unnamed 7 (K .axioms) (K .features) f n e))
 
   module _ (named : All (NamedAxiom (K .classes) (K .roles) (K .features)) (K .axioms)) (apart : isOpposed (K .axioms) ≡ false) where
     one : All (One K) (stated K)
-    unfolding stated defaults isManyRole isManyFeature isOpposed
+    unfolding stated defaults isManyRole isManyFeature isOpposed namesBy
     one =
         all-append (all-of (K .axioms) each)
-        (all-append (all-map functionalRole (unnamed-names manyRoleName (K .axioms) (K .roles)))
-        (all-map functionalFeature (unnamed-names manyFeatureName (K .axioms) (K .features))))
+        (all-append (all-map functionalRole (unnamed-names 6 (K .axioms) (K .roles)))
+        (all-map functionalFeature (unnamed-names 7 (K .axioms) (K .features))))
       where
-        both-role : (r : ℕ) → functionalRole r ∈ K .axioms → T (isNamed manyRoleName (K .axioms) r) → T (isOpposed (K .axioms))
-        both-role r m t = or-left (any (isNamed manyRoleName (K .axioms)) (flatMap functionalRoleName (K .axioms))) _ (any-in (isNamed manyRoleName (K .axioms)) (any-flatMap functionalRoleName (at-any m (here t))))
+        both-role : (r : ℕ) → functionalRole r ∈ K .axioms → T (isNamed 6 (K .axioms) r) → T (isOpposed (K .axioms))
+        both-role r m t = or-left (any (isNamed 6 (K .axioms)) (namesBy 3 (K .axioms))) _ (any-in (isNamed 6 (K .axioms)) (any-flatMap (nameBy 3) (at-any m (here t))))
 
-        both-feature : (f : ℕ) → functionalFeature f ∈ K .axioms → T (isNamed manyFeatureName (K .axioms) f) → T (isOpposed (K .axioms))
+        both-feature : (f : ℕ) → functionalFeature f ∈ K .axioms → T (isNamed 7 (K .axioms) f) → T (isOpposed (K .axioms))
         both-feature f m t =
-            or-right (any (isNamed manyRoleName (K .axioms)) (flatMap functionalRoleName (K .axioms))) _
-            (any-in (isNamed manyFeatureName (K .axioms)) (any-flatMap functionalFeatureName (at-any m (here t))))
+            or-right (any (isNamed 6 (K .axioms)) (namesBy 3 (K .axioms))) _
+            (any-in (isNamed 7 (K .axioms)) (any-flatMap (nameBy 4) (at-any m (here t))))
 
         each : (x : Axiom) → x ∈ K .axioms → One K x
         each (below a b) m = tt
         each (disjoint a b) m = tt
-        each (functionalRole r) m = (all-at named m, isFalse (isNamed manyRoleName (K .axioms) r) (λ t. notTrue apart (both-role r m t)))
-        each (functionalFeature f) m = (all-at named m, isFalse (isNamed manyFeatureName (K .axioms) f) (λ t. notTrue apart (both-feature f m t)))
+        each (functionalRole r) m = (all-at named m, isFalse (isNamed 6 (K .axioms) r) (λ t. notTrue apart (both-role r m t)))
+        each (functionalFeature f) m = (all-at named m, isFalse (isNamed 7 (K .axioms) f) (λ t. notTrue apart (both-feature f m t)))
         each (range r c) m = tt
         each (manyRole r) m = tt
         each (manyFeature f) m = tt

@@ -17,9 +17,8 @@ use Rattle.meaning.specs.Records.{Name}
 use Rattle.meaning.specs.Stated.{disjointPair, disjointPairs, isFunctionalFeature, isFunctionalRole, isManyFeature, isManyRole}
 use Rattle.meaning.specs.Stated.{rangePair, rangePairs, ranges, rangesIn, subclass, subclasses}
 use Rattle.meaning.specs.Vocabulary.{Axiom, Vocabulary, axiomAt, axiomFits, axiomKind, axiomLeft, axiomRight, below, classCount}
-use Rattle.meaning.specs.Vocabulary.{defaults, disjoint, featureCount, functionalFeature, functionalFeatureName, functionalRole}
-use Rattle.meaning.specs.Vocabulary.{functionalRoleName, isNamed, manyFeature, manyFeatureName, manyRole, manyRoleName, range, roleCount}
-use Rattle.meaning.specs.Vocabulary.{stated, unnamed}
+use Rattle.meaning.specs.Vocabulary.{defaults, disjoint, featureCount, functionalFeature, functionalRole, isNamed, manyFeature}
+use Rattle.meaning.specs.Vocabulary.{manyRole, nameBy, namesBy, range, roleCount, stated, unnamed}
 
 -- ---- the classes of a role's ranges
 
@@ -73,34 +72,34 @@ module _ (K : Vocabulary) where
   disjoint-stated a b m = any-flatMap disjointPair (at-any m (here refl))
 
   pub functionalRole-stated : (r : ℕ) → functionalRole r ∈ stated K → T (isFunctionalRole K r)
-  unfolding isFunctionalRole isNamed
-  functionalRole-stated r m = any-in (eqb r) (any-flatMap functionalRoleName (at-any m (here (eqb-refl r))))
+  unfolding isFunctionalRole isNamed namesBy
+  functionalRole-stated r m = any-in (eqb r) (any-flatMap (nameBy 3) (at-any m (here (eqb-refl r))))
 
   pub functionalFeature-stated : (f : ℕ) → functionalFeature f ∈ stated K → T (isFunctionalFeature K f)
-  unfolding isFunctionalFeature isNamed
-  functionalFeature-stated f m = any-in (eqb f) (any-flatMap functionalFeatureName (at-any m (here (eqb-refl f))))
+  unfolding isFunctionalFeature isNamed namesBy
+  functionalFeature-stated f m = any-in (eqb f) (any-flatMap (nameBy 4) (at-any m (here (eqb-refl f))))
 
   pub manyRole-stated : (r : ℕ) → manyRole r ∈ K .axioms → T (isManyRole K r)
-  unfolding isManyRole isNamed
-  manyRole-stated r m = any-in (eqb r) (any-flatMap manyRoleName (at-any m (here (eqb-refl r))))
+  unfolding isManyRole isNamed namesBy
+  manyRole-stated r m = any-in (eqb r) (any-flatMap (nameBy 6) (at-any m (here (eqb-refl r))))
 
   pub manyFeature-stated : (f : ℕ) → manyFeature f ∈ K .axioms → T (isManyFeature K f)
-  unfolding isManyFeature isNamed
-  manyFeature-stated f m = any-in (eqb f) (any-flatMap manyFeatureName (at-any m (here (eqb-refl f))))
+  unfolding isManyFeature isNamed namesBy
+  manyFeature-stated f m = any-in (eqb f) (any-flatMap (nameBy 7) (at-any m (here (eqb-refl f))))
 
   -- an axiom of the chain is stated, and so is the default
   pub axiom-stated : (x : Axiom) → x ∈ K .axioms → x ∈ stated K
   unfolding stated
   axiom-stated x m = any-left (defaults K) m
 
-  pub role-default : (r : ℕ) → r ∈ unnamed manyRoleName (K .axioms) (K .roles) → functionalRole r ∈ stated K
+  pub role-default : (r : ℕ) → r ∈ unnamed 6 (K .axioms) (K .roles) → functionalRole r ∈ stated K
   unfolding stated defaults
   role-default r m = any-right (K .axioms) (any-left _ (any-map functionalRole (any-mono (λ q e. ap functionalRole e) m)))
 
-  pub feature-default : (f : ℕ) → f ∈ unnamed manyFeatureName (K .axioms) (K .features) → functionalFeature f ∈ stated K
+  pub feature-default : (f : ℕ) → f ∈ unnamed 7 (K .axioms) (K .features) → functionalFeature f ∈ stated K
   unfolding stated defaults
   feature-default f m =
-      any-right (K .axioms) (any-right (map functionalRole (unnamed manyRoleName (K .axioms) (K .roles))) (any-map functionalFeature (any-mono (λ g e. ap functionalFeature e) m)))
+      any-right (K .axioms) (any-right (map functionalRole (unnamed 6 (K .axioms) (K .roles))) (any-map functionalFeature (any-mono (λ g e. ap functionalFeature e) m)))
 
   pub range-stated : (r c : ℕ) → range r c ∈ K .axioms → c ∈ ranges K r
   unfolding rangePairs
@@ -123,17 +122,17 @@ pub record AllStated (P : Axiom → Type 0) (K : Vocabulary) : Type 0 where
 
 module _ {P : Axiom → Type 0} (K : Vocabulary) where
   pub all-stated : All P (stated K) → AllStated P K
-  unfolding stated subclasses disjointPairs isFunctionalRole isFunctionalFeature isManyRole isManyFeature isNamed rangePairs
+  unfolding stated subclasses disjointPairs isFunctionalRole isFunctionalFeature isManyRole isManyFeature isNamed namesBy rangePairs
   all-stated s =
       let chain = all-fst (K .axioms) (defaults K) s in
       record {
         subclass = λ a b m. let h = all-any chain (flatMap-any subclass (K .axioms) m) in below-of a b (h .0) (h .1) (h .2);
         apart = λ a b m. let h = all-any chain (flatMap-any disjointPair (K .axioms) m) in disjoint-of a b (h .0) (h .1) (h .2);
-        role = λ r t. let h = all-any s (flatMap-any functionalRoleName (stated K) (any-out (eqb r) _ t)) in role-of r (h .0) (h .1) (h .2);
-        feature = λ f t. let h = all-any s (flatMap-any functionalFeatureName (stated K) (any-out (eqb f) _ t)) in feature-of f (h .0) (h .1) (h .2);
+        role = λ r t. let h = all-any s (flatMap-any (nameBy 3) (stated K) (any-out (eqb r) _ t)) in role-of r (h .0) (h .1) (h .2);
+        feature = λ f t. let h = all-any s (flatMap-any (nameBy 4) (stated K) (any-out (eqb f) _ t)) in feature-of f (h .0) (h .1) (h .2);
         ranged = λ r c m. let h = all-any chain (flatMap-any rangePair (K .axioms) (ranges-out K r c m)) in range-of r c (h .0) (h .1) (h .2);
-        manyRole = λ r t. let h = all-any chain (flatMap-any manyRoleName (K .axioms) (any-out (eqb r) _ t)) in many-role-of r (h .0) (h .1) (h .2);
-        manyFeature = λ f t. let h = all-any chain (flatMap-any manyFeatureName (K .axioms) (any-out (eqb f) _ t)) in many-feature-of f (h .0) (h .1) (h .2);
+        manyRole = λ r t. let h = all-any chain (flatMap-any (nameBy 6) (K .axioms) (any-out (eqb r) _ t)) in many-role-of r (h .0) (h .1) (h .2);
+        manyFeature = λ f t. let h = all-any chain (flatMap-any (nameBy 7) (K .axioms) (any-out (eqb f) _ t)) in many-feature-of f (h .0) (h .1) (h .2);
       }
     where
       below-of : (a b : ℕ) (x : Axiom) → P x → (a, b) ∈ subclass x → P (below a b)
@@ -154,7 +153,7 @@ module _ {P : Axiom → Type 0} (K : Vocabulary) where
       disjoint-of a b (manyRole r) o m = absurd (any-none m)
       disjoint-of a b (manyFeature f) o m = absurd (any-none m)
 
-      role-of : (q : ℕ) (x : Axiom) → P x → Any (λ y. T (eqb q y)) (functionalRoleName x) → P (functionalRole q)
+      role-of : (q : ℕ) (x : Axiom) → P x → Any (λ y. T (eqb q y)) (nameBy 3 x) → P (functionalRole q)
       role-of q (below c d) o m = absurd (any-none m)
       role-of q (disjoint c d) o m = absurd (any-none m)
       role-of q (functionalRole r) o m = subst (λ (k : ℕ). P (functionalRole k)) (sym (eqb→eq q r (any-single m))) o
@@ -163,7 +162,7 @@ module _ {P : Axiom → Type 0} (K : Vocabulary) where
       role-of q (manyRole r) o m = absurd (any-none m)
       role-of q (manyFeature f) o m = absurd (any-none m)
 
-      feature-of : (g : ℕ) (x : Axiom) → P x → Any (λ y. T (eqb g y)) (functionalFeatureName x) → P (functionalFeature g)
+      feature-of : (g : ℕ) (x : Axiom) → P x → Any (λ y. T (eqb g y)) (nameBy 4 x) → P (functionalFeature g)
       feature-of g (below c d) o m = absurd (any-none m)
       feature-of g (disjoint c d) o m = absurd (any-none m)
       feature-of g (functionalRole r) o m = absurd (any-none m)
@@ -181,7 +180,7 @@ module _ {P : Axiom → Type 0} (K : Vocabulary) where
       range-of q d (manyRole r) o m = absurd (any-none m)
       range-of q d (manyFeature f) o m = absurd (any-none m)
 
-      many-role-of : (q : ℕ) (x : Axiom) → P x → Any (λ y. T (eqb q y)) (manyRoleName x) → P (manyRole q)
+      many-role-of : (q : ℕ) (x : Axiom) → P x → Any (λ y. T (eqb q y)) (nameBy 6 x) → P (manyRole q)
       many-role-of q (below c d) o m = absurd (any-none m)
       many-role-of q (disjoint c d) o m = absurd (any-none m)
       many-role-of q (functionalRole r) o m = absurd (any-none m)
@@ -190,7 +189,7 @@ module _ {P : Axiom → Type 0} (K : Vocabulary) where
       many-role-of q (manyRole r) o m = subst (λ (k : ℕ). P (manyRole k)) (sym (eqb→eq q r (any-single m))) o
       many-role-of q (manyFeature f) o m = absurd (any-none m)
 
-      many-feature-of : (g : ℕ) (x : Axiom) → P x → Any (λ y. T (eqb g y)) (manyFeatureName x) → P (manyFeature g)
+      many-feature-of : (g : ℕ) (x : Axiom) → P x → Any (λ y. T (eqb g y)) (nameBy 7 x) → P (manyFeature g)
       many-feature-of g (below c d) o m = absurd (any-none m)
       many-feature-of g (disjoint c d) o m = absurd (any-none m)
       many-feature-of g (functionalRole r) o m = absurd (any-none m)
@@ -204,8 +203,8 @@ module _ {P : Axiom → Type 0} (K : Vocabulary) where
   stated-all o =
       all-append (all-of (K .axioms) each)
       (all-append
-      (all-map functionalRole (all-of (unnamed manyRoleName (K .axioms) (K .roles)) (λ r m. o .role r (functionalRole-stated K r (role-default K r m)))))
-      (all-map functionalFeature (all-of (unnamed manyFeatureName (K .axioms) (K .features)) (λ f m. o .feature f (functionalFeature-stated K f (feature-default K f m))))))
+      (all-map functionalRole (all-of (unnamed 6 (K .axioms) (K .roles)) (λ r m. o .role r (functionalRole-stated K r (role-default K r m)))))
+      (all-map functionalFeature (all-of (unnamed 7 (K .axioms) (K .features)) (λ f m. o .feature f (functionalFeature-stated K f (feature-default K f m))))))
     where
       each : (x : Axiom) → x ∈ K .axioms → P x
       each (below a b) m = o .subclass a b (below-stated K a b m)
@@ -237,23 +236,23 @@ module _ (v : List ℕ) where
   rangePair-named (manyRole r) n = nil
   rangePair-named (manyFeature f) n = nil
 
-  pub manyRoleName-named : (x : Axiom) → AxiomOf v x → All (Name (roleCount v)) (manyRoleName x)
-  manyRoleName-named (below a b) n = nil
-  manyRoleName-named (disjoint a b) n = nil
-  manyRoleName-named (functionalRole r) n = nil
-  manyRoleName-named (functionalFeature f) n = nil
-  manyRoleName-named (range r c) n = nil
-  manyRoleName-named (manyRole r) n = cons n nil
-  manyRoleName-named (manyFeature f) n = nil
+  pub many-role-named : (x : Axiom) → AxiomOf v x → All (Name (roleCount v)) (nameBy 6 x)
+  many-role-named (below a b) n = nil
+  many-role-named (disjoint a b) n = nil
+  many-role-named (functionalRole r) n = nil
+  many-role-named (functionalFeature f) n = nil
+  many-role-named (range r c) n = nil
+  many-role-named (manyRole r) n = cons n nil
+  many-role-named (manyFeature f) n = nil
 
-  pub manyFeatureName-named : (x : Axiom) → AxiomOf v x → All (Name (featureCount v)) (manyFeatureName x)
-  manyFeatureName-named (below a b) n = nil
-  manyFeatureName-named (disjoint a b) n = nil
-  manyFeatureName-named (functionalRole r) n = nil
-  manyFeatureName-named (functionalFeature f) n = nil
-  manyFeatureName-named (range r c) n = nil
-  manyFeatureName-named (manyRole r) n = nil
-  manyFeatureName-named (manyFeature f) n = cons n nil
+  pub many-feature-named : (x : Axiom) → AxiomOf v x → All (Name (featureCount v)) (nameBy 7 x)
+  many-feature-named (below a b) n = nil
+  many-feature-named (disjoint a b) n = nil
+  many-feature-named (functionalRole r) n = nil
+  many-feature-named (functionalFeature f) n = nil
+  many-feature-named (range r c) n = nil
+  many-feature-named (manyRole r) n = nil
+  many-feature-named (manyFeature f) n = cons n nil
 
 -- an axiom states at most one pair of disjoint classes
 pub disjointPair-one : (x : Axiom) → length (disjointPair x) ≤ 1
@@ -293,42 +292,24 @@ module _ (v : List ℕ) (k : ℕ) where
   pub disjointPair-other : (axiomKind v k ≡ 2 → ⊥) → disjointPair (axiomAt v k) ≡ []
   disjointPair-other n = by-kind (λ x. disjointPair x ≡ []) (λ _. refl) (λ e. absurd (n e)) (λ _. refl) (λ _. refl) (λ _. refl) (λ _. refl) refl
 
-  pub functionalRoleName-at : axiomKind v k ≡ 3 → functionalRoleName (axiomAt v k) ≡ axiomLeft v k ∷ []
-  functionalRoleName-at e = rw e
-
-  pub functionalRoleName-other : (axiomKind v k ≡ 3 → ⊥) → functionalRoleName (axiomAt v k) ≡ []
-  functionalRoleName-other n = by-kind (λ x. functionalRoleName x ≡ []) (λ _. refl) (λ _. refl) (λ e. absurd (n e)) (λ _. refl) (λ _. refl) (λ _. refl) refl
-
-  pub functionalFeatureName-at : axiomKind v k ≡ 4 → functionalFeatureName (axiomAt v k) ≡ axiomLeft v k ∷ []
-  functionalFeatureName-at e = rw e
-
-  pub functionalFeatureName-other : (axiomKind v k ≡ 4 → ⊥) → functionalFeatureName (axiomAt v k) ≡ []
-  functionalFeatureName-other n = by-kind (λ x. functionalFeatureName x ≡ []) (λ _. refl) (λ _. refl) (λ _. refl) (λ e. absurd (n e)) (λ _. refl) (λ _. refl) refl
-
   pub rangePair-at : axiomKind v k ≡ 5 → rangePair (axiomAt v k) ≡ (axiomLeft v k, axiomRight v k) ∷ []
   rangePair-at e = rw e
 
   pub rangePair-other : (axiomKind v k ≡ 5 → ⊥) → rangePair (axiomAt v k) ≡ []
   rangePair-other n = by-kind (λ x. rangePair x ≡ []) (λ _. refl) (λ _. refl) (λ _. refl) (λ _. refl) (λ e. absurd (n e)) (λ _. refl) refl
 
-  pub manyRoleName-at : axiomKind v k ≡ 6 → manyRoleName (axiomAt v k) ≡ axiomLeft v k ∷ []
-  manyRoleName-at e = rw e
-
-  pub manyRoleName-other : (axiomKind v k ≡ 6 → ⊥) → manyRoleName (axiomAt v k) ≡ []
-  manyRoleName-other n = by-kind (λ x. manyRoleName x ≡ []) (λ _. refl) (λ _. refl) (λ _. refl) (λ _. refl) (λ _. refl) (λ e. absurd (n e)) refl
-
-  pub manyFeatureName-at : axiomKind v k ≡ 7 → manyFeatureName (axiomAt v k) ≡ axiomLeft v k ∷ []
-  manyFeatureName-at e = rw e
-
-  -- a record that fits is of one of the seven kinds
-  pub manyFeatureName-other : axiomFits v k ≡ true → (axiomKind v k ≡ 7 → ⊥) → manyFeatureName (axiomAt v k) ≡ []
-  manyFeatureName-other f n =
-      choose So P (eqb (axiomKind v k) 1) (λ _ _. refl) (λ _.
-      choose So P (eqb (axiomKind v k) 2) (λ _ _. refl) (λ _.
-      choose So P (eqb (axiomKind v k) 3) (λ _ _. refl) (λ _.
-      choose So P (eqb (axiomKind v k) 4) (λ _ _. refl) (λ _.
-      choose So P (eqb (axiomKind v k) 5) (λ _ _. refl) (λ _.
-      choose So P (eqb (axiomKind v k) 6) (λ _ _. refl) (λ _ g. let u = simp tests at g in absurd (n (u .0)))))))) f
+  -- a record that fits is of one of the seven kinds, and its axiom's first name is its own
+  pub nameBy-at : axiomFits v k ≡ true → (kind : ℕ) → nameBy kind (axiomAt v k) ≡ cond (eqb (axiomKind v k) kind) (axiomLeft v k ∷ []) []
+  nameBy-at f kind =
+      choose So P (eqb (axiomKind v k) 1) (λ t _. is 1 t) (λ _.
+      choose So P (eqb (axiomKind v k) 2) (λ t _. is 2 t) (λ _.
+      choose So P (eqb (axiomKind v k) 3) (λ t _. is 3 t) (λ _.
+      choose So P (eqb (axiomKind v k) 4) (λ t _. is 4 t) (λ _.
+      choose So P (eqb (axiomKind v k) 5) (λ t _. is 5 t) (λ _.
+      choose So P (eqb (axiomKind v k) 6) (λ t _. is 6 t) (λ _ g. let u = simp tests at g in rw (u .0))))))) f
     where
       P : Axiom → Type 0
-      P x = manyFeatureName x ≡ []
+      P x = nameBy kind x ≡ cond (eqb (axiomKind v k) kind) (axiomLeft v k ∷ []) []
+
+      is : (j : ℕ) → eqb (axiomKind v k) j ≡ true → cond (eqb j kind) (axiomLeft v k ∷ []) [] ≡ cond (eqb (axiomKind v k) kind) (axiomLeft v k ∷ []) []
+      is j t = ap (λ (i : ℕ). cond (eqb i kind) (axiomLeft v k ∷ []) []) (sym (eqb-true (axiomKind v k) j t))

@@ -5,8 +5,8 @@ use mathlib.Core.Bool.{Bool, _&&_, _||_, cond}
 use mathlib.Core.List.{List, [], _∷_}
 use lib.Dec.{eqb}
 use Rattle.meaning.specs.Lists.{flatMap}
-use Rattle.meaning.specs.Vocabulary.{Axiom, Vocabulary, below, disjoint, functionalFeature, functionalFeatureName, functionalRole}
-use Rattle.meaning.specs.Vocabulary.{functionalRoleName, isNamed, manyFeature, manyFeatureName, manyRole, manyRoleName, range, stated}
+use Rattle.meaning.specs.Vocabulary.{Axiom, Vocabulary, below, disjoint, functionalFeature, functionalRole, isNamed, manyFeature}
+use Rattle.meaning.specs.Vocabulary.{manyRole, range, stated}
 
 -- kind 1: a is below b
 abbrev pub subclass : Axiom → List (ℕ × ℕ)
@@ -58,17 +58,17 @@ isBelow K a b = closure (subclasses K) a b
 
 -- func(R) ∈ K, for a role and for a feature: by a record of kind 3 or 4, or by default
 unfoldable pub isFunctionalRole : Vocabulary → ℕ → Bool
-isFunctionalRole K r = isNamed functionalRoleName (stated K) r
+isFunctionalRole K r = isNamed 3 (stated K) r
 
 unfoldable pub isFunctionalFeature : Vocabulary → ℕ → Bool
-isFunctionalFeature K f = isNamed functionalFeatureName (stated K) f
+isFunctionalFeature K f = isNamed 4 (stated K) f
 
 -- a record of kind 6 or 7 lifts the default
 unfoldable pub isManyRole : Vocabulary → ℕ → Bool
-isManyRole K r = isNamed manyRoleName (K .axioms) r
+isManyRole K r = isNamed 6 (K .axioms) r
 
 unfoldable pub isManyFeature : Vocabulary → ℕ → Bool
-isManyFeature K f = isNamed manyFeatureName (K .axioms) f
+isManyFeature K f = isNamed 7 (K .axioms) f
 
 -- the classes A with range(R, A) ∈ K
 abbrev pub rangesIn : List (ℕ × ℕ) → ℕ → List ℕ

@@ -26,71 +26,44 @@ pub record Vocabulary : Type 0 where
   pub features : ℕ
   pub axioms : List Axiom
 
+-- a record's words, with its link
+abbrev pub axiomWords : Axiom → ℕ → List ℕ
+axiomWords (below a b) next = 1 ∷ (a ∷ (b ∷ (next ∷ [])))
+axiomWords (disjoint a b) next = 2 ∷ (a ∷ (b ∷ (next ∷ [])))
+axiomWords (functionalRole r) next = 3 ∷ (r ∷ (0 ∷ (next ∷ [])))
+axiomWords (functionalFeature f) next = 4 ∷ (f ∷ (0 ∷ (next ∷ [])))
+axiomWords (range r c) next = 5 ∷ (r ∷ (c ∷ (next ∷ [])))
+axiomWords (manyRole r) next = 6 ∷ (r ∷ (0 ∷ (next ∷ [])))
+axiomWords (manyFeature f) next = 7 ∷ (f ∷ (0 ∷ (next ∷ [])))
+
 -- ---- one value or many
 
--- kind 3: role a is functional
-abbrev pub functionalRoleName : Axiom → List ℕ
-functionalRoleName (below a b) = []
-functionalRoleName (disjoint a b) = []
-functionalRoleName (functionalRole r) = r ∷ []
-functionalRoleName (functionalFeature f) = []
-functionalRoleName (range r c) = []
-functionalRoleName (manyRole r) = []
-functionalRoleName (manyFeature f) = []
+-- the first name of an axiom of a kind: the role of one of kind 3 or 6, the feature of one of kind 4 or 7
+abbrev pub nameBy : ℕ → Axiom → List ℕ
+nameBy kind x = let ws = axiomWords x 0 in cond (eqb (getD ws 0 0) kind) (getD ws 1 0 ∷ []) []
 
--- kind 4: feature a is functional
-abbrev pub functionalFeatureName : Axiom → List ℕ
-functionalFeatureName (below a b) = []
-functionalFeatureName (disjoint a b) = []
-functionalFeatureName (functionalRole r) = []
-functionalFeatureName (functionalFeature f) = f ∷ []
-functionalFeatureName (range r c) = []
-functionalFeatureName (manyRole r) = []
-functionalFeatureName (manyFeature f) = []
+-- the names that axioms of a kind have
+unfoldable pub namesBy : ℕ → List Axiom → List ℕ
+namesBy kind l = flatMap (nameBy kind) l
 
--- kind 6: role a is many-valued
-abbrev pub manyRoleName : Axiom → List ℕ
-manyRoleName (below a b) = []
-manyRoleName (disjoint a b) = []
-manyRoleName (functionalRole r) = []
-manyRoleName (functionalFeature f) = []
-manyRoleName (range r c) = []
-manyRoleName (manyRole r) = r ∷ []
-manyRoleName (manyFeature f) = []
+unfoldable pub isNamed : ℕ → List Axiom → ℕ → Bool
+isNamed kind l x = any (eqb x) (namesBy kind l)
 
--- kind 7: feature a is many-valued
-abbrev pub manyFeatureName : Axiom → List ℕ
-manyFeatureName (below a b) = []
-manyFeatureName (disjoint a b) = []
-manyFeatureName (functionalRole r) = []
-manyFeatureName (functionalFeature f) = []
-manyFeatureName (range r c) = []
-manyFeatureName (manyRole r) = []
-manyFeatureName (manyFeature f) = f ∷ []
-
--- an axiom of the list names x, by such a selector
-unfoldable pub isNamed : (Axiom → List ℕ) → List Axiom → ℕ → Bool
-isNamed select l x = any (eqb x) (flatMap select l)
-
--- the names of a series of n that no axiom of the list names, rising
-unfoldable pub unnamed : (Axiom → List ℕ) → List Axiom → ℕ → List ℕ
-unnamed select l n = filter (λ x. not (isNamed select l x)) (counting 1 n)
+-- the names of a series of n that no axiom of a kind has, rising
+unfoldable pub unnamed : ℕ → List Axiom → ℕ → List ℕ
+unnamed kind l n = filter (λ x. not (isNamed kind l x)) (counting 1 n)
 
 -- SPECIFICATION 3.2, the default: a role is functional unless a record of kind 6 names it, a feature unless one of kind 7 does
 unfoldable pub defaults : Vocabulary → List Axiom
-defaults K =
-    map functionalRole (unnamed manyRoleName (K .axioms) (K .roles))
-    ++ map functionalFeature (unnamed manyFeatureName (K .axioms) (K .features))
+defaults K = map functionalRole (unnamed 6 (K .axioms) (K .roles)) ++ map functionalFeature (unnamed 7 (K .axioms) (K .features))
 
 -- all that a vocabulary states: the axioms of its chain, then the default, as if records stated it
 unfoldable pub stated : Vocabulary → List Axiom
 stated K = K .axioms ++ defaults K
 
--- a role or a feature is named both ways
+-- a role is named by kinds 3 and 6, or a feature by 4 and 7
 unfoldable pub isOpposed : List Axiom → Bool
-isOpposed l =
-    any (isNamed manyRoleName l) (flatMap functionalRoleName l)
-    || any (isNamed manyFeatureName l) (flatMap functionalFeatureName l)
+isOpposed l = any (isNamed 6 l) (namesBy 3 l) || any (isNamed 7 l) (namesBy 4 l)
 
 -- ---- reading
 
@@ -174,16 +147,6 @@ unfoldable pub vocabularyOf : List ℕ → Vocabulary
 vocabularyOf v = record { classes = classCount v; roles = roleCount v; features = featureCount v; axioms = axiomsOf v }
 
 -- ---- writing
-
--- a record's words, with its link
-abbrev pub axiomWords : Axiom → ℕ → List ℕ
-axiomWords (below a b) next = 1 ∷ (a ∷ (b ∷ (next ∷ [])))
-axiomWords (disjoint a b) next = 2 ∷ (a ∷ (b ∷ (next ∷ [])))
-axiomWords (functionalRole r) next = 3 ∷ (r ∷ (0 ∷ (next ∷ [])))
-axiomWords (functionalFeature f) next = 4 ∷ (f ∷ (0 ∷ (next ∷ [])))
-axiomWords (range r c) next = 5 ∷ (r ∷ (c ∷ (next ∷ [])))
-axiomWords (manyRole r) next = 6 ∷ (r ∷ (0 ∷ (next ∷ [])))
-axiomWords (manyFeature f) next = 7 ∷ (f ∷ (0 ∷ (next ∷ [])))
 
 -- the words for what a vocabulary says
 unfoldable pub vocabularyWords : Vocabulary → List ℕ
