@@ -14,7 +14,6 @@ use words::has;
 use words::insert;
 ghost use mathlib.Core.Path.{_≡_};
 ghost use mathlib.Core.Bool.{_&&_, cond};
-ghost use mathlib.Core.List.{List};
 ghost use Prim.Native.Nat.{_≤_};
 ghost use lib.ListN.{length};
 ghost use Rattle.meaning.specs.Answers.{readingAnswer};
@@ -22,8 +21,9 @@ ghost use Rattle.meaning.specs.Operations.{readVocabulary};
 ghost use Rattle.meaning.specs.Records.{isName, lastOf};
 ghost use Rattle.meaning.specs.Lists.{any};
 ghost use Rattle.meaning.specs.Vocabulary.{axiomKind, axiomLeft, axiomNext, axiomRight, axiomsOf, axiomsRefusal, classCount, featureCount};
-ghost use Rattle.meaning.specs.Vocabulary.{firstAxiom, headedVocabulary, isOpposed, roleCount, soundAxiom, vocabularyRefusal};
-ghost use Rattle.vocabulary.specs.Names.{BothNamed, NameFound, NamesIn, Walkable, nameAt};
+ghost use Rattle.meaning.specs.Vocabulary.{firstAxiom, headedVocabulary, isNamed, isOpposed, namesBy, roleCount, soundAxiom};
+ghost use Rattle.meaning.specs.Vocabulary.{vocabularyRefusal};
+ghost use Rattle.vocabulary.specs.Names.{Settable, Walkable, nameAt};
 ghost use Rattle.words.specs.Sets.{inSet, includingAll};
 
 pub fn class_count(v: &[u32]) -> u32
@@ -173,7 +173,7 @@ fn insert_name(v: &[u32], k: u32, kind: u32, names: &mut [u32])
 // Puts the names of all records of a kind into a set.
 pub fn insert_names(v: &[u32], kind: u32, names: &mut [u32])
     requires { ⌜ Walkable (now v) ⌝ }
-    ensures { λ _. ⌜ NamesIn (now (v .entry)) kind (now (names .entry)) (now (names .exit)) ⌝ }
+    ensures { λ _. ⌜ now (names .exit) ≡ includingAll (now (names .entry)) (namesBy kind (axiomsOf (now (v .entry)))) ⌝ }
 {
     let mut k = first_axiom(v);
     while k != 0 {
@@ -195,7 +195,7 @@ fn is_in(v: &[u32], k: u32, kind: u32, names: &[u32]) -> bool
 // Whether some record of a kind has its name in a set.
 fn is_any_in(v: &[u32], kind: u32, names: &[u32]) -> bool
     requires { ⌜ Walkable (now v) ⌝ }
-    ensures { λ r. ⌜ NameFound (now (v .entry)) kind (now (names .entry)) r ⌝ }
+    ensures { λ r. ⌜ r ≡ any (inSet (now (names .entry))) (namesBy kind (axiomsOf (now (v .entry)))) ⌝ }
 {
     let mut k = first_axiom(v);
     while k != 0 {
@@ -209,8 +209,8 @@ fn is_any_in(v: &[u32], kind: u32, names: &[u32]) -> bool
 
 // Whether a name stands in records of both kinds.
 fn are_both(v: &[u32], kind: u32, other: u32) -> bool
-    requires { ⌜ Walkable (now v) ⌝ }
-    ensures { λ r. ⌜ BothNamed (now (v .entry)) kind other r ⌝ }
+    requires { ⌜ Walkable (now v) × Settable (now v) other ⌝ }
+    ensures { λ r. ⌜ r ≡ any (isNamed other (axiomsOf (now (v .entry)))) (namesBy kind (axiomsOf (now (v .entry)))) ⌝ }
 {
     let mut names = [0u32; NAME_WORDS];
     insert_names(v, other, &mut names[..]);

@@ -8,7 +8,7 @@ are-both-spec =
     tie.close
     (tie.spec
     (λ c. search needs)
-    (λ c κs. search needs)
+    (λ c κs. c .before .before .pre .0)
     (λ c. search needs)
-    (λ c κs. c .before .before .before .before .before .pre)
-    (λ c. both-named (c .before .before .before .insert-names .ensures) (c .is-any-in .ensures)))
+    (λ c κs. c .before .before .before .before .before .pre .0)
+    (λ c. both-named _ _ _ (c .before .before .before .before .before .before .pre .1) (c .before .before .before .insert-names .ensures) (c .is-any-in .ensures)))
