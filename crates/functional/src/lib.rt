@@ -10,16 +10,16 @@ use words::insert_others;
 ghost use Prim.Native.Nat.{ℕ};
 ghost use mathlib.Core.List.{List};
 ghost use mathlib.Core.Path.{_≡_};
-ghost use Rattle.functional.specs.FunctionalNames.{FunctionalNames, UnnamedIn};
+ghost use Rattle.functional.specs.FunctionalNames.{FunctionalNames};
 ghost use Rattle.meaning.specs.Stated.{isFunctionalFeature, isFunctionalRole};
-ghost use Rattle.meaning.specs.Vocabulary.{vocabularyOf, vocabularyRefusal};
-ghost use Rattle.vocabulary.specs.Names.{Walkable};
-ghost use Rattle.words.specs.Sets.{inSet};
+ghost use Rattle.meaning.specs.Vocabulary.{axiomsOf, unnamed, vocabularyOf, vocabularyRefusal};
+ghost use Rattle.vocabulary.specs.Names.{Settable, Walkable};
+ghost use Rattle.words.specs.Sets.{inSet, includingAll};
 
 // Puts those of the names 1 to n into a set that no record of a kind has.
 fn insert_unnamed(v: &[u32], kind: u32, n: u32, names: &mut [u32])
-    requires { ⌜ Walkable (now v) ⌝ }
-    ensures { λ _. ⌜ UnnamedIn (now (v .entry)) kind n (now (names .entry)) (now (names .exit)) ⌝ }
+    requires { ⌜ Walkable (now v) × Settable (now v) kind ⌝ }
+    ensures { λ _. ⌜ now (names .exit) ≡ includingAll (now (names .entry)) (unnamed kind (axiomsOf (now (v .entry))) n) ⌝ }
 {
     let mut named = [0u32; NAME_WORDS];
     insert_names(v, kind, &mut named[..]);

@@ -1,6 +1,8 @@
 use borrow.Author.Needs.{needs}
-use Rattle.functional.proofs.FunctionalNames.{unnamed-in}
+use mathlib.Core.Path.{_∙_, ap}
+use Rattle.functional.proofs.FunctionalNames.{others-unnamed}
 use Rattle.functional.proofs.insert_unnamed.Statement.{statement}
+use Rattle.words.specs.Sets.{includingAll}
 use Rattle.functional.proofs.insert_unnamed.Tie as tie
 
 pub insert-unnamed-spec : {M : Type 1} → statement M
@@ -8,8 +10,10 @@ insert-unnamed-spec =
     tie.close
     (tie.spec
     (λ c. search needs)
-    (λ c κs. search needs)
+    (λ c κs. c .before .before .before .pre .0)
     (λ c. search needs)
     (λ c κs. search needs)
     (λ c. search needs)
-    (λ c. unnamed-in (c .before .before .before .before .before .before .insert-names .ensures) (c .before .before .insert-others .ensures)))
+    (λ c.
+    c .before .before .insert-others .ensures
+    ∙ ap (includingAll _) (others-unnamed _ _ _ (c .before .before .before .before .before .before .before .before .before .before .pre .1) (c .before .before .before .before .before .before .insert-names .ensures))))
