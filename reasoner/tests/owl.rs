@@ -1,6 +1,5 @@
 //! A vocabulary from OWL text: every reading, every refusal and their order; and the texts that the generators make.
 
-use reasoner::encode::vocabulary_words;
 use reasoner::random::owl::directed::{self, Directed};
 use reasoner::random::owl::shrink::shrink;
 use reasoner::random::owl::source::{around, lay_out, Layout, Source};
@@ -68,7 +67,7 @@ fn order_and_layout_say_nothing() {
     let mut read_to_words = 0;
     for _ in 0..4_000 {
         let source = Source::random(&mut rng);
-        let words = vocabulary_words(&source.vocabulary);
+        let words = source.words();
         for layout in Layout::ALL {
             let tokens = around(source.forms_in_any_order(&mut rng));
             let text = Text::of(lay_out(&mut rng, layout, &tokens));
