@@ -395,8 +395,9 @@ fn counts() -> Vec<Directed> {
         }
         let (text, words) = plain(Vocabulary { roles, features, ..vocabulary }, Layout::Lines);
         let records = axioms + roles + features - 2 * stated;
+        let names = format!("{roles} roles and {features} features");
         let name =
-            format!("{records} records of {axioms} axioms, {stated} and {stated} functional");
+            format!("{records} records of {axioms} axioms, {names}, {stated} of each functional");
         let answer = refusal.map_or(Ok(words), Err);
         Directed { name, text: Text::of(text), answer }
     };
