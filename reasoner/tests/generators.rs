@@ -3,6 +3,7 @@
 mod common;
 
 use common::literal::{normal_form, read_kb, read_simple_policies, Kb, Simple, C};
+use reasoner::model::Interpretation;
 use reasoner::normal::normalise;
 use reasoner::policy::{Place, Policy};
 use reasoner::random::everyday::{self, Answer};
@@ -123,6 +124,16 @@ fn slow_pairs_pass_and_fail() {
         }
     }
     assert!(compliant >= 20 && early >= 10 && late >= 8, "{compliant} {early} {late}");
+}
+
+/// A model that breaks its vocabulary would be answered before the policies are looked at.
+#[test]
+fn slow_models_satisfy_their_vocabularies() {
+    for (name, case) in slow::model_check() {
+        let vocabulary = Vocabulary::read(&case.v).unwrap();
+        let model = Interpretation::read(&vocabulary, &case.m).unwrap();
+        assert!(model.satisfies(&vocabulary), "{name}");
+    }
 }
 
 #[test]
