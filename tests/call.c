@@ -7,8 +7,9 @@
 
 #define LENGTH(words) (sizeof(words) / sizeof *(words))
 
-/* 2 below 1, 4 below 1 and 3, 1 and 3 disjoint; roles 1, 2 and feature 1 functional; role 3 has range 1 */
-static const uint32_t v[] = {4, 3, 1, 1, 1, 2, 1, 2, 1, 4, 1, 3, 1, 4, 3, 4, 2, 1, 3, 5, 3, 1, 0, 6, 3, 2, 0, 7, 4, 1, 0, 8, 5, 3, 1, 0};
+/* 2 below 1, 4 below 1 and 3, 1 and 3 disjoint; roles 1, 2 and feature 1 functional; role 3 has range 1 and is many-valued */
+static const uint32_t v[] = {4, 3, 1, 1, 1, 2, 1, 2, 1, 4, 1, 3, 1, 4, 3, 4, 2, 1, 3, 5, 3, 1, 0, 6, 3, 2, 0, 7, 4, 1, 0, 8,
+                             5, 3, 1, 9, 6, 3, 0, 0};
 /* role 1 reaching class 1, and role 1 reaching class 2 */
 static const uint32_t p[] = {1, 0, 0, 0, 0, 0, 5, 0, 0, 0, 2, 0, 3, 1, 0, 0, 3, 0, 1, 1, 0, 0, 0, 0};
 static const uint32_t q[] = {1, 0, 0, 0, 0, 0, 5, 0, 0, 0, 2, 0, 3, 1, 0, 0, 3, 0, 1, 2, 0, 0, 0, 0};
@@ -92,12 +93,35 @@ int main(void) {
     expect("model check, no work slice", gimbuka_model_check(v, LENGTH(v), p, LENGTH(p), q, LENGTH(q), model, LENGTH(model), work, 0,
                                                              &number) == 0 && number == 21);
 
-    /* class :B is below class :A, used before they are declared; the output is as it was behind the words written, and after a refusal */
-    static const char text[] = "Ontology(SubClassOf(:B :A) Declaration(Class(:A)) Declaration(Class(:B)))";
-    static const uint32_t read[] = {2, 0, 0, 1, 1, 2, 1, 0};
+    /* role 1 is stated functional and many-valued: 44, before the policies, the model and the work slice */
+    static const uint32_t both[] = {1, 1, 0, 1, 3, 1, 0, 2, 6, 1, 0, 0};
+    memset(out, 1, sizeof out);
+    memset(work, 1, sizeof work);
+    expect("read vocabulary, both ways", gimbuka_read_vocabulary(both, LENGTH(both), &number) == 0 && number == 44);
+    expect("read policy, both ways", gimbuka_read_policy(both, LENGTH(both), p, 0, &number) == 0 && number == 44);
+    expect("read second policy, both ways", gimbuka_read_second_policy(both, LENGTH(both), p, 0, &number) == 0 && number == 44);
+    expect("possible, both ways", gimbuka_possible(both, LENGTH(both), p, 0, work, 0, &number) == 0 && number == 44);
+    expect("compliance, both ways", gimbuka_compliance(both, LENGTH(both), p, 0, q, 0, work, LENGTH(work), out, 0, &number, &combination,
+                                                       &words) == 0 && number == 44);
+    expect("equality, both ways", gimbuka_equality(both, LENGTH(both), p, 0, q, 0, work, LENGTH(work), out, 0, &number, &term, &combination,
+                                                   &words) == 0 && number == 44);
+    expect("model check, both ways", gimbuka_model_check(both, LENGTH(both), p, 0, q, 0, model, 0, work, 0, &number) == 0 && number == 44);
+    expect("spell, both ways", gimbuka_spell(both, LENGTH(both), p, 0, work, LENGTH(work), out, 0, &number, &words) == 0 && number == 44);
+    expect("44 writes nothing", work[0] == 0x01010101 && out[0] == 0x01010101);
+
+    /* role 2 reaching class 1 and class 3, which are disjoint: impossible also where nothing states that the role is functional */
+    static const uint32_t unstated[] = {3, 2, 0, 1, 2, 1, 3, 0}, stated[] = {3, 2, 0, 1, 2, 1, 3, 2, 6, 2, 0, 0};
+    static const uint32_t two[] = {1, 0, 0, 0, 0, 0, 5, 0, 0, 0, 2, 0, 3, 2, 0, 0, 3, 4, 1, 1, 0, 0, 0, 0, 3, 2, 0, 0, 5, 0, 1, 3, 0, 0, 0, 0};
+    expect("one value by default", gimbuka_possible(unstated, LENGTH(unstated), two, LENGTH(two), work, LENGTH(work), &number) == 2);
+    expect("many-valued", gimbuka_possible(stated, LENGTH(stated), two, LENGTH(two), work, LENGTH(work), &number) == 1 && number == 1);
+
+    /* class :B is below class :A, used before they are declared; role :r is many-valued, since it is not stated functional; the output is
+       as it was behind the words written, and after a refusal */
+    static const char text[] = "Ontology(SubClassOf(:B :A) Declaration(Class(:A)) Declaration(Class(:B)) Declaration(ObjectProperty(:r)))";
+    static const uint32_t read[] = {2, 1, 0, 1, 1, 2, 1, 2, 6, 1, 0, 0};
     const uint8_t *owl = (const uint8_t *)text;
     memset(out, 1, sizeof out);
-    expect("read OWL, output too short", gimbuka_read_owl(owl, sizeof text - 1, out, 7, &number, &words) == 0 && number == 23 && words == 0);
+    expect("read OWL, output too short", gimbuka_read_owl(owl, sizeof text - 1, out, 11, &number, &words) == 0 && number == 23 && words == 0);
     expect("read OWL, cut short", gimbuka_read_owl(owl, sizeof text - 2, out, LENGTH(out), &number, &words) == 0 && number == 41);
     expect("read OWL, no class", gimbuka_read_owl((const uint8_t *)"Ontology()", 10, out, LENGTH(out), &number, &words) == 0 && number == 42);
     expect("a refusal writes nothing", out[0] == 0x01010101);

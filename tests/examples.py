@@ -64,9 +64,14 @@ def nested(depth):
     return inner
 
 
-DESK = vocabulary(4, 3, 1, [
-    (1, 2, 1), (1, 4, 1), (1, 4, 3), (2, 1, 3), (3, 1, 0), (3, 2, 0), (4, 1, 0), (5, 3, 1)])
-LOOSE = vocabulary(1, 1, 1)
+AXIOMS = [(1, 2, 1), (1, 4, 1), (1, 4, 3), (2, 1, 3), (3, 1, 0), (3, 2, 0), (4, 1, 0), (5, 3, 1), (6, 3, 0)]
+DESK = vocabulary(4, 3, 1, AXIOMS)
+# as it was printed before role 3 was stated many-valued
+PRINTED = vocabulary(4, 3, 1, AXIOMS[:-1])
+# kind 7 in the place of kind 4
+MANY_VALUED = vocabulary(4, 3, 1, [(7, 1, 0) if axiom == (4, 1, 0) else axiom for axiom in AXIOMS])
+# nothing is stated: the role and the feature are functional
+UNSTATED = vocabulary(1, 1, 1)
 
 
 def role(r, *inner):
@@ -87,18 +92,37 @@ WIDE = vocabulary(2, 1, 17)
 ANY = policy([])
 NONE = policy()
 R1_1, R1_2 = policy([role(1, ('class', 1))]), policy([role(1, ('class', 2))])
+APART = policy([span(0, 4), span(6, 9)])
+# what is asked of two values of role 3, and of one
+R3_2_WITH_R3_3_3 = policy([role(3, ('class', 2)), role(3, span(3, 3))])
+R3_BOTH = policy([role(3, ('class', 2), span(3, 3))])
+
+
+def both_ways(*axioms):
+    return vocabulary(2, 2, 2, axioms)
+
 
 CASES = {
     'r1_2_in_r1_1': (DESK, R1_2, R1_1),
     'r1_1_in_r1_2': (DESK, R1_1, R1_2),
+    'r1_1_in_r1_2_as_printed': (PRINTED, R1_1, R1_2),
     'r1_1_with_r1_3': (DESK, policy([role(1, ('class', 1)), role(1, ('class', 3))]), NONE),
     'class_4': (DESK, policy([('class', 4)]), NONE),
     'range': (DESK, policy([role(3)]), policy([role(3, ('class', 1))])),
     'two_halves': (DESK, policy([span(0, 9)]), policy([span(0, 4)], [span(5, 9)])),
     'a_hole': (DESK, policy([span(0, 9)]), policy([span(0, 4)], [span(6, 9)])),
     'five_pieces': (DESK, policy([span(1, 9)]), policy([span(5, 12)])),
-    'apart': (DESK, policy([span(0, 4), span(6, 9)]), NONE),
-    'apart_but_not_functional': (LOOSE, policy([span(0, 4), span(6, 9)]), NONE),
+    'apart': (DESK, APART, NONE),
+    'apart_by_default': (UNSTATED, APART, NONE),
+    'apart_but_not_functional': (MANY_VALUED, APART, NONE),
+    'role_3_many_valued': (DESK, R3_2_WITH_R3_3_3, R3_BOTH),
+    'role_3_by_default': (PRINTED, R3_2_WITH_R3_3_3, R3_BOTH),
+    'role_both_ways': (both_ways((3, 1, 0), (4, 1, 0), (6, 1, 0)), NONE, NONE),
+    'feature_both_ways': (both_ways((7, 2, 0), (3, 2, 0), (4, 2, 0)), NONE, NONE),
+    'role_and_feature_of_one_number': (both_ways((3, 1, 0), (7, 1, 0), (4, 2, 0), (6, 2, 0)), NONE, NONE),
+    'many_valued_twice': (both_ways((6, 1, 0), (7, 2, 0), (6, 1, 0), (7, 2, 0)), NONE, NONE),
+    'both_ways_and_kind_8': (both_ways((3, 1, 0), (6, 1, 0), (8, 1, 0)), NONE, NONE),
+    'both_ways_and_no_policy': (both_ways((3, 1, 0), (6, 1, 0)), [], []),
     'no_simple_policy': (DESK, NONE, R1_1),
     'only_an_empty_term': (DESK, R1_1, ANY),
     'all_individuals': (DESK, ANY, NONE),
@@ -111,9 +135,9 @@ CASES = {
     'features_17_in_the_impossible': (WIDE, policy(MANY), policy([('never',)])),
     'classes_256': (vocabulary(256, 0, 0), policy([('class', 256)]), policy([('class', 255)])),
     'classes_257': (vocabulary(257, 0, 0), policy([('class', 256)]), policy([('class', 255)])),
-    'depth_16': (LOOSE, policy(nested(16)), policy(nested(16))),
-    'depth_17': (LOOSE, policy(nested(17)), policy(nested(16))),
-    'depth_17_in_the_second': (LOOSE, policy(nested(16)), policy(nested(17))),
+    'depth_16': (UNSTATED, policy(nested(16)), policy(nested(16))),
+    'depth_17': (UNSTATED, policy(nested(17)), policy(nested(16))),
+    'depth_17_in_the_second': (UNSTATED, policy(nested(16)), policy(nested(17))),
 }
 
 

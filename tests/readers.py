@@ -36,7 +36,8 @@ def read_vocabulary(v):
     n, r, f, k = v[0:4]
     if not 1 <= n <= 256 or r > 64 or f > 64 or k > last:
         return 2
-    series = {1: (n, n), 2: (n, n), 3: (r, None), 4: (f, None), 5: (r, n)}
+    series = {1: (n, n), 2: (n, n), 3: (r, None), 4: (f, None), 5: (r, n), 6: (r, None), 7: (f, None)}
+    named = {kind: set() for kind in series}
     while k:
         kind, a, b, after = v[4 * k:4 * k + 4]
         if kind not in series:
@@ -44,8 +45,10 @@ def read_vocabulary(v):
         left, right = series[kind]
         if not 1 <= a <= left or (b != 0 if right is None else not 1 <= b <= right) or not link(last, k, after):
             return 3
+        named[kind].add(a)
         k = after
-    return 0
+    # a role that is functional and many-valued, or a feature
+    return 44 if named[3] & named[6] or named[4] & named[7] else 0
 
 
 def read_policy(v, p):

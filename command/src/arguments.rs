@@ -295,8 +295,12 @@ in another, and are told as they are written. Whatever else there is may state s
 left out: it is refused, with its line and column.
   refused 41: ..  the text has another form than the library reads
   refused 42: ..  a name is declared twice or not at all, or there are too few or too many
-  refused 1: ..   there are over 1,024 axioms
-Of several the first in this order is told. All verbs read a vocabulary so.";
+  refused 1: ..   over 1,024 records are needed: one for each axiom, and one for each role or feature
+                  that is not stated functional
+Of several the first in this order is told. All verbs read a vocabulary so.
+
+As in OWL, a role or a feature of a text may have many values unless it is stated functional. Of words
+it is the other way round: one has one value unless a record makes it many-valued.";
 
 const VOCABULARY_MORE: &str = "\
 Keys with --json: file, verdict (read, refused or unread); for read, classes, roles, features, axioms,

@@ -43,13 +43,9 @@ fn what_it_holds() {
     desk.run(&["vocabulary", "saved.ofn"]).is(0, told, LEFT_OUT);
     let told = "-: 1 class, 0 roles, 0 features, 0 axioms\n";
     desk.run_with(&["vocabulary", "-"], b"Declaration(Class(:A))").is(0, told, "");
-    // Of words, what the chain has counts.
-    desk.put("words", bytes(&[2, 0, 0, 2, 9, 9, 9, 9, 1, 2, 1, 0]));
-    desk.run(&["vocabulary", "words"]).is(
-        0,
-        "words: 2 classes, 0 roles, 0 features, 1 axiom\n",
-        "",
-    );
+    // Of words, what the chain has counts; that a name is many-valued is no axiom.
+    desk.put("words", bytes(&[2, 1, 0, 2, 9, 9, 9, 9, 1, 2, 1, 3, 6, 1, 0, 0]));
+    desk.run(&["vocabulary", "words"]).is(0, "words: 2 classes, 1 role, 0 features, 1 axiom\n", "");
     run_in(EXAMPLES, &["vocabulary", "editor.ofn"]).is(
         0,
         "editor.ofn: 6 classes, 3 roles, 1 feature, 8 axioms\n",
@@ -70,10 +66,14 @@ fn the_fragment_is_read_exactly() {
     let told = "fragment.ofn: 2 classes, 1 role, 1 feature, 2 axioms\n";
     desk.run(&["vocabulary", "--exact", "fragment.ofn"]).is(0, told, "");
     // Names that are numbers have a spelling, too.
-    desk.put("words", bytes(&[1, 1, 0, 1, 5, 1, 1, 0]));
+    desk.put("words", bytes(&[1, 1, 0, 1, 5, 1, 1, 2, 6, 1, 0, 0]));
     let fragment = "Ontology(\nDeclaration(Class(:C1))\nDeclaration(ObjectProperty(:r1))\n\
         ObjectPropertyRange(:r1 :C1)\n)\n";
     desk.run(&["vocabulary", "--fragment", "words"]).is(0, fragment, "");
+    // A role that words leave functional is stated so.
+    desk.put("words", bytes(&[1, 1, 0, 1, 5, 1, 1, 0]));
+    let fragment = fragment.replace(":C1)\n)", ":C1)\nFunctionalObjectProperty(:r1)\n)");
+    desk.run(&["vocabulary", "--fragment", "words"]).is(0, &fragment, "");
 }
 
 #[test]
@@ -123,7 +123,9 @@ fn a_mistake_is_told_by_every_verb_that_reads_it() {
         desk.run(&["aloud", "saved.ofn", "buyer.txt"]).is(2, "", &err);
     }
     desk.put("many.txt", VOCABULARY.to_owned() + &"SubClassOf(:Data :Data)\n".repeat(1_023));
-    let err = "gimbuka: many.txt:1026:1: refused 1: a vocabulary has at most 1024 axioms\n";
+    let err =
+        "gimbuka: many.txt:1025:1: refused 1: a vocabulary has at most 1024 records, one for each \
+        axiom and one for each role or feature that is not stated functional\n";
     desk.run(&["vocabulary", "many.txt"]).is(2, "", err);
     desk.put("all.txt", format!("{VOCABULARY}{}", unnamed(0, 1)));
     let err = "gimbuka: all.txt:4:1: refused 41: a policy stands in a text of its own, not in a vocabulary\n";
@@ -131,6 +133,10 @@ fn a_mistake_is_told_by_every_verb_that_reads_it() {
     desk.put("words", bytes(&[0, 0, 0, 0]));
     let err = "gimbuka: words: refused 2: in the vocabulary's header a count is out of range or the link is past the last record\n";
     desk.run(&["vocabulary", "words"]).is(2, "", err);
+    desk.put("words", bytes(&[1, 1, 0, 1, 3, 1, 0, 2, 6, 1, 0, 0]));
+    let err = "gimbuka: words: refused 44: a role or a feature of the vocabulary is stated both functional and many-valued\n";
+    desk.run(&["vocabulary", "words"]).is(2, "", err);
+    desk.run(&["check", "words", "buyer.txt", "buyer.txt"]).is(2, "", err);
 }
 
 #[test]

@@ -151,19 +151,21 @@ fn fill(call: impl FnOnce(&mut u32, &mut usize) -> u32) -> Result<usize, Refusal
     }
 }
 
-/// Reads a vocabulary from OWL 2 functional-style text, and writes its words to the output: `Ok` with how many.
+/// Reads a vocabulary from OWL 2 functional-style text, and writes its words to the output: `Ok` with how many. In OWL a role or a
+/// feature is many-valued unless it is stated functional: behind the axioms there is a record for each that is not.
 ///
 /// ```
-/// let text = b"Ontology( SubClassOf(:HeartRate :Data) Declaration(Class(:Data)) Declaration(Class(:HeartRate)) )";
-/// let mut out = [0; 8];
-/// assert_eq!(gimbuka::read_owl(text, &mut out), Ok(8));
-/// // Two classes, and one record: class 2 is below class 1.
-/// assert_eq!(out, [2, 0, 0, 1, 1, 2, 1, 0]);
+/// let text = b"Ontology( SubClassOf(:HeartRate :Data) Declaration(Class(:Data)) Declaration(Class(:HeartRate))
+///     Declaration(ObjectProperty(:uses)) )";
+/// let mut out = [0; 12];
+/// assert_eq!(gimbuka::read_owl(text, &mut out), Ok(12));
+/// // Two classes and a role, and two records: class 2 is below class 1, and role 1 is many-valued.
+/// assert_eq!(out, [2, 1, 0, 1, 1, 2, 1, 2, 6, 1, 0, 0]);
 /// ```
 ///
 /// # Errors
 ///
-/// 41 of the text, 42 of its names, 1 where it has over 1,024 axioms, then 23. Nothing is written then.
+/// 41 of the text, 42 of its names, 1 where it needs over 1,024 records, then 23. Nothing is written then.
 pub fn read_owl(text: &[u8], out: &mut [u32]) -> Result<usize, Refusal> {
     // SAFETY: the exclusive slice and the numbers overlap nothing.
     fill(|number, words| unsafe {
@@ -175,7 +177,7 @@ pub fn read_owl(text: &[u8], out: &mut [u32]) -> Result<usize, Refusal> {
 ///
 /// # Errors
 ///
-/// Refusals 1 to 3.
+/// Refusals 1 to 3, then 44.
 pub fn read_vocabulary(v: &[u32]) -> Result<(), Refusal> {
     // SAFETY: the pointer and length are a slice's, and `number` overlaps nothing.
     read(|number| unsafe { c::gimbuka_read_vocabulary(v.as_ptr(), v.len(), number) })
@@ -185,7 +187,7 @@ pub fn read_vocabulary(v: &[u32]) -> Result<(), Refusal> {
 ///
 /// # Errors
 ///
-/// Refusals 1 to 3 of the vocabulary, then 4 to 8.
+/// Refusals 1 to 3 and 44 of the vocabulary, then 4 to 8.
 pub fn read_policy(v: &[u32], p: &[u32]) -> Result<(), Refusal> {
     // SAFETY: as in `read_vocabulary`.
     read(|number| unsafe {
@@ -197,7 +199,7 @@ pub fn read_policy(v: &[u32], p: &[u32]) -> Result<(), Refusal> {
 ///
 /// # Errors
 ///
-/// Refusals 1 to 3 of the vocabulary, then 14 to 18.
+/// Refusals 1 to 3 and 44 of the vocabulary, then 14 to 18.
 pub fn read_second_policy(v: &[u32], q: &[u32]) -> Result<(), Refusal> {
     // SAFETY: as in `read_vocabulary`.
     read(|number| unsafe {

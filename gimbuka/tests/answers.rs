@@ -76,6 +76,12 @@ fn a_policy_may_be_impossible() {
     assert_eq!(possible(&V, &apart, &mut work), Ok(Possibility::Impossible));
     assert_eq!(possible(&V, &NONE, &mut work), Ok(Possibility::Impossible));
     assert!(is_cleared(&work));
+    // It is so where nothing is stated, too, and is not where it is many-valued.
+    assert_eq!(possible(&[1, 0, 1, 0], &apart, &mut work), Ok(Possibility::Impossible));
+    let mut many_valued = V;
+    many_valued[28] = 7;
+    let answer = possible(&many_valued, &apart, &mut work);
+    assert_eq!(answer, Ok(Possibility::Possible { term: 1 }));
 }
 
 #[test]

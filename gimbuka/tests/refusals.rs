@@ -23,19 +23,30 @@ fn with(words: &[u32], at: usize, word: u32) -> Vec<u32> {
 }
 
 /// Texts that are refused whatever the output.
-fn bad_texts() -> [(u32, String); 4] {
+fn bad_texts() -> [(u32, String); 5] {
     let long = format!("{}{}", owl(1), " ".repeat(MOST_OWL_BYTES));
     [
         (41, long),
         (41, owl(1).replace(")", "")),
         (42, owl(1).replace("Class(:A)", "Class(:B)")),
         (1, owl(1_025)),
+        // The role is not stated functional, and needs a record besides.
+        (1, owl(1_024).replace("))", ")) Declaration(ObjectProperty(:r))")),
     ]
 }
 
 /// Vocabularies that are refused.
-fn bad_vocabularies() -> [(u32, Vec<u32>); 3] {
-    [(1, V[..35].to_vec()), (2, with(&V, 0, 257)), (3, with(&V, 4, 6))]
+fn bad_vocabularies() -> [(u32, Vec<u32>); 6] {
+    // Role 3, which is many-valued, is stated functional.
+    let both_ways = with(&V, 21, 3);
+    [
+        (1, V[..39].to_vec()),
+        (2, with(&V, 0, 257)),
+        (3, with(&V, 4, 8)),
+        (3, with(&V, 38, 1)),
+        (3, with(&both_ways, 4, 8)),
+        (44, both_ways),
+    ]
 }
 
 /// Policies that are refused, with the numbers of a first one.
@@ -110,6 +121,7 @@ fn a_vocabulary() {
         assert_eq!(number(read_policy(&v, &[])), wanted);
         assert_eq!(number(read_second_policy(&v, &[])), wanted);
         assert_eq!(four(&v, &[], &[], &[], 0), [wanted; 4]);
+        assert_eq!(number(spell(&v, &[], &mut [], &mut [])), wanted);
     }
 }
 

@@ -18,6 +18,10 @@ pub(crate) const AXIOMS: [Form; 5] = [
     Form { keyword: "ObjectPropertyRange", sorts: &[Sort::Role, Sort::Class] },
 ];
 
+/// Of roles and of features, the kinds of the records that say that one is functional and that one is
+/// many-valued. OWL has an axiom for the former alone.
+pub(crate) const VALUES: [(Sort, u32, u32); 2] = [(Sort::Role, 3, 6), (Sort::Feature, 4, 7)];
+
 /// The axioms that state nothing, and how many values each has.
 pub(crate) const ANNOTATIONS: [(&str, usize, Mute); 4] = [
     ("AnnotationAssertion", 3, Mute::Annotation),

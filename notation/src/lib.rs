@@ -22,8 +22,10 @@
 //!
 //! # Vocabularies
 //!
-//! The words of a vocabulary are those that the proved operation `read_owl` writes. What that reads is
-//! narrow (SPECIFICATION 3.4), so that a vocabulary's text is first taken to it:
+//! The words of a vocabulary are those that the proved operation `read_owl` writes. As in OWL, a role or
+//! a feature of a text is many-valued unless it is stated functional: the words have a record for each
+//! that is not. What the operation reads is narrow (SPECIFICATION 3.4), so that a vocabulary's text is
+//! first taken to it:
 //!
 //! - `Ontology( )` may stand around the declarations and axioms, with an IRI, a version's IRI and
 //!   annotations; `Prefix( )` before it. Declarations and axioms may have annotations. There may be

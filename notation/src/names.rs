@@ -38,7 +38,7 @@ impl Names {
 }
 
 /// What a name is of. Each sort is numbered apart.
-#[derive(Clone, Copy, Debug, PartialEq, Eq)]
+#[derive(Clone, Copy, Debug, PartialEq, Eq, Hash)]
 pub(crate) enum Sort {
     Class,
     Role,

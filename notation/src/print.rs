@@ -1,6 +1,6 @@
 //! Words to text.
 
-use crate::forms::AXIOMS;
+use crate::forms::{AXIOMS, VALUES};
 use crate::names::{Names, Sort};
 use crate::scan::LONGEST_NAME;
 use crate::vocabulary::Vocabulary;
@@ -9,18 +9,40 @@ use std::collections::HashSet;
 use std::fmt::Write as _;
 
 /// The declarations and axioms of a vocabulary, a line each. They read back as the same words where
-/// its records are chained 1, 2, 3 and so on.
+/// these were read from a text, and else as words that say the same: in OWL a role or a feature is
+/// many-valued unless it is stated functional, so that one which is functional by default is stated so,
+/// behind the other axioms. With those over 1,024 records may be needed, which are not read.
 #[must_use]
 pub fn print_vocabulary(vocabulary: &Vocabulary) -> String {
-    lines(vocabulary.names(), &axioms(vocabulary.words()))
+    lines(vocabulary.names(), &said(vocabulary))
 }
 
 /// A vocabulary as the proved operation reads it, `Ontology( )` with a line for each declaration and
-/// axiom. A name that the operation has no spelling for is spelled otherwise. The words that it reads
-/// are the same where the vocabulary's records are chained 1, 2, 3 and so on.
+/// axiom. A name that the operation has no spelling for is spelled otherwise. What is said of the lines
+/// of [`print_vocabulary`] holds of these.
 #[must_use]
 pub fn print_owl(vocabulary: &Vocabulary) -> String {
-    owl(vocabulary.names(), &axioms(vocabulary.words()))
+    owl(vocabulary.names(), &said(vocabulary))
+}
+
+/// The axioms with which OWL says what a vocabulary's records say.
+fn said(vocabulary: &Vocabulary) -> Vec<[u32; 3]> {
+    let records = records(vocabulary.words());
+    let mut axioms = records.clone();
+    axioms.retain(|&[kind, ..]| is_axiom(kind));
+    for (sort, functional, many_valued) in VALUES {
+        let is_said = |name| [functional, many_valued].map(|kind| [kind, name, 0]);
+        let names = 1..=vocabulary.names().of(sort).len() as u32;
+        let by_default =
+            names.filter(|&name| !is_said(name).iter().any(|said| records.contains(said)));
+        axioms.extend(by_default.map(|name| [functional, name, 0]));
+    }
+    axioms
+}
+
+/// OWL has no axiom for what is many-valued.
+pub(crate) fn is_axiom(kind: u32) -> bool {
+    VALUES.iter().all(|&(.., many_valued)| many_valued != kind)
 }
 
 /// What the proved operation reads, of names and axioms.
@@ -36,16 +58,16 @@ pub(crate) fn owl(names: &Names, axioms: &[[u32; 3]]) -> String {
 }
 
 /// The records of a vocabulary's chain, as kind, a and b.
-pub(crate) fn axioms(words: &[u32]) -> Vec<[u32; 3]> {
-    let mut axioms = Vec::new();
+pub(crate) fn records(words: &[u32]) -> Vec<[u32; 3]> {
+    let mut records = Vec::new();
     let (mut own, mut link) = (0, words.get(3).copied().unwrap_or(0));
     while link > own {
         let start = 4 * link as usize;
         let Some(&[kind, a, b, next]) = words.get(start..start + 4) else { break };
-        axioms.push([kind, a, b]);
+        records.push([kind, a, b]);
         (own, link) = (link, next);
     }
-    axioms
+    records
 }
 
 /// Declarations, and axioms up to one that cannot be told.

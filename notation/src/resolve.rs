@@ -1,6 +1,6 @@
 //! From the names of a text to their numbers, and what is wrong with the names.
 
-use crate::forms::{OWL, PREFIXES};
+use crate::forms::{OWL, PREFIXES, VALUES};
 use crate::left_out::{LeftOut, Mute};
 use crate::mistake::{Mistake, Place};
 use crate::names::{Names, Sort};
@@ -8,9 +8,9 @@ use crate::owl::{Found, Name};
 use crate::scan::say;
 use std::borrow::Cow;
 use std::collections::hash_map::Entry;
-use std::collections::HashMap;
+use std::collections::{HashMap, HashSet};
 
-const MOST_AXIOMS: usize = 1_024;
+const MOST_RECORDS: usize = 1_024;
 
 /// The numbers of names by their whole IRIs, so that a name may be spelled in several ways.
 #[derive(Clone, Debug, Default)]
@@ -57,7 +57,7 @@ pub(crate) struct Resolved {
     pub left_out: LeftOut,
 }
 
-/// Something wrong with the names, or with how many axioms there are.
+/// Something wrong with the names, or with how many records there would be.
 #[derive(Clone, Copy)]
 enum Wrong<'a> {
     Owls(Name<'a>),
@@ -65,7 +65,7 @@ enum Wrong<'a> {
     TooMany(Sort, Name<'a>),
     Undeclared(Sort, Name<'a>),
     NoClass(usize),
-    TooManyAxioms(usize),
+    TooManyRecords(usize),
 }
 
 /// The numbers of refusals in the order in which they are told.
@@ -76,7 +76,7 @@ impl Wrong<'_> {
     fn rank(&self) -> usize {
         match self {
             Wrong::Owls(_) => 0,
-            Wrong::TooManyAxioms(_) => 2,
+            Wrong::TooManyRecords(_) => 2,
             _ => 1,
         }
     }
@@ -85,7 +85,7 @@ impl Wrong<'_> {
         match *self {
             Wrong::Owls(name) | Wrong::Twice(_, name) => name.at,
             Wrong::TooMany(_, name) | Wrong::Undeclared(_, name) => name.at,
-            Wrong::NoClass(at) | Wrong::TooManyAxioms(at) => at,
+            Wrong::NoClass(at) | Wrong::TooManyRecords(at) => at,
         }
     }
 }
@@ -97,7 +97,8 @@ pub(crate) fn resolve(text: &[u8], mut found: Found<'_>) -> Result<Resolved, Mis
     leave_out_owls(&iris, &mut found);
     let mut wrong = declare(&mut iris, &found);
     wrong.extend(undeclared(&iris, &found));
-    wrong.extend(found.stated.get(MOST_AXIOMS).map(|axiom| Wrong::TooManyAxioms(axiom.at)));
+    let left = MOST_RECORDS.saturating_sub(many_valued(&iris, &found));
+    wrong.extend(found.stated.get(left).map(|axiom| Wrong::TooManyRecords(axiom.at)));
     if let Some(first) = wrong.into_iter().min_by_key(|one| (one.rank(), one.at())) {
         let place = Place::START.behind(&text[..first.at()]);
         return Err(place.refused(ORDER[first.rank()], message(text, &found, &iris, first)));
@@ -150,6 +151,18 @@ fn declare<'a>(iris: &mut Iris, found: &Found<'a>) -> Vec<Wrong<'a>> {
     wrong
 }
 
+/// How many roles and features no axiom states functional: the proved operation adds a record for each.
+fn many_valued(iris: &Iris, found: &Found<'_>) -> usize {
+    let is_functional = |kind: u32| VALUES.iter().any(|&(_, functional, _)| functional == kind);
+    let functional = found.stated.iter().filter(|axiom| is_functional(axiom.kind));
+    let functional = functional.flat_map(|axiom| axiom.form.sorts.iter().zip(&axiom.names));
+    let functional: HashSet<(Sort, u32)> = functional
+        .filter_map(|(&sort, name)| Some((sort, iris.number(sort, name.text)?)))
+        .collect();
+    let all = VALUES.iter().map(|&(sort, ..)| iris.numbers[sort as usize].len());
+    all.sum::<usize>() - functional.len()
+}
+
 /// What is wrong with the names of axioms.
 fn undeclared<'a>(iris: &Iris, found: &Found<'a>) -> Vec<Wrong<'a>> {
     let mut wrong = Vec::new();
@@ -188,7 +201,10 @@ fn message(text: &[u8], found: &Found<'_>, iris: &Iris, wrong: Wrong<'_>) -> Str
             format!("the {} {} is not declared{hint}", sort.what(), say(name.text))
         }
         Wrong::NoClass(_) => "a vocabulary has at least one class; none is declared".to_owned(),
-        Wrong::TooManyAxioms(_) => format!("a vocabulary has at most {MOST_AXIOMS} axioms"),
+        Wrong::TooManyRecords(_) => format!(
+            "a vocabulary has at most {MOST_RECORDS} records, one for each axiom and one for each \
+             role or feature that is not stated functional"
+        ),
     }
 }
 

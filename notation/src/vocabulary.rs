@@ -92,10 +92,11 @@ impl Vocabulary {
         &self.names
     }
 
-    /// How many axioms the words state.
+    /// How many axioms the words state. A record that makes a name many-valued is none.
     #[must_use]
     pub fn axioms(&self) -> usize {
-        print::axioms(&self.words).len()
+        let records = print::records(&self.words);
+        records.iter().filter(|&&[kind, ..]| print::is_axiom(kind)).count()
     }
 
     /// What the text has beside what the words state.

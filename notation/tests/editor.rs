@@ -6,7 +6,7 @@ use reasoner::random::owl::source::{around, Form, Source};
 use reasoner::random::Rng;
 use std::fs;
 
-const WORDS: [u32; 8] = [2, 1, 0, 1, 1, 1, 2, 0];
+const WORDS: [u32; 12] = [2, 1, 0, 1, 1, 1, 2, 2, 6, 1, 0, 0];
 const DESK: &str = "Declaration(Class(:A)) Declaration(Class(:B)) Declaration(ObjectProperty(:r))
     SubClassOf(:A :B)";
 
@@ -272,7 +272,8 @@ fn reasons() {
 fn of_several_mistakes_the_operations_first_is_told() {
     let axioms = "\nSubClassOf(:A :B)".repeat(1_024);
     let many = format!("{DESK}{axioms}");
-    assert!(refused(&many).starts_with("line 1026, column 1: refused 1: "));
+    // The role takes a record, too.
+    assert!(refused(&many).starts_with("line 1025, column 1: refused 1: "));
     let unknown = format!("{many}\nSubClassOf(:A :X) SubClassOf(:X :A)");
     assert!(refused(&unknown).starts_with("line 1027, column 15: refused 42: "));
     let owls = format!("{unknown}\nSubClassOf(:A owl:Thing)");
@@ -291,7 +292,7 @@ fn a_name_is_its_whole_iri() {
     let text =
         text.replace("p:#", "h:").replace("Ontology(", "Prefix(h:=<http://x.y/#>) Ontology(");
     let found = read(&text);
-    assert_eq!(found.words(), [5, 1, 0, 1, 1, 1, 2, 2, 1, 3, 4, 3, 5, 1, 5, 0]);
+    assert_eq!(found.words(), [5, 1, 0, 1, 1, 1, 2, 2, 1, 3, 4, 3, 5, 1, 5, 4, 6, 1, 0, 0]);
     // They are told as they were declared.
     let Names { classes, roles, .. } = found.names();
     assert_eq!(classes[..], [":A", "h:B", "<http://x.y/#C>", "<http://z/#A>", "q:A"]);
@@ -369,7 +370,8 @@ fn the_largest_vocabularies_are_read() {
             text += &format!("Declaration({sort}({}))\n", name(letter, number));
         }
     }
-    for number in 0..1_024 {
+    // And a record for each role and feature.
+    for number in 0..1_024 - 64 - 64 {
         text += &format!(
             "ObjectPropertyRange({} {})\n",
             name('r', number % 64),
@@ -379,7 +381,9 @@ fn the_largest_vocabularies_are_read() {
     assert!(text.len() > 200_000);
     let found = read(&text);
     assert_eq!(found.words().len(), 4_100);
-    assert_eq!(found.words()[4 * 1_000..][..4], [5, 999 % 64 + 1, 999 % 256 + 1, 1_001]);
+    assert_eq!(found.words()[4 * 800..][..4], [5, 799 % 64 + 1, 799 % 256 + 1, 801]);
+    assert_eq!(found.words()[4 * 1_024..], [7, 64, 0, 0]);
+    assert_eq!(found.axioms(), 896);
     assert_eq!(found.names().roles[63], name('r', 63));
     let exact = Vocabulary::exact(print_owl(&found).as_bytes()).expect("a vocabulary");
     assert_eq!(exact.words(), found.words());

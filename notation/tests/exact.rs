@@ -219,10 +219,23 @@ fn limits() {
     let axioms = |count: usize| ontology(&format!("{two}{}", "\nSubClassOf(:A:B)".repeat(count)));
     let most = Vocabulary::exact(axioms(1_024).as_bytes()).expect("a vocabulary");
     assert_eq!(most.words().len(), MOST_VOCABULARY_WORDS);
+    let told = "refused 1: a vocabulary has at most 1024 records, one for each axiom and one for each role \
+                or feature that is not stated functional";
     assert_eq!(
         mistake(axioms(1_025).as_bytes()).to_string(),
-        "line 1026, column 1: refused 1: a vocabulary has at most 1024 axioms"
+        format!("line 1026, column 1: {told}")
     );
+    // A role and a feature take a record each, unless they are stated functional.
+    let names = "Declaration(ObjectProperty(:r)) Declaration(DataProperty(:f)) ";
+    let functional = "FunctionalObjectProperty(:r) FunctionalObjectProperty(:r) ";
+    for (stated, most) in [("", 1_022), (functional, 1_021)] {
+        let front = format!("Ontology({names}{stated}");
+        let with_names = |count: usize| axioms(count).replace("Ontology(", &front);
+        let read = Vocabulary::exact(with_names(most).as_bytes()).expect("a vocabulary");
+        assert_eq!(read.words().len(), MOST_VOCABULARY_WORDS);
+        let refused = mistake(with_names(most + 1).as_bytes()).to_string();
+        assert_eq!(refused, format!("line {}, column 1: {told}", most + 2));
+    }
     // What comes before 1 is told before it, wherever it stands.
     let twice = axioms(1_025).replace("\n)", "\nDeclaration(Class(:A))\n)");
     is_at(twice.as_bytes(), twice.rfind(":A").expect("a name"), 42);

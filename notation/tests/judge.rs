@@ -10,7 +10,7 @@ use notation::{
 use reasoner::encode::policy_words;
 use reasoner::random::{Case, Family, Rng};
 use reasoner::text::{Document as Judge, Names};
-use reasoner::{read_policy, Reading};
+use reasoner::{possible, read_policy, Reading, FULL_WORK};
 
 /// Texts of one test, most of them damaged.
 const TEXTS: usize = 100_000;
@@ -29,6 +29,10 @@ fn random(rng: &mut Rng, seed: u64) -> Option<Judge> {
     ];
     let case = Case::generate(*rng.pick(&FAMILIES), seed);
     let mut document = Judge::decode(&case.bytes()).ok()?;
+    // A text says in its own way what is functional and what is not.
+    let axioms = document.vocabulary.said_in_owl();
+    document.vocabulary.axioms = axioms;
+    document.vocabulary = document.vocabulary.read_as_owl();
     let Names { classes, roles, features } = &mut document.names;
     match rng.below(4) {
         0 => {}
@@ -242,7 +246,7 @@ fn is_told_otherwise(
     let says = |part: &str| said.contains(part);
     let judged_refusal = match said {
         _ if says("declared twice") || says("too many") || says("at least one class") => Some(42),
-        _ if says("axioms") => Some(1),
+        _ if says("at most 1024 records") => Some(1),
         _ => None,
     };
     let found_order = order(found.refusal, &found.message);
@@ -421,7 +425,7 @@ fn words_are_printed_as_the_judge_prints_them() {
 
 #[test]
 fn any_words_are_printed_or_not() {
-    let (mut accepted, mut refused) = (0, 0);
+    let (mut accepted, mut refused, mut by_default) = (0, 0, 0);
     for seed in 0..20_000 {
         let case = Case::any(seed);
         let vocabulary = Vocabulary::of_words(case.v.clone());
@@ -436,9 +440,17 @@ fn any_words_are_printed_or_not() {
         assert_eq!(print_policy(vocabulary.names(), &again), Some(text));
         let again = Vocabulary::parse(axioms.as_bytes()).expect("a vocabulary");
         assert_eq!(print_vocabulary(&again), axioms);
+        // What is functional by default is functional in the text, and what is not is not.
+        if let Ok(judge) = Judge::decode(&case.bytes()) {
+            assert_eq!(axioms, judge.axioms(), "{case}");
+        }
+        let can_be = |v: &[u32]| possible(v, &case.p, &mut [0; FULL_WORK]);
+        assert_eq!(can_be(again.words()), can_be(&case.v), "{case}");
+        by_default += u32::from(again.axioms() > vocabulary.axioms());
         accepted += 1;
     }
     assert!(accepted > 10_000 && refused > 1_000, "{accepted} {refused}");
+    assert!(by_default > 5_000, "{by_default}");
 }
 
 #[test]
@@ -453,7 +465,7 @@ fn countermodels_are_told_as_the_judge_tells_them() {
             continue;
         }
         let mut work = case.work();
-        work.resize(reasoner::FULL_WORK, 0);
+        work.resize(FULL_WORK, 0);
         let mut out = vec![0; 700_005];
         let verdict = reasoner::compliance(&case.v, &case.p, &case.q, &mut work, &mut out);
         let reasoner::Verdict::Outside(_, _, length) = verdict else { panic!("{verdict:?}") };

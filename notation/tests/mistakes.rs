@@ -156,10 +156,12 @@ fn names_and_records_are_limited() {
         );
     }
     let axioms = |count: usize| [DESK, "\nSubClassOf(:A :B)".repeat(count).as_bytes()].concat();
-    assert!(Vocabulary::parse(&axioms(1_024)).is_ok());
+    // The role and the feature, which are not stated functional, take a record each.
+    assert!(Vocabulary::parse(&axioms(1_022)).is_ok());
     assert_eq!(
-        in_vocabulary(&axioms(1_025)),
-        "line 1027, column 1: refused 1: a vocabulary has at most 1024 axioms"
+        in_vocabulary(&axioms(1_023)),
+        "line 1025, column 1: refused 1: a vocabulary has at most 1024 records, one for each axiom and \
+         one for each role or feature that is not stated functional"
     );
     let wide = |count: usize| format!("Policy(ObjectIntersectionOf({}))", ":A ".repeat(count));
     assert_eq!(policy(&desk(), wide(511).as_bytes()).expect("a policy").words.len(), 513 * 6);

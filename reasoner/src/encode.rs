@@ -23,6 +23,8 @@ fn axiom_words(axiom: Axiom) -> [u32; 3] {
         Axiom::FunctionalRole(role) => [3, role.0, 0],
         Axiom::FunctionalFeature(feature) => [4, feature.0, 0],
         Axiom::Range(role, class) => [5, role.0, class.0],
+        Axiom::ManyValuedRole(role) => [6, role.0, 0],
+        Axiom::ManyValuedFeature(feature) => [7, feature.0, 0],
     }
 }
 

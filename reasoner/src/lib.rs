@@ -98,19 +98,19 @@ pub enum Checked {
     Refused(u32),
 }
 
-/// Read vocabulary: refusals 1 to 3.
+/// Read vocabulary: refusals 1 to 3, then 44.
 #[must_use]
 pub fn read_vocabulary(v: &[u32]) -> Reading {
     accepted(Vocabulary::read(v))
 }
 
-/// Read policy, vocabulary first: refusals 1 to 3, then 4 to 8.
+/// Read policy, vocabulary first: refusals 1 to 3 and 44, then 4 to 8.
 #[must_use]
 pub fn read_policy(v: &[u32], p: &[u32]) -> Reading {
     accepted(Vocabulary::read(v).and_then(|vocabulary| Policy::read(&vocabulary, p, Place::First)))
 }
 
-/// Read a second policy, vocabulary first: refusals 1 to 3, then 14 to 18.
+/// Read a second policy, vocabulary first: refusals 1 to 3 and 44, then 14 to 18.
 #[must_use]
 pub fn read_second_policy(v: &[u32], q: &[u32]) -> Reading {
     accepted(Vocabulary::read(v).and_then(|vocabulary| Policy::read(&vocabulary, q, Place::Second)))

@@ -1,7 +1,8 @@
 //! Model check: the words of an interpretation, read and evaluated by the meaning.
 
+use crate::classes::{FeatureNo, RoleNo};
 use crate::policy::{Conjunct, Policy};
-use crate::vocabulary::{link_fits, Axiom, Vocabulary};
+use crate::vocabulary::{link_fits, Axiom, Functional, Vocabulary};
 
 const RECORD: usize = 5;
 const LONGEST: usize = 700_005;
@@ -140,9 +141,32 @@ impl Interpretation {
         Some(())
     }
 
-    /// "everything the vocabulary's chain states of its names is true in it"
+    /// "An interpretation that satisfies the vocabulary keeps this default as if a record stated it; a
+    /// record of kind 6 or 7 lifts it and asks nothing of the interpretation."
     #[must_use]
     pub fn satisfies(&self, vocabulary: &Vocabulary) -> bool {
+        self.keeps_default(vocabulary) && self.keeps_records(vocabulary)
+    }
+
+    /// Has no individual two values of a role or feature that is functional?
+    fn keeps_default(&self, vocabulary: &Vocabulary) -> bool {
+        let functional = Functional::of(vocabulary);
+        let mut roles = (1..=vocabulary.roles).map(RoleNo);
+        let mut features = (1..=vocabulary.features).map(FeatureNo);
+        roles.all(|role| !functional.has_role(role) || self.is_single_role(role))
+            && features.all(|one| !functional.has_feature(one) || self.is_single_feature(one))
+    }
+
+    fn is_single_role(&self, role: RoleNo) -> bool {
+        self.edges[role.0 as usize - 1].iter().all(|row| row.count() <= 1)
+    }
+
+    fn is_single_feature(&self, feature: FeatureNo) -> bool {
+        self.values[feature.0 as usize - 1].windows(2).all(|pair| pair[0].0 != pair[1].0)
+    }
+
+    /// "everything the vocabulary's chain states of its names is true in it"
+    fn keeps_records(&self, vocabulary: &Vocabulary) -> bool {
         vocabulary.axioms.iter().all(|&axiom| match axiom {
             Axiom::Below(a, b) => {
                 self.members[a.0 as usize - 1].is_within(&self.members[b.0 as usize - 1])
@@ -150,12 +174,9 @@ impl Interpretation {
             Axiom::Disjoint(a, b) => {
                 !self.members[a.0 as usize - 1].meets(&self.members[b.0 as usize - 1])
             }
-            Axiom::FunctionalRole(role) => {
-                self.edges[role.0 as usize - 1].iter().all(|row| row.count() <= 1)
-            }
-            Axiom::FunctionalFeature(feature) => {
-                self.values[feature.0 as usize - 1].windows(2).all(|pair| pair[0].0 != pair[1].0)
-            }
+            // Nothing that is named by these is many-valued, so that the default asks it.
+            Axiom::FunctionalRole(_) | Axiom::FunctionalFeature(_) => true,
+            Axiom::ManyValuedRole(_) | Axiom::ManyValuedFeature(_) => true,
             Axiom::Range(role, class) => {
                 let members = &self.members[class.0 as usize - 1];
                 self.edges[role.0 as usize - 1].iter().all(|row| row.is_within(members))

@@ -9,7 +9,7 @@ use std::collections::HashMap;
 use std::ops::RangeInclusive;
 
 const MOST_BYTES: usize = 65_536;
-const MOST_AXIOMS: usize = 1_024;
+const MOST_RECORDS: usize = 1_024;
 const LONGEST_NAME: usize = 32;
 
 /// Read OWL: 41 of the whole text, then 42, then 1, then 23.
@@ -20,8 +20,8 @@ pub fn read_owl(text: &[u8], out: &mut [u32]) -> Filling {
 
 fn written(text: &[u8], out: &mut [u32]) -> Result<Filling, u32> {
     let ontology = Ontology::read(text).ok_or(41u32)?;
-    let vocabulary = ontology.vocabulary().ok_or(42u32)?;
-    if vocabulary.axioms.len() > MOST_AXIOMS {
+    let vocabulary = ontology.vocabulary().ok_or(42u32)?.read_as_owl();
+    if vocabulary.axioms.len() > MOST_RECORDS {
         return Err(1);
     }
     let words = vocabulary_words(&vocabulary);

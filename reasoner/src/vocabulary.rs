@@ -2,6 +2,7 @@
 
 use crate::classes::{ClassNo, ClassSet, FeatureNo, RoleNo};
 use std::cell::OnceCell;
+use std::collections::HashSet;
 use std::ops::RangeInclusive;
 
 const RECORD: usize = 4;
@@ -27,6 +28,10 @@ pub enum Axiom {
     FunctionalFeature(FeatureNo),
     /// Kind 5: "every value of role a is in class b".
     Range(RoleNo, ClassNo),
+    /// Kind 6: "role a is many-valued".
+    ManyValuedRole(RoleNo),
+    /// Kind 7: "feature a is many-valued".
+    ManyValuedFeature(FeatureNo),
 }
 
 /// An accepted vocabulary: the three counts and the chain's statements in order.
@@ -43,7 +48,7 @@ pub struct Vocabulary {
 }
 
 impl Vocabulary {
-    /// "Read vocabulary": the refusal is 1, 2 or 3.
+    /// "Read vocabulary": the refusal is 1, 2, 3 or 44.
     pub fn read(v: &[u32]) -> Result<Self, u32> {
         if v.len() % RECORD != 0 || v.len() < RECORD || v.len() > LONGEST {
             return Err(1);
@@ -66,6 +71,9 @@ impl Vocabulary {
             }
             at = next;
         }
+        if read.is_named_both_ways() {
+            return Err(44);
+        }
         Ok(read)
     }
 
@@ -76,8 +84,66 @@ impl Vocabulary {
             3 if b == 0 => Some(Axiom::FunctionalRole(self.role(a)?)),
             4 if b == 0 => Some(Axiom::FunctionalFeature(self.feature(a)?)),
             5 => Some(Axiom::Range(self.role(a)?, self.class(b)?)),
+            6 if b == 0 => Some(Axiom::ManyValuedRole(self.role(a)?)),
+            7 if b == 0 => Some(Axiom::ManyValuedFeature(self.feature(a)?)),
             _ => None,
         }
+    }
+
+    /// "A role or feature named both ways": by a record of kind 3 and one of kind 6, or by 4 and 7.
+    fn is_named_both_ways(&self) -> bool {
+        let functional = Functional::of(self);
+        self.axioms.iter().any(|&axiom| match axiom {
+            Axiom::FunctionalRole(role) => !functional.has_role(role),
+            Axiom::FunctionalFeature(feature) => !functional.has_feature(feature),
+            _ => false,
+        })
+    }
+
+    /// What the axioms of an OWL text mean, where a name is many-valued unless it is stated functional:
+    /// with a record of kind 6 or 7 behind them for each other name.
+    #[must_use]
+    pub fn read_as_owl(mut self) -> Self {
+        let more = self.of_the_unsaid(Axiom::ManyValuedRole, Axiom::ManyValuedFeature);
+        self.axioms.extend(more);
+        self
+    }
+
+    /// The axioms of an OWL text that means the same: those that OWL has, and behind them one for each
+    /// name that is functional and is not stated so.
+    #[must_use]
+    pub fn said_in_owl(&self) -> Vec<Axiom> {
+        let is_owl = |axiom: &Axiom| {
+            !matches!(axiom, Axiom::ManyValuedRole(_) | Axiom::ManyValuedFeature(_))
+        };
+        let mut axioms: Vec<Axiom> = self.axioms.iter().copied().filter(is_owl).collect();
+        axioms.extend(self.of_the_unsaid(Axiom::FunctionalRole, Axiom::FunctionalFeature));
+        axioms
+    }
+
+    /// Such a record of each name of which none says whether it is functional: "roles rising, then
+    /// features rising".
+    fn of_the_unsaid(
+        &self,
+        of_role: fn(RoleNo) -> Axiom,
+        of_feature: fn(FeatureNo) -> Axiom,
+    ) -> Vec<Axiom> {
+        let (mut roles, mut features) = (HashSet::new(), HashSet::new());
+        for &axiom in &self.axioms {
+            match axiom {
+                Axiom::FunctionalRole(role) | Axiom::ManyValuedRole(role) => {
+                    roles.insert(role);
+                }
+                Axiom::FunctionalFeature(feature) | Axiom::ManyValuedFeature(feature) => {
+                    features.insert(feature);
+                }
+                Axiom::Below(..) | Axiom::Disjoint(..) | Axiom::Range(..) => {}
+            }
+        }
+        let unsaid_roles = (1..=self.roles).map(RoleNo).filter(|role| !roles.contains(role));
+        let unsaid_features = (1..=self.features).map(FeatureNo);
+        let unsaid_features = unsaid_features.filter(|feature| !features.contains(feature));
+        unsaid_roles.map(of_role).chain(unsaid_features.map(of_feature)).collect()
     }
 
     /// The class with this number, if the count has it.
@@ -106,6 +172,44 @@ pub(crate) fn link_fits(own: u32, link: u32, last: u32) -> bool {
     link == 0 || (link > own && link <= last)
 }
 
+/// "Every role and feature is functional unless a record of kind 6 or 7 makes it many-valued." Each
+/// set has a bit for each number, 0 for what is many-valued.
+#[derive(Clone, Copy, Debug, PartialEq, Eq)]
+pub struct Functional {
+    roles: u64,
+    features: u64,
+}
+
+impl Functional {
+    /// What the vocabulary leaves functional.
+    #[must_use]
+    pub fn of(vocabulary: &Vocabulary) -> Self {
+        let mut functional = Self { roles: u64::MAX, features: u64::MAX };
+        for axiom in &vocabulary.axioms {
+            match axiom {
+                Axiom::ManyValuedRole(role) => functional.roles &= !(1 << (role.0 - 1)),
+                Axiom::ManyValuedFeature(feature) => {
+                    functional.features &= !(1 << (feature.0 - 1));
+                }
+                _ => {}
+            }
+        }
+        functional
+    }
+
+    /// Is the role functional?
+    #[must_use]
+    pub fn has_role(&self, role: RoleNo) -> bool {
+        self.roles >> (role.0 - 1) & 1 == 1
+    }
+
+    /// Is the feature functional?
+    #[must_use]
+    pub fn has_feature(&self, feature: FeatureNo) -> bool {
+        self.features >> (feature.0 - 1) & 1 == 1
+    }
+}
+
 /// What normalising needs of a vocabulary: Table 1's side conditions, ready to look up.
 pub struct Rules {
     upward: Upward,
@@ -116,8 +220,7 @@ pub struct Rules {
     stated_ranges: Vec<ClassSet>,
     /// For each role the upward closure of its ranges.
     ranges: Vec<ClassSet>,
-    functional_roles: u64,
-    functional_features: u64,
+    functional: Functional,
 }
 
 impl Rules {
@@ -130,22 +233,22 @@ impl Rules {
             disjoint: vec![ClassSet::EMPTY; vocabulary.classes as usize],
             stated_ranges: vec![ClassSet::EMPTY; vocabulary.roles as usize],
             ranges: vec![ClassSet::EMPTY; vocabulary.roles as usize],
-            functional_roles: 0,
-            functional_features: 0,
+            functional: Functional::of(vocabulary),
         };
         for &axiom in &vocabulary.axioms {
             match axiom {
-                Axiom::Below(..) => {}
                 Axiom::Disjoint(a, b) => rules.disjoint[a.0 as usize - 1].insert(b),
-                Axiom::FunctionalRole(role) => rules.functional_roles |= 1 << (role.0 - 1),
-                Axiom::FunctionalFeature(feature) => {
-                    rules.functional_features |= 1 << (feature.0 - 1);
-                }
                 Axiom::Range(role, class) => {
                     let closed = *rules.above(class);
                     rules.stated_ranges[role.0 as usize - 1].insert(class);
                     rules.ranges[role.0 as usize - 1].absorb(&closed);
                 }
+                // Taken up above.
+                Axiom::Below(..)
+                | Axiom::FunctionalRole(_)
+                | Axiom::FunctionalFeature(_)
+                | Axiom::ManyValuedRole(_)
+                | Axiom::ManyValuedFeature(_) => {}
             }
         }
         rules
@@ -193,13 +296,13 @@ impl Rules {
     /// Is the role functional?
     #[must_use]
     pub fn is_functional_role(&self, role: RoleNo) -> bool {
-        (self.functional_roles >> (role.0 - 1)) & 1 == 1
+        self.functional.has_role(role)
     }
 
     /// Is the feature functional?
     #[must_use]
     pub fn is_functional_feature(&self, feature: FeatureNo) -> bool {
-        (self.functional_features >> (feature.0 - 1)) & 1 == 1
+        self.functional.has_feature(feature)
     }
 
     /// Rule 7 on a set closed upward; "a class below both of two disjoint classes is impossible

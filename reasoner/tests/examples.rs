@@ -2,7 +2,7 @@
 
 mod common;
 
-use common::{c, desk_vocabulary, f, names, r, words, work};
+use common::{c, desk_vocabulary, f, many_valued, names, r, words, work};
 use reasoner::classes::FeatureNo;
 use reasoner::normal::{normalise, Span};
 use reasoner::policy::{Conjunct, Policy, Term};
@@ -49,7 +49,10 @@ fn the_papers_input_words() {
     let bytes: Vec<u8> = input.iter().flat_map(|word| word.to_le_bytes()).collect();
     let p = words(&[vec![r(1, vec![c(1)])]]);
     let q = words(&[vec![r(1, vec![c(2)])]]);
-    assert_eq!(bytes, bytes_of_parts(&desk_vocabulary(true), &p, &q));
+    // They were printed before role 3 had its kind 6, and are answered as they were.
+    let mut before = desk_vocabulary(true)[..36].to_vec();
+    before[35] = 0;
+    assert_eq!(bytes, bytes_of_parts(&before, &p, &q));
     assert_eq!(program(&bytes), b"outside 1 1\nedge 1 1 2\nmember 1 2\n");
 }
 
@@ -257,7 +260,7 @@ fn constraints_go_by_individual() {
 
 #[test]
 fn a_pair_is_written_once() {
-    let v = names(1, 0, 1);
+    let v = many_valued(1, 0, 1);
     let (verdict, out) = decide(&v, &[vec![f(1, 4, 4), f(1, 4, 4), f(1, 2, 2)]], &[]);
     assert_eq!(verdict, Verdict::Outside(1, 1, 15));
     assert_eq!(out[..16], [1, 1, 0, 0, 0, 3, 1, 1, 2, 2, 3, 1, 1, 4, 0, 9]);

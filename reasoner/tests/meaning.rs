@@ -160,19 +160,28 @@ impl Tiny {
 
     fn satisfies(self, kb: &Kb) -> bool {
         let individuals = 0..self.n;
-        kb.axioms.iter().all(|&(kind, a, b)| match kind {
+        let one_edge = || {
+            individuals
+                .clone()
+                .all(|x| individuals.clone().filter(|&y| self.edge(x, y)).count() < 2)
+        };
+        let one_value = || {
+            individuals.clone().all(|x| (0..3).filter(|&value| self.value(x, value)).count() < 2)
+        };
+        let stated = kb.axioms.iter().all(|&(kind, a, b)| match kind {
             1 => individuals.clone().all(|x| !self.member(a, x) || self.member(b, x)),
             2 => individuals.clone().all(|x| !(self.member(a, x) && self.member(b, x))),
-            3 => individuals
-                .clone()
-                .all(|x| individuals.clone().filter(|&y| self.edge(x, y)).count() < 2),
-            4 => individuals
-                .clone()
-                .all(|x| (0..3).filter(|&value| self.value(x, value)).count() < 2),
-            _ => individuals
+            3 => one_edge(),
+            4 => one_value(),
+            5 => individuals
                 .clone()
                 .all(|y| self.member(b, y) || !(0..self.n).any(|x| self.edge(x, y))),
-        })
+            _ => true,
+        });
+        // A vocabulary without the role or the feature asks nothing of it, and no policy speaks of it.
+        let default = (kb.r == 0 || !kb.is_functional_role(1) || one_edge())
+            && (kb.f == 0 || !kb.is_functional_feature(1) || one_value());
+        stated && default
     }
 
     fn is_in(self, x: u32, policy: &[Simple]) -> bool {

@@ -1,6 +1,5 @@
 //! A vocabulary from OWL text: every reading, every refusal and their order; and the texts that the generators make.
 
-use reasoner::encode::vocabulary_words;
 use reasoner::random::owl::directed::{self, Directed};
 use reasoner::random::owl::shrink::shrink;
 use reasoner::random::owl::source::{around, lay_out, Layout, Source};
@@ -68,7 +67,7 @@ fn order_and_layout_say_nothing() {
     let mut read_to_words = 0;
     for _ in 0..4_000 {
         let source = Source::random(&mut rng);
-        let words = vocabulary_words(&source.vocabulary);
+        let words = source.words();
         for layout in Layout::ALL {
             let tokens = around(source.forms_in_any_order(&mut rng));
             let text = Text::of(lay_out(&mut rng, layout, &tokens));
@@ -149,7 +148,7 @@ fn a_seed_makes_one_text() {
     }
 }
 
-/// A slow text has the refusal that its name ends in, or is read; and all but two are as long as can be.
+/// A slow text has the refusal that its name ends in, or is read; and all but three are as long as can be.
 #[test]
 fn slow_texts_are_what_their_names_say() {
     let mut short = 0;
@@ -159,10 +158,11 @@ fn slow_texts_are_what_their_names_say() {
         assert!(text.bytes.len() <= 65_536, "{name}");
         short += u32::from(text.bytes.len() < 65_400);
     }
-    assert_eq!(short, 2);
+    assert_eq!(short, 3);
     let (_, everyday) = &slow::texts()[0];
     let words = read(everyday).unwrap();
-    assert_eq!((&words[..3], words.len()), (&[256, 20, 5][..], 4 * 301));
+    // 300 axioms, and a record for each of 8 roles and a feature.
+    assert_eq!((&words[..3], words.len()), (&[256, 20, 5][..], 4 * 310));
 }
 
 #[test]
@@ -176,9 +176,9 @@ fn shrinking_keeps_what_differs() {
         if differs(&text) {
             let small = shrink(&text, &mut differs);
             assert!(differs(&small));
-            // Two axioms, and at most four names of one character.
+            // Two axioms, at most four names of one character, and a record for a role or two.
             assert!(small.bytes.len() <= 166, "{small}");
-            assert_eq!((small.out_len, small.out_seed), (12, 0), "{small}");
+            assert!(small.out_len <= 20 && small.out_seed == 0, "{small}");
             shrunk += 1;
         }
     }

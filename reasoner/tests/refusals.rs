@@ -9,12 +9,12 @@ use reasoner::*;
 use std::collections::{BTreeMap, BTreeSet};
 
 /// The refusals of an operation in its order; walk faults are one stage.
-const VOCABULARY: &[u32] = &[1, 2, 3];
-const POLICY: &[u32] = &[1, 2, 3, 4, 5, 6];
-const SECOND: &[u32] = &[1, 2, 3, 14, 15, 16];
-const POSSIBLE: &[u32] = &[1, 2, 3, 4, 5, 6, 21];
-const COMPLIANCE: &[u32] = &[1, 2, 3, 4, 5, 6, 14, 15, 16, 21, 22, 23];
-const MODEL: &[u32] = &[1, 2, 3, 4, 5, 6, 14, 15, 16, 31, 32, 33, 21];
+const VOCABULARY: &[u32] = &[1, 2, 3, 44];
+const POLICY: &[u32] = &[1, 2, 3, 44, 4, 5, 6];
+const SECOND: &[u32] = &[1, 2, 3, 44, 14, 15, 16];
+const POSSIBLE: &[u32] = &[1, 2, 3, 44, 4, 5, 6, 21];
+const COMPLIANCE: &[u32] = &[1, 2, 3, 44, 4, 5, 6, 14, 15, 16, 21, 22, 23];
+const MODEL: &[u32] = &[1, 2, 3, 44, 4, 5, 6, 14, 15, 16, 31, 32, 33, 21];
 
 /// What an operation refused, if it did.
 fn refusals(case: &Case) -> [Option<u32>; 7] {
@@ -226,6 +226,10 @@ fn limits_answer_as_the_paper_says() {
         ("65 roles", 2),
         ("65 features", 2),
         ("1,025 vocabulary records", 1),
+        ("many-valued role 65 of 64", 3),
+        ("many-valued feature 65 of 64", 3),
+        ("1,024 vocabulary records, a role both ways by the first and the last", 44),
+        ("1,025 vocabulary records, a role both ways by the first and the last", 1),
         ("513 policy records in one term", 4),
         ("513 terms", 4),
         ("depth 17", 8),

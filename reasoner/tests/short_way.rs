@@ -112,9 +112,7 @@ impl Pair {
 
     /// Does the short way succeed because something is functional?
     fn is_merged(&self) -> bool {
-        let mut kb = self.kb.clone();
-        kb.axioms.retain(|&(kind, ..)| kind != 3 && kind != 4);
-        is_taken(&self.forth) && !is_short(&lines(&kb, &self.left, &self.right))
+        is_taken(&self.forth) && !is_short(&lines(&self.kb.many_valued(), &self.left, &self.right))
     }
 }
 

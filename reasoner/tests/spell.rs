@@ -5,7 +5,7 @@ mod common;
 
 use common::literal::{self, read_kb, read_simple_policies, Kb, Simple, C};
 use common::meaning::Interpretation;
-use common::{c, desk_vocabulary, f, names, r, words};
+use common::{c, desk_vocabulary, f, many_valued, r, words};
 use reasoner::encode::walk_order;
 use reasoner::policy::Term;
 use reasoner::random::damage::{put_both, Fault};
@@ -18,7 +18,7 @@ use reasoner::*;
 use std::collections::{BTreeMap, BTreeSet};
 
 /// The refusals in their order; walk faults are one stage.
-const ORDER: [u32; 9] = [1, 2, 3, 4, 5, 6, 21, 43, 23];
+const ORDER: [u32; 10] = [1, 2, 3, 44, 4, 5, 6, 21, 43, 23];
 
 /// The words of the spelling, or the number of the refusal. The work slice is cleared by a result
 /// and by what comes after 21, and by nothing else; all other words are as they were.
@@ -64,7 +64,7 @@ fn every_directed_input_has_its_answer() {
 fn directed_inputs_have_every_answer_and_none_is_there_twice() {
     let all = directed::inputs();
     let numbers: BTreeSet<u32> = all.iter().filter_map(|one| one.answer.clone().err()).collect();
-    assert_eq!(numbers, BTreeSet::from([1, 2, 3, 4, 5, 6, 7, 8, 21, 23, 43]));
+    assert_eq!(numbers, BTreeSet::from([1, 2, 3, 4, 5, 6, 7, 8, 21, 23, 43, 44]));
     let names: BTreeSet<&str> = all.iter().map(|one| one.name.as_str()).collect();
     let inputs: BTreeSet<_> = all
         .iter()
@@ -118,7 +118,7 @@ fn every_order_of_a_policy_is_spelled_alike() {
 #[test]
 fn the_longest_spelling() {
     let term: Term = (0..511).map(|at| f(1, at, at)).collect();
-    let mut input = Spelling::of(names(1, 0, 1), words(&[term]));
+    let mut input = Spelling::of(many_valued(1, 0, 1), words(&[term]));
     assert_eq!(told(&input), Ok(input.p.clone()));
     assert_eq!(input.p.len(), 3_078);
     input.out_len = 3_077;
@@ -151,7 +151,7 @@ fn one_fault() {
         assert_eq!(told(&Spelling::from(case)), Err(fault.number), "{}", fault.name);
         numbers.insert(fault.number);
     }
-    assert_eq!(numbers, BTreeSet::from([1, 2, 3, 4, 5, 6, 7, 8, 21, 23, 43]));
+    assert_eq!(numbers, BTreeSet::from([1, 2, 3, 4, 5, 6, 7, 8, 21, 23, 43, 44]));
 }
 
 #[test]
@@ -234,7 +234,7 @@ fn other_orders_and_repeats_are_spelled_alike() {
         let answer = told(&input);
         for make in [rearranged, disguised] {
             let Some(p) = make(&mut rng, &input.v, &input.p) else {
-                assert!(matches!(answer, Err(1..=8)), "{name}\n{input}");
+                assert!(matches!(answer, Err(1..=8 | 44)), "{name}\n{input}");
                 continue;
             };
             let other = Spelling { p, ..input.clone() };
@@ -293,7 +293,7 @@ fn as_the_literal_one() {
             *seen.entry(number).or_insert(0) += 1;
         }
     }
-    let all = [0, 1, 2, 3, 4, 5, 6, 7, 8, 21, 23, 43];
+    let all = [0, 1, 2, 3, 4, 5, 6, 7, 8, 21, 23, 43, 44];
     assert!(all.iter().all(|number| seen.get(number).is_some_and(|&times| times > 20)), "{seen:?}");
 }
 
@@ -406,7 +406,7 @@ fn every_family_has_the_answers_that_it_is_for() {
     let had = least.map(|(family, _)| {
         let seen = answers((0..2_000).map(|seed| Spelling::generate(family, seed)));
         let of = |number| seen.get(&number).copied().unwrap_or(0);
-        (family, [of(0), of(43), of(23), of(21), (1..=8).map(of).sum()])
+        (family, [of(0), of(43), of(23), of(21), (1..=8).chain([44]).map(of).sum()])
     });
     let enough = |had: [u32; 5], least: [u32; 5]| (0..5).all(|at| had[at] >= least[at]);
     assert!(had.iter().zip(least).all(|(had, least)| enough(had.1, least.1)), "{had:#?}");
@@ -415,7 +415,7 @@ fn every_family_has_the_answers_that_it_is_for() {
 #[test]
 fn the_mix_has_every_answer() {
     let seen = answers((0..20_000).map(Spelling::any));
-    for number in [0, 1, 2, 3, 4, 5, 6, 7, 8, 21, 43, 23] {
+    for number in [0, 1, 2, 3, 44, 4, 5, 6, 7, 8, 21, 43, 23] {
         assert!(seen.get(&number).is_some_and(|&times| times >= 5), "{number}: {seen:?}");
     }
 }
@@ -442,15 +442,15 @@ fn ordered(simple: &Simple) -> Simple {
 
 /// How many different roles there are among the conjuncts, of those that are not functional.
 fn distinct(kb: &Kb, simple: &Simple) -> usize {
-    let apart = |one: &&C| matches!(one, C::Some(role, _) if !kb.axioms.contains(&(3, *role, 0)));
+    let apart = |one: &&C| matches!(one, C::Some(role, _) if !kb.is_functional_role(*role));
     let all: BTreeSet<String> = simple.iter().filter(apart).map(|one| format!("{one:?}")).collect();
     all.len()
 }
 
-/// The vocabulary without what is stated by records of these kinds.
-fn without(kb: &Kb, kinds: &[u32]) -> Kb {
+/// The vocabulary without its ranges.
+fn without_ranges(kb: &Kb) -> Kb {
     let mut kb = kb.clone();
-    kb.axioms.retain(|(kind, ..)| !kinds.contains(kind));
+    kb.axioms.retain(|&(kind, ..)| kind != 5);
     kb
 }
 
@@ -464,12 +464,13 @@ fn one_term(kb: &Kb, simple: &Simple) -> Option<Simple> {
 fn deepest_repeat(simple: &Simple, kb: &Kb) -> u32 {
     let Some(form) = literal::normal_form(kb, simple) else { return 0 };
     fn of(kb: &Kb, chain: &Simple) -> u32 {
-        let nothing = without(kb, &[1, 2, 3, 4, 5]);
+        // Neither a range nor a merge, so that what is equal is so by itself.
+        let plain = without_ranges(&kb.many_valued());
         let mut seen = BTreeSet::new();
         let mut deepest = 0;
         for one in chain {
             let C::Some(_, inner) = one else { continue };
-            let again = one_term(&nothing, &vec![one.clone()]);
+            let again = one_term(&plain, &vec![one.clone()]);
             if !seen.insert(format!("{again:?}")) {
                 deepest = deepest.max(1);
             }
@@ -513,9 +514,9 @@ impl Seen {
         let own = |simple: &Simple| one_term(&kb, simple);
         self.by_order += has(&|term| Some(roles(&form(term)?) > roles(&ordered(&form(term)?))));
         self.by_dropping += has(&|term| Some(roles(&ordered(&form(term)?)) > roles(&own(term)?)));
-        let no_range = without(&kb, &[5]);
+        let no_range = without_ranges(&kb);
         self.by_range += has(&|term| Some(roles(&one_term(&no_range, term)?) > roles(&own(term)?)));
-        let no_merge = without(&kb, &[3, 4]);
+        let no_merge = kb.many_valued();
         self.by_merge += has(&|term| Some(roles(&one_term(&no_merge, term)?) > roles(&own(term)?)));
         let possible = terms.iter().filter(|term| form(term).is_some()).count();
         self.terms += u32::from(possible > literal::spelling(&kb, &terms).len());
@@ -675,7 +676,7 @@ fn rearranged_policies_differ() {
     // Where there is no room the order alone is another, at every depth.
     let inner = |at| (0..50).map(|value| f(1, at, value)).collect();
     let term: Term = (0..10).map(|at| r(1, inner(at))).chain([c(1)]).collect();
-    let (v, p) = (names(1, 1, 1), words(&[term]));
+    let (v, p) = (many_valued(1, 1, 1), words(&[term]));
     assert_eq!(p.len(), 6 * 513);
     let (_, given) = read(&v, &p);
     let (_, changed) = read(&v, &rearranged(&mut rng, &v, &p).unwrap());

@@ -4,10 +4,10 @@
 use gimbuka::WORK_SIZE;
 
 /// Classes 1 to 4, roles 1 to 3, feature 1: 2 is below 1, 4 below 1 and 3; 1 and 3 are disjoint; roles 1 and 2 and feature 1 are
-/// functional; role 3 has range 1.
-pub const V: [u32; 36] = [
+/// functional; role 3 has range 1 and is many-valued.
+pub const V: [u32; 40] = [
     4, 3, 1, 1, 1, 2, 1, 2, 1, 4, 1, 3, 1, 4, 3, 4, 2, 1, 3, 5, 3, 1, 0, 6, 3, 2, 0, 7, 4, 1, 0, 8,
-    5, 3, 1, 0,
+    5, 3, 1, 9, 6, 3, 0, 0,
 ];
 
 /// Role 1 reaches class 1.

@@ -144,7 +144,7 @@ fn pairs<const N: usize>(answer: Answer, classes: u32, terms: usize) -> [Case; N
 }
 
 fn everyday() {
-    heading("everyday pairs: 256 classes, 300 records, 10 terms a side");
+    heading("everyday pairs: 256 classes, 304 records, 10 terms a side");
     let short: [Case; 50] = pairs(Answer::TermByTerm, 256, 10);
     let comply: [Case; 50] = pairs(Answer::Compliant, 256, 10);
     let fail: [Case; 50] = pairs(Answer::Outside, 256, 10);

@@ -92,7 +92,7 @@ fn short_answers(case: &Case, told: &Told) -> impl Iterator<Item = &'static str>
 
 /// The answers that there are (SPECIFICATION 9.1), and those of the short way.
 fn answers() -> impl Iterator<Item = String> {
-    const READ: [u32; 3] = [1, 2, 3];
+    const READ: [u32; 4] = [1, 2, 3, 44];
     const FIRST: [u32; 5] = [4, 5, 6, 7, 8];
     const SECOND: [u32; 5] = [14, 15, 16, 17, 18];
     let expected: [(&[&str], Vec<u32>); 7] = [

@@ -135,7 +135,7 @@ fn note(tally: &mut Tally, bytes: &[u8], answer: &[u8]) {
 
 /// The answers that the program gives (SPECIFICATION 10.3), and that of the short way.
 fn answers() -> impl Iterator<Item = String> {
-    let refusals = (1..=8).chain(14..=18).chain([22, 23, 40]);
+    let refusals = (1..=8).chain(14..=18).chain([22, 23, 40, 44]);
     let words = ["compliant".to_owned(), "outside".to_owned(), by_the_short_way("compliant")];
     words.into_iter().chain(refusals.map(|number| format!("refused {number}")))
 }

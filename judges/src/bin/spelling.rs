@@ -86,7 +86,7 @@ fn judge(tally: &mut Tally, input: &Spelling) -> Result<(), Box<Spelling>> {
 
 /// The answers that there are.
 fn answers() -> impl Iterator<Item = String> {
-    let refusals = [1, 2, 3, 4, 5, 6, 7, 8, 21, 43, 23].map(Filling::Refused);
+    let refusals = [1, 2, 3, 44, 4, 5, 6, 7, 8, 21, 43, 23].map(Filling::Refused);
     ["Written".to_owned()].into_iter().chain(refusals.map(|refusal| format!("{refusal:?}")))
 }
 

@@ -22,11 +22,16 @@ struct Side {
 #[must_use]
 pub fn case(rng: &mut Rng) -> Case {
     let mut vocabulary = Vocabulary { classes: 2, roles: 2, features: 5, axioms: Vec::new() };
-    vocabulary.axioms.push(Axiom::FunctionalRole(RoleNo(1)));
+    // Role 1 is functional, stated so or not, and role 2 every other time.
     if rng.once_in(2) {
-        vocabulary.axioms.push(Axiom::FunctionalRole(RoleNo(2)));
+        vocabulary.axioms.push(Axiom::FunctionalRole(RoleNo(1)));
     }
-    vocabulary.axioms.push(Axiom::FunctionalFeature(FeatureNo(rng.between(1, 5))));
+    if rng.once_in(2) {
+        vocabulary.axioms.push(Axiom::ManyValuedRole(RoleNo(2)));
+    }
+    let feature = FeatureNo(rng.between(1, 5));
+    let stated = [Axiom::FunctionalFeature(feature), Axiom::ManyValuedFeature(feature)];
+    vocabulary.axioms.push(*rng.pick(&stated));
     let whole: Vec<Side> = (1..=rng.between(1, 5)).map(|feature| side(rng, feature)).collect();
     let mut parts = Vec::new();
     let cuts = rng.between(1, 4);

@@ -1,10 +1,12 @@
 //! Terms of about 65,536 combinations and of more, against consent terms that take them whole or
 //! nearly do: the short way of SPECIFICATION 7.7 succeeds, or there is 22.
 
-use super::limits::{self, binary, class, dials, names, nested, pieced, reaches, within, Maker};
+use super::limits::{
+    self, binary, class, dials, many_valued, names, nested, pieced, reaches, within, Maker,
+};
 use super::valid::{cut, laid_out, widen, Shape};
 use super::{Case, Rng};
-use crate::classes::{ClassNo, FeatureNo, RoleNo};
+use crate::classes::{ClassNo, RoleNo};
 use crate::encode::vocabulary_words;
 use crate::policy::{Conjunct, Term};
 use crate::vocabulary::{Axiom, Vocabulary};
@@ -101,7 +103,7 @@ fn just_over(more: Vec<Term>) -> Case {
     let (term, ends) = pieced(&[9, 11, 331, 2]);
     let mut first = vec![term.clone()];
     first.extend(more);
-    pair(&first, &[ends, term])
+    limits::case(&many_valued(4, 1, 64), &first, &[ends, term])
 }
 
 /// The wider term has too many combinations too, and is not taken.
@@ -119,11 +121,7 @@ fn each_by_another() -> Case {
 /// What the consent asks of one value of a role and of a feature, asked of two: of one again where
 /// they are functional.
 fn asked_of_two(functional: bool) -> Case {
-    let mut vocabulary = names(4, 1, 64);
-    if functional {
-        vocabulary.axioms.push(Axiom::FunctionalRole(RoleNo(1)));
-        vocabulary.axioms.push(Axiom::FunctionalFeature(FeatureNo(18)));
-    }
+    let vocabulary = if functional { names(4, 1, 64) } else { many_valued(4, 1, 64) };
     let mut some = dials(17);
     let others = some.split_off(9);
     let first = vec![reaches(1, some), within(18, 0, 5), reaches(1, others), within(18, 4, 9)];
@@ -184,17 +182,17 @@ pub fn case(rng: &mut Rng) -> Case {
     laid_out(rng, &Shape::small(), v, &vocabulary, [&first, &second])
 }
 
-/// All roles and features are functional, or none.
+/// All roles and features are functional, stated so or not, or none.
 fn vocabulary(rng: &mut Rng) -> Vocabulary {
     let mut vocabulary = names(4, 3, 18);
     vocabulary.axioms.push(Axiom::Below(ClassNo(2), ClassNo(1)));
     vocabulary.axioms.push(Axiom::Disjoint(ClassNo(1), ClassNo(3)));
     vocabulary.axioms.push(Axiom::Range(RoleNo(2), ClassNo(1)));
-    if rng.once_in(2) {
-        vocabulary.axioms.extend((1..=3).map(|role| Axiom::FunctionalRole(RoleNo(role))));
-        vocabulary.axioms.extend((1..=18).map(|f| Axiom::FunctionalFeature(FeatureNo(f))));
+    match rng.below(4) {
+        0 => vocabulary,
+        1 => Vocabulary { axioms: vocabulary.said_in_owl(), ..vocabulary },
+        _ => vocabulary.read_as_owl(),
     }
-    vocabulary
 }
 
 /// A crowded term or a small one, without class 4: no term that asks for it takes one.

@@ -129,6 +129,8 @@ pub fn base() -> Case {
             Axiom::FunctionalRole(RoleNo(1)),
             Axiom::FunctionalFeature(FeatureNo(1)),
             Axiom::Range(RoleNo(3), ClassNo(1)),
+            Axiom::ManyValuedRole(RoleNo(3)),
+            Axiom::ManyValuedFeature(FeatureNo(2)),
         ],
     };
     let first = vec![
@@ -172,9 +174,9 @@ pub fn faults() -> Vec<Fault> {
         fault(2, "257 classes", |case| case.v[0] = 257),
         fault(2, "65 roles", |case| case.v[1] = 65),
         fault(2, "65 features", |case| case.v[2] = 65),
-        fault(2, "vocabulary header link", |case| case.v[3] = 6),
+        fault(2, "vocabulary header link", |case| case.v[3] = 8),
         fault(3, "axiom kind 0", |case| case.v[4] = 0),
-        fault(3, "axiom kind 6", |case| case.v[8] = 6),
+        fault(3, "axiom kind 8", |case| case.v[24] = 8),
         fault(3, "class 0", |case| case.v[5] = 0),
         fault(3, "class 5 of 4", |case| case.v[10] = 5),
         fault(3, "role 4 of 3", |case| case.v[13] = 4),
@@ -183,9 +185,19 @@ pub fn faults() -> Vec<Fault> {
         fault(3, "feature 21 of 20", |case| case.v[17] = 21),
         fault(3, "range of role 0", |case| case.v[21] = 0),
         fault(3, "range class 0", |case| case.v[22] = 0),
+        fault(3, "many-valued role 0", |case| case.v[25] = 0),
+        fault(3, "many-valued role 4 of 3", |case| case.v[25] = 4),
+        fault(3, "many-valued role with b", |case| case.v[26] = 1),
+        fault(3, "many-valued feature 0", |case| case.v[29] = 0),
+        fault(3, "many-valued feature 21 of 20", |case| case.v[29] = 21),
+        fault(3, "many-valued feature with b", |case| case.v[30] = 1),
         fault(3, "axiom links to itself", |case| case.v[7] = 1),
         fault(3, "axiom links back", |case| case.v[11] = 1),
-        fault(3, "axiom links too far", |case| case.v[23] = 6),
+        fault(3, "axiom links too far", |case| case.v[31] = 8),
+        fault(44, "role 1 both ways", |case| case.v[25] = 1),
+        fault(44, "role 3 both ways", |case| case.v[13] = 3),
+        fault(44, "feature 1 both ways", |case| case.v[29] = 1),
+        fault(44, "feature 2 both ways", |case| case.v[17] = 2),
         fault(4, "policy a word too long", |case| case.p.push(0)),
         fault(4, "policy empty", |case| case.p.clear()),
         fault(4, "policy over 3,078 words", |case| case.p.resize(3_084, 0)),
@@ -268,11 +280,12 @@ pub fn put_both(case: &mut Case, first: Fault, second: Fault) -> bool {
     true
 }
 
-/// Whole new policies first, then links and words, then lengths.
+/// Whole new policies first and the names that may be stated both ways, then links and words, then
+/// lengths.
 fn order(fault: Fault) -> (u32, u32) {
     let rank = match fault.number {
         22 | 43 => 0,
-        8 | 18 => 1,
+        8 | 18 | 44 => 1,
         3 | 6 | 7 | 16 | 17 | 33 => 2,
         2 | 5 | 15 | 32 => 3,
         _ => 4,

@@ -59,7 +59,8 @@ pub fn sized(seed: u64, answer: Answer, classes: u32, terms: usize) -> Case {
     case
 }
 
-/// A tree of classes, some disjoint pairs, functional roles and features, ranges.
+/// A tree of classes, some disjoint pairs, functional and many-valued roles, functional features,
+/// ranges.
 pub(super) fn vocabulary(rng: &mut Rng, classes: u32) -> Vocabulary {
     let mut axioms = Vec::new();
     for number in 2..=classes {
@@ -73,6 +74,7 @@ pub(super) fn vocabulary(rng: &mut Rng, classes: u32) -> Vocabulary {
         (0..pairs).map(|at| Axiom::Disjoint(ClassNo(classes - at), ClassNo(classes - pairs - at))),
     );
     axioms.extend((1..=12).map(|role| Axiom::FunctionalRole(RoleNo(role))));
+    axioms.extend((13..=16).map(|role| Axiom::ManyValuedRole(RoleNo(role))));
     axioms.extend((1..=4).map(|feature| Axiom::FunctionalFeature(FeatureNo(feature))));
     axioms.extend((1..=9).map(|role| Axiom::Range(RoleNo(role), ClassNo(1))));
     rng.shuffle(&mut axioms);

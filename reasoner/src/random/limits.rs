@@ -33,8 +33,18 @@ fn makers() -> Vec<Maker> {
         ("65 roles", || counts(4, 65, 64)),
         ("65 features", || counts(4, 64, 65)),
         ("no role, no feature", || counts(4, 0, 0)),
+        ("64 many-valued roles and features", || kinds_6_and_7(64, 64)),
+        ("many-valued role 65 of 64", || kinds_6_and_7(65, 64)),
+        ("many-valued feature 65 of 64", || kinds_6_and_7(64, 65)),
         ("1,024 vocabulary records", || long_vocabulary(1_024)),
         ("1,025 vocabulary records", || long_vocabulary(1_025)),
+        ("1,024 vocabulary records, a role both ways by the first and the last", || {
+            both_ways(1_024)
+        }),
+        ("1,025 vocabulary records, a role both ways by the first and the last", || {
+            both_ways(1_025)
+        }),
+        ("1,023 records of one role that is many-valued", many_times),
         ("256 classes in one falling chain", || class_chain(false, false)),
         ("256 classes in one rising chain", || class_chain(true, false)),
         ("256 classes in one cycle", || class_chain(false, true)),
@@ -84,8 +94,14 @@ pub(super) fn reaches(role: u32, inner: Term) -> Conjunct {
     Conjunct::Reaches(RoleNo(role), inner)
 }
 
+/// Names of which nothing is stated: each role and feature is functional.
 pub(super) fn names(classes: u32, roles: u32, features: u32) -> Vocabulary {
     Vocabulary { classes, roles, features, axioms: Vec::new() }
+}
+
+/// Names of which every role and feature is many-valued.
+pub(super) fn many_valued(classes: u32, roles: u32, features: u32) -> Vocabulary {
+    names(classes, roles, features).read_as_owl()
 }
 
 /// So many constraints of two pieces each, whatever the ends are.
@@ -116,19 +132,57 @@ fn counts(classes: u32, roles: u32, features: u32) -> Case {
     case(&names(classes, roles, features), &[term], &[vec![class(2)]])
 }
 
+/// Records for so many roles and features of 64 each, the last of which a policy asks for twice.
+fn kinds_6_and_7(roles: u32, features: u32) -> Case {
+    let vocabulary = Vocabulary { roles: 64, features: 64, ..many_valued(4, roles, features) };
+    let twice = vec![
+        reaches(64, vec![class(1)]),
+        reaches(64, vec![class(2)]),
+        within(64, 0, 4),
+        within(64, 6, 9),
+    ];
+    case(&vocabulary, &[twice], &[vec![reaches(64, vec![class(1), class(2)])]])
+}
+
 fn long_vocabulary(records: u32) -> Case {
     let mut vocabulary = names(256, 64, 64);
     for at in 0..records {
-        vocabulary.axioms.push(match at % 5 {
+        vocabulary.axioms.push(match at % 8 {
             0 | 1 => Axiom::Below(ClassNo(at % 255 + 2), ClassNo(at % 255 / 2 + 1)),
             2 => Axiom::Disjoint(ClassNo(200 + at % 20), ClassNo(230 + at % 26)),
-            3 => Axiom::FunctionalRole(RoleNo(at % 40 + 1)),
-            _ => Axiom::Range(RoleNo(at % 64 + 1), ClassNo(at % 190 + 1)),
+            3 => Axiom::FunctionalRole(RoleNo(at / 8 % 32 + 1)),
+            4 => Axiom::FunctionalFeature(FeatureNo(at / 8 % 32 + 1)),
+            5 => Axiom::ManyValuedRole(RoleNo(at / 8 % 24 + 41)),
+            6 => Axiom::ManyValuedFeature(FeatureNo(at / 8 % 24 + 41)),
+            _ => Axiom::Range(RoleNo(at / 8 % 64 + 1), ClassNo(at % 190 + 1)),
         });
     }
-    let first = vec![vec![class(100), reaches(1, vec![class(150)]), reaches(64, vec![])]];
+    // Role 33 and feature 33 are functional by default, role 64 and feature 64 are many-valued.
+    let asked = |role| [reaches(role, vec![class(150)]), reaches(role, vec![])];
+    let spans = |feature| [within(feature, 0, 4), within(feature, 3, 9)];
+    let mut term = vec![class(100)];
+    term.extend([asked(1), asked(33), asked(64)].concat());
+    term.extend([spans(1), spans(33), spans(64)].concat());
     let second = vec![vec![class(1), reaches(1, vec![class(1)]), reaches(64, vec![class(2)])]];
-    case(&vocabulary, &first, &second)
+    case(&vocabulary, &[term], &second)
+}
+
+/// So many records, of which the first and the last name a role both ways.
+fn both_ways(records: usize) -> Case {
+    let mut vocabulary = names(2, 1, 1);
+    vocabulary.axioms = vec![Axiom::Below(ClassNo(2), ClassNo(1)); records];
+    vocabulary.axioms[0] = Axiom::ManyValuedRole(RoleNo(1));
+    vocabulary.axioms[records - 1] = Axiom::FunctionalRole(RoleNo(1));
+    case(&vocabulary, &[vec![class(2)]], &[vec![class(1)]])
+}
+
+/// Kind 6 many times, and kind 4 of the feature of the same number.
+fn many_times() -> Case {
+    let mut vocabulary = names(2, 1, 1);
+    vocabulary.axioms = vec![Axiom::ManyValuedRole(RoleNo(1)); 1_023];
+    vocabulary.axioms.push(Axiom::FunctionalFeature(FeatureNo(1)));
+    let first = vec![reaches(1, vec![class(1)]), reaches(1, vec![class(2)])];
+    case(&vocabulary, &[first], &[vec![reaches(1, vec![class(1), class(2)])]])
 }
 
 fn class_chain(rising: bool, cycle: bool) -> Case {
@@ -145,8 +199,8 @@ fn class_chain(rising: bool, cycle: bool) -> Case {
 }
 
 fn wide_policy(conjuncts: u32) -> Case {
-    let mut vocabulary = names(256, 64, 64);
-    vocabulary.axioms.push(Axiom::FunctionalRole(RoleNo(7)));
+    let mut vocabulary = many_valued(256, 64, 64);
+    vocabulary.axioms.retain(|axiom| *axiom != Axiom::ManyValuedRole(RoleNo(7)));
     let term: Term = (0..conjuncts)
         .map(|at| match at % 3 {
             0 => class(at % 256 + 1),
@@ -241,7 +295,7 @@ pub(super) fn pieced(pieces: &[u32]) -> (Term, Term) {
 
 fn product(pieces: &[u32]) -> Case {
     let (term, consent) = pieced(pieces);
-    case(&names(1, 0, 64), &[term], &[consent])
+    case(&many_valued(1, 0, 64), &[term], &[consent])
 }
 
 fn impossible_and_many() -> Case {
@@ -266,6 +320,7 @@ fn full_countermodel() -> Case {
     let mut vocabulary = names(256, 1, 0);
     vocabulary.axioms = (1..=255).map(|at| Axiom::Below(ClassNo(at + 1), ClassNo(at))).collect();
     vocabulary.axioms.push(Axiom::Range(RoleNo(1), ClassNo(256)));
+    let vocabulary = vocabulary.read_as_owl();
     let mut case = case(&vocabulary, &[vec![reaches(1, vec![]); 511]], &[vec![class(1)]]);
     case.out_len = case.m.len();
     case
@@ -276,6 +331,7 @@ fn countermodel_of(records: u32) -> Case {
     let mut vocabulary = names(256, 1, 64);
     vocabulary.axioms = (1..=255).map(|at| Axiom::Below(ClassNo(at + 1), ClassNo(at))).collect();
     vocabulary.axioms.push(Axiom::Range(RoleNo(1), ClassNo(256)));
+    let vocabulary = vocabulary.read_as_owl();
     let mut term = vec![reaches(1, vec![]); records as usize / 257];
     term.extend((0..records % 257).map(|value| within(1, value, value)));
     case(&vocabulary, &[term], &[vec![class(1)]])
@@ -283,7 +339,7 @@ fn countermodel_of(records: u32) -> Case {
 
 /// 512 individuals and about 139,000 edges over four roles, and policies 16 deep and branching.
 fn dense_model() -> Case {
-    let mut vocabulary = names(4, 4, 1);
+    let mut vocabulary = many_valued(4, 4, 1);
     vocabulary.axioms.push(Axiom::Below(ClassNo(2), ClassNo(1)));
     let mut rng = Rng::new(77);
     let mut facts: Vec<[u32; 4]> = (0..139_000)
@@ -303,7 +359,7 @@ fn dense_model() -> Case {
 
 /// 373 individuals, each with an edge to each, and no way out of a class that is missing.
 fn dense_role() -> Case {
-    let vocabulary = names(2, 1, 0);
+    let vocabulary = many_valued(2, 1, 0);
     let facts: Vec<[u32; 4]> =
         (1..=373).flat_map(|from| (1..=373).map(move |to| [2, 1, from, to])).collect();
     let first = vec![nested(16, |_| 1, vec![])];
@@ -314,7 +370,7 @@ fn dense_role() -> Case {
 }
 
 fn long_model(records: u32) -> Case {
-    let vocabulary = names(2, 1, 1);
+    let vocabulary = many_valued(2, 1, 1);
     let facts: Vec<[u32; 4]> = (0..records)
         .map(|at| match at % 3 {
             0 => [1, 1, at % 512 + 1, 0],

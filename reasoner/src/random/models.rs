@@ -2,7 +2,8 @@
 
 use super::valid::insert_unreached;
 use super::{Case, Rng};
-use crate::vocabulary::{Axiom, Vocabulary};
+use crate::classes::{FeatureNo, RoleNo};
+use crate::vocabulary::{Axiom, Functional, Vocabulary};
 use crate::{compliance, equality, Comparison, Verdict, FULL_WORK};
 use std::collections::BTreeSet;
 
@@ -141,7 +142,10 @@ fn repair(rng: &mut Rng, over: &Vocabulary, m: &[u32]) -> Vec<u32> {
     let mut list = facts(m);
     rng.shuffle(&mut list);
     let mut taken = BTreeSet::new();
-    list.retain(|fact| !is_functional(over, fact) || taken.insert([fact[0], fact[1], fact[2]]));
+    let functional = Functional::of(over);
+    list.retain(|fact| {
+        !is_functional(functional, fact) || taken.insert([fact[0], fact[1], fact[2]])
+    });
     let mut known: BTreeSet<Fact> = list.into_iter().collect();
     loop {
         let new: Vec<Fact> = known
@@ -158,12 +162,12 @@ fn repair(rng: &mut Rng, over: &Vocabulary, m: &[u32]) -> Vec<u32> {
     words(individuals, &list)
 }
 
-fn is_functional(over: &Vocabulary, fact: &Fact) -> bool {
-    over.axioms.iter().any(|axiom| match axiom {
-        Axiom::FunctionalRole(role) => fact[0] == 2 && role.0 == fact[1],
-        Axiom::FunctionalFeature(feature) => fact[0] == 3 && feature.0 == fact[1],
+fn is_functional(functional: Functional, &[kind, name, ..]: &Fact) -> bool {
+    match kind {
+        2 => functional.has_role(RoleNo(name)),
+        3 => functional.has_feature(FeatureNo(name)),
         _ => false,
-    })
+    }
 }
 
 fn follows(axiom: &Axiom, fact: &Fact) -> Option<Fact> {

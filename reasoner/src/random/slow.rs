@@ -1,9 +1,9 @@
 //! Cases that are made to be slow, and a search for slower ones: many combinations, of which few are skipped; terms that nearly pass; wide
 //! and deep policies; full models.
 
-use super::limits::{binary, class, dials, names, reaches, within};
+use super::limits::{binary, class, dials, many_valued, names, reaches, within};
 use super::{models, Case, Rng};
-use crate::classes::{ClassNo, RoleNo};
+use crate::classes::{ClassNo, FeatureNo, RoleNo};
 use crate::encode::{policy_words, vocabulary_words};
 use crate::policy::{Conjunct, Term};
 use crate::vocabulary::{Axiom, Vocabulary};
@@ -28,7 +28,7 @@ pub(super) fn records(policy: &[Term]) -> usize {
 }
 
 fn case(first: &[Term], second: &[Term]) -> Case {
-    let v = vocabulary_words(&names(3, 64, 64));
+    let v = vocabulary_words(&many_valued(3, 64, 64));
     Case::of(v, policy_words(first), policy_words(second), vec![0, 1, 0, 0, 0])
 }
 
@@ -278,6 +278,7 @@ pub fn model_check() -> Vec<(&'static str, Case)> {
     let values = by_turns(|individual, name, round| [3, name, individual, round]);
     let ranges = (0..1_024).map(|k| Axiom::Range(RoleNo(1 + k % 64), ClassNo(1 + k / 64 % 3)));
     let single = (1..=64).map(|role| Axiom::FunctionalRole(RoleNo(role)));
+    let several = (1..=64).map(|feature| Axiom::ManyValuedFeature(FeatureNo(feature)));
     let wide: Term = (0..510).map(|k| reaches(1 + k % 64, vec![])).collect();
     let chain = |_| (0..16).fold(vec![], |inner, _| vec![reaches(1, inner)]);
     let deep: Term = (0..31).flat_map(chain).collect();
@@ -286,7 +287,7 @@ pub fn model_check() -> Vec<(&'static str, Case)> {
         ("1,024 ranges", modelled(ranges.collect(), &edges, &wide)),
         ("64 functional roles", modelled(single.collect(), &edges, &wide)),
         ("31 chains of roles 16 deep", modelled(vec![], &edges, &deep)),
-        ("510 spans of 64 features", modelled(vec![], &values, &spans)),
+        ("510 spans of 64 features", modelled(several.collect(), &values, &spans)),
     ]
 }
 

@@ -13,7 +13,7 @@ pub struct Shape {
     roles: u32,
     features: u32,
     axioms: u32,
-    /// Of the axioms, how many in 16 are "below", disjoint and ranges; the rest are functional.
+    /// Of the axioms, how many in 16 are "below", disjoint and ranges; the rest say again whether a name is functional.
     below: u32,
     disjoint: u32,
     ranges: u32,
@@ -29,7 +29,7 @@ pub struct Shape {
     values: u32,
     /// Make the second policy from the first one's terms by widening and cutting.
     related: bool,
-    /// Of the first role and feature, how many times in 4 they are functional whatever is drawn.
+    /// Of the roles and features, how many in 4 are functional; the others have a record that makes them many-valued.
     functional: u32,
     /// Leave the layout in walk order and the tables without unreached records.
     tidy: bool,
@@ -55,7 +55,7 @@ impl Shape {
             spans: 5,
             values: 3,
             related: false,
-            functional: 0,
+            functional: 2,
             tidy: true,
         }
     }
@@ -79,7 +79,7 @@ impl Shape {
             spans: 4,
             values: 12,
             related: true,
-            functional: 0,
+            functional: 2,
             tidy: false,
         }
     }
@@ -103,7 +103,7 @@ impl Shape {
             spans: 2,
             values: 40,
             related: true,
-            functional: 0,
+            functional: 2,
             tidy: false,
         }
     }
@@ -151,7 +151,7 @@ impl Shape {
             spans: 10,
             values: 9,
             related: true,
-            functional: 0,
+            functional: 1,
             tidy: false,
         }
     }
@@ -199,7 +199,7 @@ impl Shape {
             spans: 1,
             values: 6,
             related: true,
-            functional: 0,
+            functional: 2,
             tidy: false,
         }
     }
@@ -244,16 +244,16 @@ pub fn vocabulary(rng: &mut Rng, shape: &Shape) -> Vocabulary {
     let roles = rng.between(fewest, shape.roles);
     let fewest = u32::from(!rng.once_in(8));
     let features = rng.between(fewest, shape.features);
-    let mut vocabulary = Vocabulary { classes, roles, features, axioms: Vec::new() };
+    let mut axioms = Vec::new();
+    let mut is_many = || rng.below(4) >= shape.functional;
+    axioms
+        .extend((1..=roles).filter(|_| is_many()).map(|role| Axiom::ManyValuedRole(RoleNo(role))));
+    let many = (1..=features).filter(|_| is_many());
+    axioms.extend(many.map(|feature| Axiom::ManyValuedFeature(FeatureNo(feature))));
+    let mut vocabulary = Vocabulary { classes, roles, features, axioms };
     for _ in 0..rng.between(0, shape.axioms) {
         let axiom = axiom(rng, shape, &vocabulary);
         vocabulary.axioms.extend(axiom);
-    }
-    if roles > 0 && rng.below(4) < shape.functional {
-        vocabulary.axioms.push(Axiom::FunctionalRole(RoleNo(1)));
-    }
-    if features > 0 && rng.below(4) < shape.functional {
-        vocabulary.axioms.push(Axiom::FunctionalFeature(FeatureNo(1)));
     }
     rng.shuffle(&mut vocabulary.axioms);
     vocabulary
@@ -276,10 +276,16 @@ fn axiom(rng: &mut Rng, shape: &Shape, over: &Vocabulary) -> Option<Axiom> {
     if draw < shape.below + shape.disjoint + shape.ranges {
         return Some(Axiom::Range(role(rng)?, class(rng)));
     }
+    // What is many-valued already is said to be so again.
+    let unless = |many: Axiom, one: Axiom| if over.axioms.contains(&many) { many } else { one };
     if rng.once_in(2) {
-        return Some(Axiom::FunctionalRole(role(rng)?));
+        let role = role(rng)?;
+        return Some(unless(Axiom::ManyValuedRole(role), Axiom::FunctionalRole(role)));
     }
-    (over.features > 0).then(|| Axiom::FunctionalFeature(FeatureNo(rng.between(1, over.features))))
+    (over.features > 0).then(|| {
+        let feature = FeatureNo(rng.between(1, over.features));
+        unless(Axiom::ManyValuedFeature(feature), Axiom::FunctionalFeature(feature))
+    })
 }
 
 /// A random policy of this shape.

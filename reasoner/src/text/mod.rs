@@ -13,7 +13,9 @@
 //! Policy(owl:Thing)
 //! ```
 //!
-//! Declarations number the names in their order. The first policy stands before the second. OWL
+//! Declarations number the names in their order. As in OWL, a role or a feature is many-valued unless it
+//! is stated functional: the words gain a record for each that is not, and what is functional by
+//! default is printed as stated so. The first policy stands before the second. OWL
 //! writes a number as `"30"^^xsd:integer`, and so does the printer; 30 alone is read too. A
 //! policy's records are laid out in the order of the walk, unless `Annotation(:recordOrder "1 3 2")`
 //! at its front gives each record of the walk another number.
@@ -173,7 +175,8 @@ impl Document {
 }
 
 impl fmt::Display for Document {
-    /// The text, which reads back as this document.
+    /// The text, which reads back as this document if its vocabulary is one that a text has; else as one
+    /// that says the same.
     fn fmt(&self, f: &mut fmt::Formatter<'_>) -> fmt::Result {
         printer::document(self, f)
     }
@@ -206,6 +209,7 @@ pub fn refusal(number: u32) -> &'static str {
         41 => "the text is over 65,536 bytes, or is not one Ontology( ) of the eight forms",
         42 => "a name is declared twice in one sort or not in the sort that its place needs, or the names of a sort are too few or too many",
         43 => "the policy's spelling has over 512 records, or one at depth 17",
+        44 => "a role or a feature of the vocabulary is stated both functional and many-valued",
         _ => "no refusal",
     }
 }

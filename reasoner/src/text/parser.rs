@@ -8,7 +8,7 @@ use crate::policy::{Conjunct, Term};
 use crate::vocabulary::{Axiom, Vocabulary};
 use std::collections::HashMap;
 
-const MOST_AXIOMS: usize = 1_024;
+const MOST_VOCABULARY_RECORDS: usize = 1_024;
 const MOST_RECORDS: usize = 512;
 const DEEPEST: usize = 16;
 const MOST_OPEN: usize = 200;
@@ -22,6 +22,7 @@ pub fn document(text: &str) -> Result<Document, Mistake> {
         roles: Series::new("role", "ObjectProperty", 64),
         features: Series::new("feature", "DataProperty", 64),
         axioms: Vec::new(),
+        places: Vec::new(),
         policies: Vec::new(),
         records: 0,
         open: 0,
@@ -76,6 +77,8 @@ struct Parser {
     roles: Series,
     features: Series,
     axioms: Vec<Axiom>,
+    /// Where each of them stands.
+    places: Vec<At>,
     policies: Vec<PolicyText>,
     /// Records of the policy being read.
     records: usize,
@@ -199,10 +202,8 @@ impl Parser {
                  ObjectPropertyRange and Policy"
             ))),
         }?;
-        if self.axioms.len() == MOST_AXIOMS {
-            return Err(at.mistake(format!("a vocabulary has at most {MOST_AXIOMS} axioms")));
-        }
         self.axioms.push(axiom);
+        self.places.push(at);
         Ok(())
     }
 
@@ -368,6 +369,15 @@ impl Parser {
             features: self.features.names.len() as u32,
             axioms: self.axioms,
         };
+        let vocabulary = vocabulary.read_as_owl();
+        let over = vocabulary.axioms.len().saturating_sub(MOST_VOCABULARY_RECORDS);
+        if over > 0 {
+            // Of the axioms the first that has no record left.
+            return Err(self.places[self.places.len() - over].mistake(format!(
+                "a vocabulary has at most {MOST_VOCABULARY_RECORDS} records, one for each of its \
+                 axioms and for each role and feature that none of them states functional"
+            )));
+        }
         let names = Names {
             classes: self.classes.names,
             roles: self.roles.names,

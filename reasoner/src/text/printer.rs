@@ -14,7 +14,7 @@ pub fn document(document: &Document, f: &mut fmt::Formatter<'_>) -> fmt::Result 
     Ok(())
 }
 
-/// The names' declarations and what the vocabulary states, a line each.
+/// The names' declarations and what OWL needs to be told of the vocabulary, a line each.
 pub fn vocabulary(names: &Names, stated: &Vocabulary, f: &mut impl fmt::Write) -> fmt::Result {
     let series = [
         ("Class", &names.classes),
@@ -26,7 +26,7 @@ pub fn vocabulary(names: &Names, stated: &Vocabulary, f: &mut impl fmt::Write) -
             writeln!(f, "Declaration({keyword}({name}))")?;
         }
     }
-    for &one in &stated.axioms {
+    for one in stated.said_in_owl() {
         writeln!(f, "{}", axiom(names, one))?;
     }
     Ok(())
@@ -51,6 +51,9 @@ fn axiom(names: &Names, axiom: Axiom) -> String {
         }
         Axiom::Range(role, class) => {
             format!("ObjectPropertyRange({} {})", name(roles, role.0), name(classes, class.0))
+        }
+        Axiom::ManyValuedRole(_) | Axiom::ManyValuedFeature(_) => {
+            unreachable!("OWL has no axiom for what is many-valued")
         }
     }
 }

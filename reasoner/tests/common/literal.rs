@@ -19,6 +19,25 @@ pub struct Kb {
     pub below: Vec<Vec<bool>>,
 }
 
+impl Kb {
+    pub fn is_functional_role(&self, role: u32) -> bool {
+        !self.axioms.contains(&(6, role, 0))
+    }
+
+    pub fn is_functional_feature(&self, feature: u32) -> bool {
+        !self.axioms.contains(&(7, feature, 0))
+    }
+
+    /// The same names and statements, but every role and feature many-valued.
+    pub fn many_valued(&self) -> Self {
+        let mut kb = self.clone();
+        kb.axioms.retain(|&(kind, ..)| kind != 3 && kind != 4);
+        kb.axioms.extend((1..=kb.r).map(|role| (6, role, 0)));
+        kb.axioms.extend((1..=kb.f).map(|feature| (7, feature, 0)));
+        kb
+    }
+}
+
 /// A conjunct.
 #[derive(Clone, Debug, PartialEq)]
 pub enum C {
@@ -55,12 +74,21 @@ pub fn read_kb(v: &[u32]) -> Result<Kb, u32> {
             || (kind == 2 && of(a, n) && of(b, n))
             || (kind == 3 && of(a, r) && b == 0)
             || (kind == 4 && of(a, f) && b == 0)
-            || (kind == 5 && of(a, r) && of(b, n));
+            || (kind == 5 && of(a, r) && of(b, n))
+            || (kind == 6 && of(a, r) && b == 0)
+            || (kind == 7 && of(a, f) && b == 0);
         if !names || !good_link(at, next, last) {
             return Err(3);
         }
         axioms.push((kind, a, b));
         at = next;
+    }
+    for number in 1..=64 {
+        for (one, many) in [(3, 6), (4, 7)] {
+            if axioms.contains(&(one, number, 0)) && axioms.contains(&(many, number, 0)) {
+                return Err(44);
+            }
+        }
     }
     let size = n as usize + 1;
     let mut below = vec![vec![false; size]; size];
@@ -188,9 +216,7 @@ fn step(kb: &Kb, d: &Simple) -> Option<Simple> {
         for (j, other) in d.iter().enumerate().skip(i + 1) {
             match (conjunct, other) {
                 // 4
-                (C::Some(r1, d1), C::Some(r2, d2))
-                    if r1 == r2 && kb.axioms.contains(&(3, *r1, 0)) =>
-                {
+                (C::Some(r1, d1), C::Some(r2, d2)) if r1 == r2 && kb.is_functional_role(*r1) => {
                     let mut new = d.clone();
                     let mut merged = d1.clone();
                     merged.extend(d2.clone());
@@ -200,7 +226,7 @@ fn step(kb: &Kb, d: &Simple) -> Option<Simple> {
                 }
                 // 5
                 (C::In(f1, l1, u1), C::In(f2, l2, u2))
-                    if f1 == f2 && kb.axioms.contains(&(4, *f1, 0)) =>
+                    if f1 == f2 && kb.is_functional_feature(*f1) =>
                 {
                     let mut new = d.clone();
                     new[i] = C::In(*f1, *l1.max(l2), *u1.min(u2));

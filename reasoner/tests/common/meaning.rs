@@ -51,20 +51,28 @@ impl Interpretation {
         Ok(read)
     }
 
-    /// Everything the vocabulary states is true.
+    /// No individual has two values of a role or feature that is not many-valued, and everything the
+    /// vocabulary states is true.
     pub fn satisfies(&self, kb: &Kb) -> bool {
-        kb.axioms.iter().all(|&(kind, a, b)| match kind {
+        let single = |all: &BTreeSet<(u32, u32, u32)>, a: u32| {
+            (1..=self.n).all(|x| all.range((a, x, 0)..=(a, x, u32::MAX)).count() <= 1)
+        };
+        let default = (1..=kb.r).all(|a| !kb.is_functional_role(a) || single(&self.edges, a))
+            && (1..=kb.f).all(|a| !kb.is_functional_feature(a) || single(&self.values, a));
+        let stated = kb.axioms.iter().all(|&(kind, a, b)| match kind {
             1 => (1..=self.n)
                 .all(|x| !self.members.contains(&(a, x)) || self.members.contains(&(b, x))),
             2 => (1..=self.n)
                 .all(|x| !self.members.contains(&(a, x)) || !self.members.contains(&(b, x))),
-            3 => (1..=self.n).all(|x| self.edges.range((a, x, 0)..=(a, x, u32::MAX)).count() <= 1),
-            4 => (1..=self.n).all(|x| self.values.range((a, x, 0)..=(a, x, u32::MAX)).count() <= 1),
-            _ => self
+            3 => single(&self.edges, a),
+            4 => single(&self.values, a),
+            5 => self
                 .edges
                 .range((a, 0, 0)..(a + 1, 0, 0))
                 .all(|edge| self.members.contains(&(b, edge.2))),
-        })
+            _ => true,
+        });
+        default && stated
     }
 
     pub fn holds(&self, x: u32, conjunct: &C) -> bool {
@@ -118,7 +126,7 @@ impl Interpretation {
                 }
                 C::Bot => {}
                 C::In(f, lo, hi) => {
-                    let functional = kb.axioms.contains(&(4, *f, 0));
+                    let functional = kb.is_functional_feature(*f);
                     let has = self.values.range((*f, x, 0)..=(*f, x, u32::MAX)).next().is_some();
                     if !(functional && has) && lo <= hi {
                         let value = match rng.below(4) {
@@ -130,7 +138,7 @@ impl Interpretation {
                     }
                 }
                 C::Some(r, inner) => {
-                    let functional = kb.axioms.contains(&(3, *r, 0));
+                    let functional = kb.is_functional_role(*r);
                     let old = self.edges.range((*r, x, 0)..=(*r, x, u32::MAX)).next().map(|e| e.2);
                     let target = match old {
                         Some(y) if functional => y,

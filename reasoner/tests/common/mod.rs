@@ -30,7 +30,7 @@ pub fn words(terms: &[Term]) -> Vec<u32> {
     policy_words(terms)
 }
 
-/// The consent desk's vocabulary, with feature 1 functional or not.
+/// The consent desk's vocabulary, with feature 1 functional or many-valued.
 pub fn desk_vocabulary(functional_feature: bool) -> Vec<u32> {
     let class = ClassNo;
     let mut axioms = vec![
@@ -42,16 +42,23 @@ pub fn desk_vocabulary(functional_feature: bool) -> Vec<u32> {
         Axiom::FunctionalRole(RoleNo(2)),
         Axiom::FunctionalFeature(FeatureNo(1)),
         Axiom::Range(RoleNo(3), class(1)),
+        Axiom::ManyValuedRole(RoleNo(3)),
     ];
     if !functional_feature {
-        axioms.remove(6);
+        axioms[6] = Axiom::ManyValuedFeature(FeatureNo(1));
     }
     vocabulary_words(&Vocabulary { classes: 4, roles: 3, features: 1, axioms })
 }
 
-/// A vocabulary of names only.
+/// A vocabulary of names only, of which nothing is stated.
 pub fn names(classes: u32, roles: u32, features: u32) -> Vec<u32> {
     vocabulary_words(&Vocabulary { classes, roles, features, axioms: Vec::new() })
+}
+
+/// A vocabulary of names only, whose roles and features are many-valued.
+pub fn many_valued(classes: u32, roles: u32, features: u32) -> Vec<u32> {
+    let named = Vocabulary { classes, roles, features, axioms: Vec::new() };
+    vocabulary_words(&named.read_as_owl())
 }
 
 /// A full work slice.

@@ -42,16 +42,49 @@ const READINGS: &[Reading] = &[
     ),
     // The header's link is 0 if there are none.
     (b"Ontology(Declaration(Class(:A)))", Ok(&[1, 0, 0, 0])),
+    // Records are added after the axioms for each name not stated functional: roles rising, then features rising.
+    (
+        b"Ontology(Declaration(Class(:A))Declaration(ObjectProperty(:r)))",
+        Ok(&[1, 1, 0, 1, 6, 1, 0, 0]),
+    ),
+    (
+        b"Ontology(Declaration(Class(:A))Declaration(DataProperty(:f)))",
+        Ok(&[1, 0, 1, 1, 7, 1, 0, 0]),
+    ),
+    (
+        b"Ontology(Declaration(DataProperty(:a))Declaration(ObjectProperty(:b))Declaration(Class(:A))\
+        Declaration(DataProperty(:b))Declaration(ObjectProperty(:a)))",
+        Ok(&[1, 2, 2, 1, 6, 1, 0, 2, 6, 2, 0, 3, 7, 1, 0, 4, 7, 2, 0, 0]),
+    ),
+    (
+        b"Ontology(Declaration(ObjectProperty(:r))Declaration(ObjectProperty(:s))\
+        Declaration(ObjectProperty(:t))Declaration(DataProperty(:f))Declaration(DataProperty(:g))\
+        FunctionalObjectProperty(:s)SubClassOf(:A:A)FunctionalDataProperty(:f)Declaration(Class(:A)))",
+        Ok(&[
+            1, 3, 2, 1, 3, 2, 0, 2, 1, 1, 1, 3, 4, 1, 0, 4, 6, 1, 0, 5, 6, 3, 0, 6, 7, 2, 0, 0,
+        ]),
+    ),
+    // A range does not state a role functional, and a role's axiom states nothing of the feature of its name or number.
+    (
+        b"Ontology(Declaration(Class(:A))Declaration(ObjectProperty(:a))Declaration(DataProperty(:a))\
+        ObjectPropertyRange(:a:A)FunctionalObjectProperty(:a))",
+        Ok(&[1, 1, 1, 1, 5, 1, 1, 2, 3, 1, 0, 3, 7, 1, 0, 0]),
+    ),
+    (
+        b"Ontology(Declaration(Class(:A))Declaration(ObjectProperty(:a))Declaration(DataProperty(:a))\
+        FunctionalDataProperty(:a)ObjectPropertyRange(:a:A)FunctionalDataProperty(:a))",
+        Ok(&[1, 1, 1, 1, 4, 1, 0, 2, 5, 1, 1, 3, 4, 1, 0, 4, 6, 1, 0, 0]),
+    ),
     // Declarations, anywhere in the text, number the names of each sort in order: names may be used before.
     (
         b"Ontology(SubClassOf(:B:A)Declaration(Class(:A))FunctionalObjectProperty(:r)\
         Declaration(ObjectProperty(:q))Declaration(Class(:B))Declaration(ObjectProperty(:r)))",
-        Ok(&[2, 2, 0, 1, 1, 2, 1, 2, 3, 2, 0, 0]),
+        Ok(&[2, 2, 0, 1, 1, 2, 1, 2, 3, 2, 0, 3, 6, 1, 0, 0]),
     ),
     (
         b"Ontology(FunctionalDataProperty(:g)Declaration(DataProperty(:f))Declaration(Class(:A))\
         Declaration(DataProperty(:g)))",
-        Ok(&[1, 0, 2, 1, 4, 2, 0, 0]),
+        Ok(&[1, 0, 2, 1, 4, 2, 0, 2, 7, 1, 0, 0]),
     ),
     // Space, tab and line feed may stand before, between and after tokens.
     (
@@ -180,7 +213,7 @@ const READINGS: &[Reading] = &[
         b"Ontology(Declaration(ObjectProperty(:B))Declaration(Class(:A))Declaration(Class(:B))\
         Declaration(DataProperty(:A))Declaration(DataProperty(:B))ObjectPropertyRange(:B:B)\
         FunctionalObjectProperty(:B)FunctionalDataProperty(:B))",
-        Ok(&[2, 1, 2, 1, 5, 1, 2, 2, 3, 1, 0, 3, 4, 2, 0, 0]),
+        Ok(&[2, 1, 2, 1, 5, 1, 2, 2, 3, 1, 0, 3, 4, 2, 0, 4, 7, 1, 0, 0]),
     ),
     // A name declared twice in one sort, whatever stands between.
     (b"Ontology(Declaration(Class(:A))Declaration(Class(:A)))", Err(42)),
@@ -246,10 +279,11 @@ fn directed(name: &str, text: impl Into<Vec<u8>>, answer: Result<Vec<u32>, u32>)
     Directed { name: name.to_owned(), text: Text::of(text), answer }
 }
 
-/// The text of a vocabulary with numbered names: `:C1`, `:r1`, `:f1`.
-fn plain(vocabulary: &Vocabulary, layout: Layout) -> Vec<u8> {
-    let source = Source { vocabulary: vocabulary.clone(), names: Names::numbered(":", vocabulary) };
-    lay_out(&mut Rng::new(0), layout, &around(source.forms().concat()))
+/// The text of a vocabulary with numbered names, `:C1`, `:r1`, `:f1`, and the words that it is read to.
+fn plain(vocabulary: Vocabulary, layout: Layout) -> (Vec<u8>, Vec<u32>) {
+    let source = Source { names: Names::numbered(":", &vocabulary), vocabulary };
+    let text = lay_out(&mut Rng::new(0), layout, &around(source.forms().concat()));
+    (text, source.words())
 }
 
 /// A vocabulary with so many names and so many axioms, of every kind that it has names for.
@@ -326,7 +360,7 @@ fn names() -> Vec<Directed> {
         )
     };
     let undeclared = |name: &str| format!("Ontology(SubClassOf({name}{name}))");
-    let words = vec![1, 1, 1, 1, 1, 1, 1, 2, 5, 1, 1, 3, 4, 1, 0, 0];
+    let words = vec![1, 1, 1, 1, 1, 1, 1, 2, 5, 1, 1, 3, 4, 1, 0, 4, 6, 1, 0, 0];
     // Alike in their first 31 characters.
     let [one, other] = ['0', '1'].map(|last| format!(":{}{last}", "x".repeat(31)));
     let alike = format!(
@@ -345,14 +379,46 @@ fn names() -> Vec<Directed> {
 
 fn counts() -> Vec<Directed> {
     let case = |[classes, roles, features, axioms]: [u32; 4], refusal: Option<u32>| {
-        let vocabulary = stating(classes, roles, features, axioms);
+        let (text, words) = plain(stating(classes, roles, features, axioms), Layout::Lines);
         Directed {
             name: format!("classes {classes}, roles {roles}, features {features}, axioms {axioms}"),
-            text: Text::of(plain(&vocabulary, Layout::Lines)),
-            answer: refusal.map_or_else(|| Ok(vocabulary_words(&vocabulary)), Err),
+            text: Text::of(text),
+            answer: refusal.map_or(Ok(words), Err),
         }
     };
+    // None of the axioms states a role or a feature functional, or these many of each do.
+    let added = |[roles, features, axioms]: [u32; 3], stated: u32, refusal: Option<u32>| {
+        let mut vocabulary = stating(1, 0, 0, axioms);
+        for at in 1..=stated {
+            vocabulary.axioms[at as usize * 3] = Axiom::FunctionalRole(RoleNo(at));
+            vocabulary.axioms[at as usize * 3 + 1] = Axiom::FunctionalFeature(FeatureNo(at));
+        }
+        let (text, words) = plain(Vocabulary { roles, features, ..vocabulary }, Layout::Lines);
+        let records = axioms + roles + features - 2 * stated;
+        let names = format!("{roles} roles and {features} features");
+        let name =
+            format!("{records} records of {axioms} axioms, {names}, {stated} of each functional");
+        let answer = refusal.map_or(Ok(words), Err);
+        Directed { name, text: Text::of(text), answer }
+    };
     vec![
+        added([64, 64, 896], 0, None),
+        added([64, 64, 897], 0, Some(1)),
+        added([64, 0, 960], 0, None),
+        added([64, 0, 961], 0, Some(1)),
+        added([0, 64, 960], 0, None),
+        added([0, 64, 961], 0, Some(1)),
+        added([1, 0, 1_023], 0, None),
+        added([1, 0, 1_024], 0, Some(1)),
+        added([0, 1, 1_024], 0, Some(1)),
+        added([1, 1, 1_024], 1, None),
+        added([2, 1, 1_024], 1, Some(1)),
+        added([1, 2, 1_024], 1, Some(1)),
+        added([64, 64, 1_022], 63, None),
+        added([64, 64, 1_023], 63, Some(1)),
+        added([64, 64, 2_000], 0, Some(1)),
+        // By axioms alone it would be read.
+        added([65, 0, 1_024], 0, Some(42)),
         case([1, 0, 0, 0], None),
         case([0, 64, 64, 0], Some(42)),
         case([256, 0, 0, 0], None),
@@ -373,11 +439,10 @@ fn counts() -> Vec<Directed> {
 fn outputs() -> Vec<Directed> {
     let mut all = Vec::new();
     for axioms in [0, 1, 2, 1_024] {
-        let vocabulary = stating(2, 1, 1, axioms);
-        let words = vocabulary_words(&vocabulary);
+        let (text, words) = plain(stating(2, 1, 1, axioms), Layout::Tight);
         let enough = words.len();
         for length in [0, enough - 2, enough - 1, enough, enough + 1, enough + 9] {
-            let mut case = directed("", plain(&vocabulary, Layout::Tight), Ok(words.clone()));
+            let mut case = directed("", text.clone(), Ok(words.clone()));
             case.name = format!("{enough} words, an output of {length}");
             case.text.out_len = length;
             if length < enough {
@@ -395,6 +460,7 @@ fn orders() -> Vec<Directed> {
     let declared = "Declaration(Class(:A))";
     let unknown = "SubClassOf(:A:B)";
     let many = "SubClassOf(:A:A)".repeat(1_025);
+    let (most, role) = ("SubClassOf(:A:A)".repeat(1_024), "Declaration(ObjectProperty(:A))");
     let classes: String = (0..257).map(|at| format!("Declaration(Class(:C{at}))")).collect();
     let faults = [
         ("41 and 42", inside(&format!("{unknown}{declared}Import()")), 41),
@@ -415,6 +481,17 @@ fn orders() -> Vec<Directed> {
         ("1,025 axioms, then twice", inside(&format!("{declared}{many}{declared}")), 42),
         ("1,025 axioms, 258 classes", inside(&format!("{declared}{classes}{many}")), 42),
         ("1,025 axioms", inside(&format!("{many}{declared}")), 1),
+        ("1,024 axioms and a record more", inside(&format!("{most}{declared}{role}")), 1),
+        (
+            "1,024 axioms and a record more, then cut",
+            format!("Ontology({most}{declared}{role}"),
+            41,
+        ),
+        (
+            "1,024 axioms and a record more, then another class",
+            inside(&format!("{declared}{role}{most}{unknown}")),
+            42,
+        ),
     ];
     let lent = |(name, text, number): &(&str, String, u32), out_len| {
         let mut case = directed("", text.as_str(), Err(*number));

@@ -1,7 +1,7 @@
 //! OWL texts that are made to be slow, and an everyday one.
 
 use super::directed::padded;
-use super::source::{around, lay_out, Layout, Source, CHARACTERS};
+use super::source::{around, lay_out, Layout, Source, CHARACTERS, SORTS};
 use super::{Text, MOST_BYTES};
 use crate::random::{everyday, Rng};
 use crate::text::Names;
@@ -25,13 +25,16 @@ pub fn texts() -> Vec<(&'static str, Text)> {
         ("978 classes alike in 30 of 32, axioms of the last: 42", text(30, 978, 978, FILL)),
         ("1,236 classes alike in 30 of 32: 42", text(30, 1_236, 1, 0)),
         ("2,848 classes of 2: 42", text(0, 2_848, 1, 0)),
+        ("64 roles and 64 features, 896 axioms, none of them functional", many_valued(896)),
+        ("64 roles and 64 features, as many axioms as fit, none functional: 1", many_valued(FILL)),
         ("1 class and blanks", Text::of(padded(MOST_BYTES, 0))),
     ]
 }
 
 fn everyday_text() -> Text {
-    let vocabulary =
-        Vocabulary { roles: 20, features: 5, ..everyday::vocabulary(&mut Rng::new(1), 256) };
+    let vocabulary = everyday::vocabulary(&mut Rng::new(1), 256);
+    let axioms = vocabulary.said_in_owl();
+    let vocabulary = Vocabulary { roles: 20, features: 5, axioms, ..vocabulary };
     let names = Names::numbered(":", &vocabulary);
     let tokens = around(Source { vocabulary, names }.forms().concat());
     Text::of(lay_out(&mut Rng::new(1), Layout::Lines, &tokens))
@@ -47,6 +50,18 @@ fn name(alike: usize, number: usize) -> String {
 fn one_sum(number: usize) -> String {
     let block = |bit: usize| if number >> bit & 1 == 0 { "Aa" } else { "BB" };
     format!(":{}{}", "a".repeat(16), (0..8).rev().map(block).collect::<String>())
+}
+
+/// A text of 64 roles and 64 features, each of which makes a record, and so many axioms, or as many as
+/// fit.
+fn many_valued(axioms: usize) -> Text {
+    let sorts = [SORTS[1], SORTS[2]];
+    let declaration = |sort, number| format!("Declaration({sort}({}))", name(0, number));
+    let declarations = sorts.iter().flat_map(|sort| (1..=64).map(move |at| declaration(sort, at)));
+    let front = format!("Declaration(Class(:A)){}", declarations.collect::<String>());
+    let axiom = "SubClassOf(:A:A)";
+    let room = MOST_BYTES - "Ontology()".len() - front.len();
+    Text::of(format!("Ontology({front}{})", axiom.repeat(axioms.min(room / axiom.len()))))
 }
 
 /// A text of so many classes whose names begin alike, and so many axioms of one of them, or as many as fit.

@@ -1,6 +1,7 @@
 //! From a vocabulary with names to a text that says it, in any order and any layout.
 
 use crate::classes::{ClassNo, FeatureNo, RoleNo};
+use crate::encode::vocabulary_words;
 use crate::random::valid::{vocabulary, Shape};
 use crate::random::Rng;
 use crate::text::Names;
@@ -24,7 +25,7 @@ pub const CHARACTERS: &[u8; 62] = b"0123456789ABCDEFGHIJKLMNOPQRSTUVWXYZabcdefgh
 /// What a text says.
 #[derive(Clone, Debug)]
 pub struct Source {
-    /// The vocabulary.
+    /// The names' counts and the axioms, as OWL has them.
     pub vocabulary: Vocabulary,
     /// Its names, each with its colon.
     pub names: Names,
@@ -33,13 +34,20 @@ pub struct Source {
 impl Source {
     /// A few names and axioms; one in some hundreds has as many as it may, or a few more.
     pub fn random(rng: &mut Rng) -> Self {
+        let said = |whole: Vocabulary| Vocabulary { axioms: whole.said_in_owl(), ..whole };
         let vocabulary = match rng.below(600) {
             0 => full(rng),
-            1..20 => vocabulary(rng, &Shape::medium()),
-            _ => vocabulary(rng, &Shape::small()),
+            1..20 => said(vocabulary(rng, &Shape::medium())),
+            _ => said(vocabulary(rng, &Shape::small())),
         };
         let names = names(rng, &vocabulary);
         Self { vocabulary, names }
+    }
+
+    /// The words that the text is read to.
+    #[must_use]
+    pub fn words(&self) -> Vec<u32> {
+        vocabulary_words(&self.vocabulary.clone().read_as_owl())
     }
 
     /// The declarations of classes, of roles and of features, and the axioms.
@@ -80,12 +88,16 @@ fn full(rng: &mut Rng) -> Vocabulary {
         }
     };
     let (classes, roles, features) = (most(rng, 256), most(rng, 64), most(rng, 64));
-    let axioms = (0..most(rng, 1_024)).map(|_| match rng.below(3) {
-        0 => Axiom::FunctionalRole(RoleNo(rng.between(1, roles))),
-        1 => Axiom::FunctionalFeature(FeatureNo(rng.between(1, features))),
-        _ => Axiom::Below(ClassNo(rng.between(1, classes)), ClassNo(rng.between(1, classes))),
-    });
-    let axioms = axioms.collect();
+    let mut axioms = Vec::new();
+    let stated = (1..=roles).filter(|_| rng.once_in(2));
+    axioms.extend(stated.map(|role| Axiom::FunctionalRole(RoleNo(role))));
+    let stated = (1..=features).filter(|_| rng.once_in(2));
+    axioms.extend(stated.map(|feature| Axiom::FunctionalFeature(FeatureNo(feature))));
+    // Stated or not, each role and feature has a record of its own.
+    let rest = most(rng, 1_024).saturating_sub(roles + features);
+    let class = |rng: &mut Rng| ClassNo(rng.between(1, classes));
+    axioms.extend((0..rest).map(|_| Axiom::Below(class(rng), class(rng))));
+    rng.shuffle(&mut axioms);
     Vocabulary { classes, roles, features, axioms }
 }
 
@@ -149,6 +161,9 @@ fn axiom(names: &Names, axiom: Axiom) -> Form {
         Axiom::FunctionalRole(a) => form("FunctionalObjectProperty", [role(a)]),
         Axiom::FunctionalFeature(a) => form("FunctionalDataProperty", [one(&names.features, a.0)]),
         Axiom::Range(a, b) => form("ObjectPropertyRange", [role(a), class(b)]),
+        Axiom::ManyValuedRole(_) | Axiom::ManyValuedFeature(_) => {
+            unreachable!("OWL has no axiom for what is many-valued")
+        }
     }
 }
 

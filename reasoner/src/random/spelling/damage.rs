@@ -50,7 +50,7 @@ pub fn base() -> Case {
 #[must_use]
 pub fn faults() -> Vec<Fault> {
     let mut all = damage::faults();
-    all.retain(|fault| matches!(fault.number, 1..=8 | 21 | 23));
+    all.retain(|fault| matches!(fault.number, 1..=8 | 21 | 23 | 44));
     let fault = |number, name, apply| Fault { number, name, apply };
     all.extend([
         fault(43, "a range 17 deep", |case| {

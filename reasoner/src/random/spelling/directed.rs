@@ -36,14 +36,18 @@ fn directed(name: &str, input: Spelling, answer: Result<Vec<u32>, u32>) -> Direc
 /// A name, the records of a vocabulary and of a policy, and those of its spelling.
 type Reading = (&'static str, &'static [[u32; 4]], &'static [[u32; 6]], &'static [[u32; 6]]);
 
-/// Three classes, three roles and two features, of which nothing is stated.
-const NAMES: &[[u32; 4]] = &[[3, 3, 2, 0]];
+/// Three classes, three roles and two features, which are all many-valued.
+const NAMES: &[[u32; 4]] =
+    &[[3, 3, 2, 1], [6, 1, 0, 2], [6, 2, 0, 3], [6, 3, 0, 4], [7, 1, 0, 5], [7, 2, 0, 0]];
+
+/// The same, of which nothing is stated: they are all functional.
+const UNSTATED: &[[u32; 4]] = &[[3, 3, 2, 0]];
 
 /// SPECIFICATION 3.3: class 2 is below 1; role 1 has the range 1; feature 1 is functional.
 const HEART: &[[u32; 4]] = &[[2, 1, 1, 1], [1, 2, 1, 2], [5, 1, 1, 3], [4, 1, 0, 0]];
 
 /// SPECIFICATION 11.1: class 2 is below 1, class 4 is below 1 and 3, which are disjoint; roles 1 and
-/// 2 and feature 1 are functional; role 3 has the range 1.
+/// 2 and feature 1 are functional; role 3 has the range 1 and is many-valued.
 const DESK: &[[u32; 4]] = &[
     [4, 3, 1, 1],
     [1, 2, 1, 2],
@@ -53,11 +57,40 @@ const DESK: &[[u32; 4]] = &[
     [3, 1, 0, 6],
     [3, 2, 0, 7],
     [4, 1, 0, 8],
-    [5, 3, 1, 0],
+    [5, 3, 1, 9],
+    [6, 3, 0, 0],
 ];
 
 const FIRST: [u32; 6] = [1, 0, 0, 0, 0, 0];
 const NONE: [u32; 6] = [0; 6];
+
+/// Role 3 and feature 2 asked twice, and feature 2 twice of what role 3 reaches.
+const TWICE: &[[u32; 6]] = &[
+    FIRST,
+    [5, 0, 0, 0, 2, 0],
+    [3, 3, 0, 0, 3, 5],
+    [1, 2, 0, 0, 0, 4],
+    [4, 2, 0, 5, 0, 0],
+    [4, 2, 3, 9, 0, 6],
+    [3, 3, 0, 0, 7, 9],
+    [4, 2, 5, 6, 0, 8],
+    [1, 1, 0, 0, 0, 0],
+    [4, 2, 0, 4, 0, 0],
+];
+
+/// The spelling of [`TWICE`] where both are many-valued.
+const APART: &[[u32; 6]] = &[
+    FIRST,
+    [5, 0, 0, 0, 2, 0],
+    [4, 2, 0, 4, 0, 3],
+    [4, 2, 3, 9, 0, 4],
+    [3, 3, 0, 0, 5, 7],
+    [1, 1, 0, 0, 0, 6],
+    [4, 2, 5, 6, 0, 0],
+    [3, 3, 0, 0, 8, 0],
+    [1, 2, 0, 0, 0, 9],
+    [4, 2, 0, 5, 0, 0],
+];
 
 const READINGS: &[Reading] = &[
     (
@@ -568,6 +601,69 @@ const READINGS: &[Reading] = &[
             [3, 1, 0, 0, 0, 0],
         ],
     ),
+    (
+        "roles and features of which nothing is stated are functional, at every depth",
+        UNSTATED,
+        TWICE,
+        &[
+            FIRST,
+            [5, 0, 0, 0, 2, 0],
+            [4, 2, 3, 4, 0, 3],
+            [3, 3, 0, 0, 4, 0],
+            [1, 1, 0, 0, 0, 5],
+            [1, 2, 0, 0, 0, 6],
+            [4, 2, 5, 5, 0, 0],
+        ],
+    ),
+    (
+        "roles and features that are many-valued stay apart, at every depth",
+        &[[3, 3, 2, 1], [7, 2, 0, 2], [6, 3, 0, 0]],
+        TWICE,
+        APART,
+    ),
+    (
+        "many-valued twice is many-valued",
+        &[[3, 3, 2, 1], [6, 3, 0, 2], [7, 2, 0, 3], [6, 3, 0, 4], [7, 2, 0, 0]],
+        TWICE,
+        APART,
+    ),
+    (
+        "a role and a feature of one number have nothing to do with each other",
+        &[[3, 3, 3, 1], [3, 2, 0, 2], [7, 2, 0, 3], [4, 3, 0, 4], [6, 3, 0, 0]],
+        TWICE,
+        APART,
+    ),
+    (
+        "a record that no link reaches makes nothing many-valued, and no name is named both ways by it",
+        &[[3, 3, 2, 2], [6, 3, 0, 2], [3, 3, 0, 4], [7, 2, 0, 4], [4, 2, 0, 0]],
+        &[FIRST, [5, 0, 0, 0, 2, 0], [3, 3, 0, 0, 0, 3], [3, 3, 0, 0, 4, 0], [1, 1, 0, 0, 0, 0]],
+        &[FIRST, [5, 0, 0, 0, 2, 0], [3, 3, 0, 0, 3, 0], [1, 1, 0, 0, 0, 0]],
+    ),
+    (
+        "roles are impossible by a merge that nothing states",
+        &[[3, 3, 2, 1], [2, 1, 2, 2], [6, 1, 0, 0]],
+        &[
+            FIRST,
+            [5, 0, 0, 0, 2, 6],
+            [3, 2, 0, 0, 3, 4],
+            [1, 1, 0, 0, 0, 0],
+            [3, 2, 0, 0, 5, 0],
+            [1, 2, 0, 0, 0, 0],
+            [5, 0, 0, 0, 7, 0],
+            [3, 1, 0, 0, 8, 9],
+            [1, 1, 0, 0, 0, 0],
+            [3, 1, 0, 0, 10, 0],
+            [1, 2, 0, 0, 0, 0],
+        ],
+        &[
+            FIRST,
+            [5, 0, 0, 0, 2, 0],
+            [3, 1, 0, 0, 3, 4],
+            [1, 1, 0, 0, 0, 0],
+            [3, 1, 0, 0, 5, 0],
+            [1, 2, 0, 0, 0, 0],
+        ],
+    ),
     // Classes are the stated ones, and ranges.
     (
         "nothing is closed upward",
@@ -628,7 +724,7 @@ const READINGS: &[Reading] = &[
     ),
     (
         "a range changes which role comes first",
-        &[[3, 1, 0, 1], [5, 1, 3, 0]],
+        &[[3, 1, 0, 1], [5, 1, 3, 2], [6, 1, 0, 0]],
         &[FIRST, [5, 0, 0, 0, 2, 0], [3, 1, 0, 0, 0, 3], [3, 1, 0, 0, 4, 0], [1, 1, 0, 0, 0, 0]],
         &[
             FIRST,
@@ -742,13 +838,13 @@ const READINGS: &[Reading] = &[
     ),
 ];
 
-/// Over 256 classes, three roles and two features: role 1 has so many ranges, from class 3 on, and
-/// classes 1 and 2 are disjoint.
+/// Over 256 classes, three roles and two features, which are many-valued: role 1 has so many ranges, from
+/// class 3 on, and classes 1 and 2 are disjoint.
 fn ranged(ranges: u32) -> Vocabulary {
     let mut vocabulary = names(256, 3, 2);
     vocabulary.axioms = vec![Axiom::Disjoint(ClassNo(1), ClassNo(2))];
     vocabulary.axioms.extend((3..3 + ranges).map(|range| Axiom::Range(RoleNo(1), ClassNo(range))));
-    vocabulary
+    vocabulary.read_as_owl()
 }
 
 fn input(vocabulary: &Vocabulary, terms: &[Term]) -> Spelling {
@@ -873,7 +969,8 @@ fn lengths() -> Vec<Directed> {
             &Vocabulary {
                 axioms: (1..=256).map(|range| Axiom::Range(RoleNo(1), ClassNo(range))).collect(),
                 ..names(256, 1, 1)
-            },
+            }
+            .read_as_owl(),
             &[(0..255).map(|at| reaches(1, vec![within(1, at, at)])).collect()],
         ),
     ]
@@ -966,6 +1063,11 @@ fn outputs() -> Vec<Directed> {
     ]
 }
 
+/// Role 1, which is many-valued, is stated functional by the first record.
+fn both_ways(input: &mut Spelling) {
+    input.v[4..7].copy_from_slice(&[3, 1, 0]);
+}
+
 /// Several refusals at once.
 fn orders() -> Vec<Directed> {
     let long = || input(&ranged(250), &[two_of_250(8)]);
@@ -994,7 +1096,25 @@ fn orders() -> Vec<Directed> {
     all.extend([
         damaged("a vocabulary of 3 words", |input| input.v.truncate(3), 1),
         damaged("no class", |input| input.v[0] = 0, 2),
-        damaged("an axiom of kind 6", |input| input.v[4] = 6, 3),
+        damaged("an axiom of kind 8", |input| input.v[4] = 8, 3),
+        damaged(
+            "a role both ways, and an axiom of kind 8 behind",
+            |input| {
+                both_ways(input);
+                let last = input.v.len() - 4;
+                input.v[last] = 8;
+            },
+            3,
+        ),
+        damaged("a role both ways", both_ways, 44),
+        damaged(
+            "a role both ways, and a policy of 5 words",
+            |input| {
+                both_ways(input);
+                input.p.truncate(5);
+            },
+            44,
+        ),
         damaged("a policy of 5 words", |input| input.p.truncate(5), 4),
         damaged("a header word", |input| input.p[1] = 1, 5),
         damaged("a term of kind 1", |input| input.p[6] = 1, 6),

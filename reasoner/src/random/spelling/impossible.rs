@@ -21,18 +21,22 @@ pub fn input(rng: &mut Rng) -> Spelling {
     Spelling::laid_out(rng, &vocabulary, &terms)
 }
 
-/// Classes 1 and 3 are disjoint and class 4 is below both; role 1 and feature 1 are functional; role
-/// 3 has the range 1, and role 4 has ranges in plenty.
+/// Classes 1 and 3 are disjoint and class 4 is below both; role 1 and feature 1 are functional, stated so
+/// or not, and the others many-valued; role 3 has the range 1, and role 4 has ranges in plenty.
 fn vocabulary(rng: &mut Rng) -> Vocabulary {
     let mut vocabulary = names(256, 4, 2);
     vocabulary.axioms = vec![
         Axiom::Below(ClassNo(4), ClassNo(1)),
         Axiom::Below(ClassNo(4), ClassNo(3)),
         Axiom::Disjoint(ClassNo(1), ClassNo(3)),
-        Axiom::FunctionalRole(RoleNo(1)),
-        Axiom::FunctionalFeature(FeatureNo(1)),
         Axiom::Range(RoleNo(3), ClassNo(1)),
+        Axiom::ManyValuedFeature(FeatureNo(2)),
     ];
+    vocabulary.axioms.extend((2..=4).map(|role| Axiom::ManyValuedRole(RoleNo(role))));
+    if rng.once_in(2) {
+        vocabulary.axioms.push(Axiom::FunctionalRole(RoleNo(1)));
+        vocabulary.axioms.push(Axiom::FunctionalFeature(FeatureNo(1)));
+    }
     let many = rng.between(1, 250);
     vocabulary.axioms.extend((5..5 + many).map(|range| Axiom::Range(RoleNo(4), ClassNo(range))));
     vocabulary

@@ -1,7 +1,7 @@
 //! Policies whose spelling has about 512 records or is about 16 deep.
 
 use super::Spelling;
-use crate::classes::{ClassNo, RoleNo};
+use crate::classes::{ClassNo, FeatureNo, RoleNo};
 use crate::policy::Term;
 use crate::random::limits::{class, names, nested, reaches, within};
 use crate::random::slow::{records, RECORDS};
@@ -37,11 +37,14 @@ pub fn input(rng: &mut Rng) -> Spelling {
     Spelling::laid_out(rng, &vocabulary(ranges), &terms)
 }
 
-/// Role 1 has so many ranges, from class 3 on; classes 1 and 2 are disjoint.
+/// Role 1 has so many ranges, from class 3 on, and is many-valued, as both features are; classes 1 and
+/// 2 are disjoint.
 fn vocabulary(ranges: u32) -> Vocabulary {
     let mut vocabulary = names(256, 3, 2);
     vocabulary.axioms = vec![Axiom::Disjoint(ClassNo(1), ClassNo(2))];
     vocabulary.axioms.extend((3..3 + ranges).map(|range| Axiom::Range(RoleNo(1), ClassNo(range))));
+    vocabulary.axioms.push(Axiom::ManyValuedRole(RoleNo(1)));
+    vocabulary.axioms.extend([1, 2].map(|feature| Axiom::ManyValuedFeature(FeatureNo(feature))));
     vocabulary
 }
 

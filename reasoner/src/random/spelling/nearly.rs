@@ -36,17 +36,25 @@ pub fn input(rng: &mut Rng) -> Spelling {
     Spelling::laid_out(rng, &vocabulary, &terms)
 }
 
+/// Role 1 and feature 1 are many-valued; the others are functional once in three, stated so or not.
 fn vocabulary(rng: &mut Rng) -> Vocabulary {
     let mut vocabulary = names(CLASSES, ROLES, FEATURES);
+    let axioms = &mut vocabulary.axioms;
+    axioms.push(Axiom::ManyValuedRole(RoleNo(1)));
+    axioms.push(Axiom::ManyValuedFeature(FeatureNo(1)));
     if rng.once_in(3) {
         let class = rng.between(1, CLASSES);
-        vocabulary.axioms.push(Axiom::Range(RoleNo(1), ClassNo(class)));
+        axioms.push(Axiom::Range(RoleNo(1), ClassNo(class)));
     }
-    if rng.once_in(3) {
-        vocabulary.axioms.push(Axiom::FunctionalRole(RoleNo(2)));
+    match rng.below(6) {
+        0 => axioms.push(Axiom::FunctionalRole(RoleNo(2))),
+        1 => {}
+        _ => axioms.push(Axiom::ManyValuedRole(RoleNo(2))),
     }
-    if rng.once_in(3) {
-        vocabulary.axioms.push(Axiom::FunctionalFeature(FeatureNo(2)));
+    match rng.below(6) {
+        0 => axioms.push(Axiom::FunctionalFeature(FeatureNo(2))),
+        1 => {}
+        _ => axioms.push(Axiom::ManyValuedFeature(FeatureNo(2))),
     }
     vocabulary
 }

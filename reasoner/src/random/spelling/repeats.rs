@@ -2,13 +2,13 @@
 //! of a given one.
 
 use super::Spelling;
-use crate::classes::{ClassNo, FeatureNo, RoleNo};
+use crate::classes::{ClassNo, RoleNo};
 use crate::policy::{Conjunct, Place, Policy, Term, DEEPEST};
 use crate::random::limits::{class, reaches, within};
 use crate::random::slow::{records, RECORDS};
 use crate::random::valid::{self, policy_layout, Shape};
 use crate::random::Rng;
-use crate::vocabulary::{Axiom, Vocabulary};
+use crate::vocabulary::{Axiom, Functional, Vocabulary};
 
 /// What is done to a policy besides another order of conjuncts and terms, and leaves its spelling.
 #[derive(Clone, Copy, Debug, PartialEq, Eq)]
@@ -91,28 +91,16 @@ struct Hand {
     /// How many records may be put in.
     room: usize,
     ranges: Vec<(RoleNo, ClassNo)>,
-    functional_roles: Vec<RoleNo>,
-    functional_features: Vec<FeatureNo>,
+    functional: Functional,
 }
 
 impl Hand {
     fn of(over: &Vocabulary, disguise: Disguise, room: usize) -> Self {
-        let mut hand = Self {
-            disguise,
-            room,
-            ranges: Vec::new(),
-            functional_roles: Vec::new(),
-            functional_features: Vec::new(),
-        };
-        for axiom in &over.axioms {
-            match axiom {
-                Axiom::Range(role, class) => hand.ranges.push((*role, *class)),
-                Axiom::FunctionalRole(role) => hand.functional_roles.push(*role),
-                Axiom::FunctionalFeature(feature) => hand.functional_features.push(*feature),
-                Axiom::Below(..) | Axiom::Disjoint(..) => {}
-            }
-        }
-        hand
+        let ranges = over.axioms.iter().filter_map(|axiom| match axiom {
+            Axiom::Range(role, class) => Some((*role, *class)),
+            _ => None,
+        });
+        Self { disguise, room, ranges: ranges.collect(), functional: Functional::of(over) }
     }
 
     /// Is there room for so many records? Then it is taken.
@@ -190,14 +178,14 @@ impl Hand {
             }
             let other = match &mut chain[at] {
                 Conjunct::Reaches(role, inner)
-                    if self.functional_roles.contains(role) && self.takes(1) =>
+                    if self.functional.has_role(*role) && self.takes(1) =>
                 {
                     let (some, others) = inner.drain(..).partition(|_| rng.once_in(2));
                     *inner = some;
                     reaches(role.0, others)
                 }
                 Conjunct::Within(feature, lo, hi)
-                    if self.functional_features.contains(feature) && self.takes(1) =>
+                    if self.functional.has_feature(*feature) && self.takes(1) =>
                 {
                     let other = within(feature.0, *lo, hi.saturating_add(rng.below(3)));
                     *lo = lo.saturating_sub(rng.below(3));

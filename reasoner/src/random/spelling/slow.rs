@@ -7,7 +7,7 @@ use crate::policy::Term;
 use crate::random::limits::{class, names, nested, reaches, within};
 use crate::random::slow::RECORDS;
 use crate::random::Rng;
-use crate::vocabulary::Axiom;
+use crate::vocabulary::{Axiom, Vocabulary};
 
 /// Records of one term besides its own.
 const MOST: usize = RECORDS - 1;
@@ -70,9 +70,11 @@ pub fn inputs() -> Vec<(String, Spelling)> {
     put("31 equal chains of roles of a range of 30 classes".into(), ranged_chains(30));
     put("31 equal chains of roles of a range of 250 classes: 43".into(), ranged_chains(250));
     let met = (0..MOST as u32).map(|at| within(1 + at % 64, at / 64, 100 - at / 64));
+    let met = vec![met.collect()];
     let functional = (1..=64).map(|feature| Axiom::FunctionalFeature(FeatureNo(feature)));
-    let met = plain(vec![met.collect()], functional.collect());
-    put("511 spans that meet to 64".into(), met);
+    put("511 spans that meet to 64".into(), plain(met.clone(), functional.collect()));
+    let unstated = Spelling::of(vocabulary_words(&names(256, 64, 64)), policy_words(&met));
+    put("511 spans that meet to 64, nothing stated".into(), unstated);
     for (levels, is_double) in SHAPES {
         let name = |what: &str| format!("16 levels, two branches at {levels}, {what}");
         put(name("equal"), plain(vec![branches(1, is_double, true, 16)], vec![]));
@@ -84,10 +86,11 @@ pub fn inputs() -> Vec<(String, Spelling)> {
     all
 }
 
-/// An input over 256 classes, 64 roles and 64 features.
+/// An input over 256 classes, 64 roles and 64 features. Roles 1 to 4 and features 1 and 2 are
+/// many-valued unless they are stated functional.
 fn plain(terms: Vec<Term>, axioms: Vec<Axiom>) -> Spelling {
-    let mut vocabulary = names(256, 64, 64);
-    vocabulary.axioms = axioms;
+    let used = Vocabulary { axioms, ..names(256, 4, 2) }.read_as_owl();
+    let vocabulary = Vocabulary { axioms: used.axioms, ..names(256, 64, 64) };
     Spelling::of(vocabulary_words(&vocabulary), policy_words(&terms))
 }
 
