@@ -4,8 +4,10 @@
 One line a case: the refusal's number, 0 where the table is accepted. Usage: readers.py [> crates/readers/stdout]
 """
 
+# the desk's, with a second feature, which is many-valued: one word damaged names a role or a feature both ways
 VOCABULARY = [
-    4, 3, 1, 1,  1, 2, 1, 2,  1, 4, 1, 3,  1, 4, 3, 4,  2, 1, 3, 5,  3, 1, 0, 6,  3, 2, 0, 7,  4, 1, 0, 8,  5, 3, 1, 0,
+    4, 3, 2, 1,  1, 2, 1, 2,  1, 4, 1, 3,  1, 4, 3, 4,  2, 1, 3, 5,  3, 1, 0, 6,  3, 2, 0, 7,  4, 1, 0, 8,  5, 3, 1, 9,
+    6, 3, 0, 10,  7, 2, 0, 0,
 ]
 
 # two terms, a role with a chain below it, a class, an interval, the impossible concept, and a record that nothing reaches
