@@ -1,18 +1,15 @@
 -- The names that no axiom of a kind names, in a set; and that the names of a text's axioms have a bit there.
-use Prim.Native.Nat.{_≤_, ℕ}
-use mathlib.Core.Bool.{Bool, false, not, true}
-use mathlib.Core.List.{List, [], _∷_}
-use mathlib.Core.Path.{_∙_, _≡_, ap, refl, subst, sym}
+use Prim.Native.Nat.{ℕ}
+use mathlib.Core.Bool.{not, true}
+use mathlib.Core.List.{List}
+use mathlib.Core.Path.{_∙_, _≡_, ap, refl}
 use lib.Dec.{eqb}
 use lib.ListN.{length, replicate}
 use native.Mathlib.Omega.{arith}
-use Rattle.declarations.specs.Names.{declared, isKnown, soundNames}
+use Rattle.declarations.specs.Names.{soundNames}
 use Rattle.declarations.specs.declared.Counts.{Counts}
-use Rattle.meaning.proofs.Links.{bounds}
 use Rattle.meaning.proofs.Rules.{all-mono}
-use Rattle.meaning.specs.Accepted.{NamedAxiom}
-use Rattle.meaning.specs.Lists.{All, all, any, counting, filter, flatMap}
-use Rattle.meaning.specs.Records.{Name}
+use Rattle.meaning.specs.Lists.{any, counting, filter}
 use Rattle.meaning.specs.Vocabulary.{Axiom, below, disjoint, functionalFeature, functionalFeatureName, functionalRole, functionalRoleName}
 use Rattle.meaning.specs.Vocabulary.{isNamed, manyFeature, manyRole, range, unnamed}
 use Rattle.owl.proofs.Accepted.{axioms-named}
@@ -21,7 +18,6 @@ use Rattle.owl.proofs.Lists.{filter-alike, flatMap-alike}
 use Rattle.owl.proofs.Looking.{feature-size, role-size, sizes-small}
 use Rattle.owl.specs.Owl.{axiomsIn}
 use Rattle.owl.specs.Passes.{Many, NamesWithin, Ready, firstNameBy, namesBy, statementsOf, unnamedBy}
-use Rattle.statements.specs.Forms.{class, feature, role}
 use Rattle.tokens.specs.Tokens.{tokens}
 use Rattle.words.proofs.Others.{in-all, others-members}
 use Rattle.words.specs.Members.{members, othersOf}
@@ -67,10 +63,6 @@ feature-first-name (manyFeature f) = refl
 -- ---- of a text whose names are sound
 
 module _ {text table : List ℕ} {c : Counts} (w : Ready text table c) (sound : soundNames (statementsOf text) ≡ true) where
-  all-named : All (NamedAxiom (length (declared class (statementsOf text))) (length (declared role (statementsOf text))) (length (declared feature (statementsOf text)))) (axiomsIn (statementsOf text))
-  unfolding axiomsIn
-  all-named = let u = simp bounds at sound in axioms-named (statementsOf text) (tokens text) (statementsOf text) (w .parses) (u .1 .1 .1)
-
   pub roles-within : NamesWithin text 3 (c .roles)
   unfolding namesBy
   roles-within =
@@ -78,7 +70,7 @@ module _ {text table : List ℕ} {c : Counts} (w : Ready text table c) (sound : 
       record {
         stating = omega arith;
         few = s .1;
-        named = rw (role-size w, flatMap-alike (firstNameBy 3) functionalRoleName role-first-name (axiomsIn (statementsOf text))) (roles-named all-named);
+        named = rw (role-size w, flatMap-alike (firstNameBy 3) functionalRoleName role-first-name (axiomsIn (statementsOf text))) (roles-named (axioms-named (statementsOf text) (tokens text) (w .parses) sound));
       }
 
   pub features-within : NamesWithin text 4 (c .features)
@@ -88,7 +80,7 @@ module _ {text table : List ℕ} {c : Counts} (w : Ready text table c) (sound : 
       record {
         stating = omega arith;
         few = s .2;
-        named = rw (feature-size w, flatMap-alike (firstNameBy 4) functionalFeatureName feature-first-name (axiomsIn (statementsOf text))) (features-named all-named);
+        named = rw (feature-size w, flatMap-alike (firstNameBy 4) functionalFeatureName feature-first-name (axiomsIn (statementsOf text))) (features-named (axioms-named (statementsOf text) (tokens text) (w .parses) sound));
       }
 
   pub many-sets : {roles features : List ℕ} → length roles ≡ 2 → length features ≡ 2 → members roles ≡ unnamedBy text 3 (c .roles) →

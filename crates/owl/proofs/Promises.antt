@@ -1,13 +1,13 @@
 -- What Read OWL promises, a sentence a theorem. Each is about a text and an output of o words, whatever they are.
 use Prim.Native.Nat.{_<_, _≤_, suc, zero, ℕ}
-use mathlib.Core.Bool.{Bool, cond, false, not, true}
-use mathlib.Core.List.{List, [], _∷_, map}
+use mathlib.Core.Bool.{Bool, and-eq-true-iff, cond, false, not, true}
+use mathlib.Core.List.{List, []}
 use mathlib.Core.Path.{_∙_, _≡_, ap, refl, sym}
-use lib.Dec.{eqb, leb}
+use lib.Dec.{leb}
 use lib.ListN.{getD, length}
 use native.Mathlib.Omega.{arith}
 use borrow.Author.Tests.{le-leb, not-true}
-use Rattle.declarations.specs.Names.{declared, declaredWell, numberIn}
+use Rattle.declarations.specs.Names.{counted, declared, declaredWell, numberIn, soundNames}
 use Rattle.declarations.specs.Passes.{listOf}
 use Rattle.meaning.proofs.Links.{bounds, passed}
 use Rattle.meaning.proofs.Refusals.{orElse-zero}
@@ -15,18 +15,17 @@ use Rattle.meaning.proofs.VocabularyWords.{vocabulary-words-accepted, vocabular
 use Rattle.meaning.specs.Answers.{accepted, result, wrote}
 use Rattle.meaning.specs.Limits.{mostAxioms, mostText}
 use Rattle.meaning.specs.Accepted.{NamedAxiom}
-use Rattle.meaning.specs.Lists.{All, flatMap}
+use Rattle.meaning.specs.Lists.{All}
 use Rattle.meaning.specs.Operations.{readVocabulary, refuses, unless, written}
 use Rattle.meaning.specs.Stated.{isFunctionalFeature, isFunctionalRole}
-use Rattle.meaning.specs.Vocabulary.{Axiom, Vocabulary, below, disjoint, functionalFeature, functionalFeatureName, functionalRole}
-use Rattle.meaning.specs.Vocabulary.{functionalRoleName, isNamed, manyFeatureName, manyRoleName, range, vocabularyOf, vocabularyWords}
+use Rattle.meaning.specs.Vocabulary.{Vocabulary, functionalFeatureName, functionalRoleName, isNamed, vocabularyOf, vocabularyWords}
 use Rattle.name_table.proofs.Numbers.{number-at, number-injective}
 use Rattle.name_table.specs.Numbers.{repeats}
-use Rattle.owl.proofs.Accepted.{axioms-named}
+use Rattle.owl.proofs.Accepted.{axioms-named, no-many-feature, no-many-role}
 use Rattle.owl.proofs.Adding.{added-apart, added-feature, added-named, added-role}
-use Rattle.owl.specs.Owl.{axiomOf, axiomsBy, axiomsIn, manyIn, owlRefusal, owlWords, parsedRefusal, parsedWords, readOwl, vocabularyIn}
+use Rattle.owl.specs.Owl.{axiomsIn, manyIn, owlRefusal, owlWords, parsedRefusal, parsedWords, readOwl, vocabularyIn}
 use Rattle.owl.specs.Passes.{statementsOf}
-use Rattle.statements.specs.Forms.{Parsed, Sort, Statement, class, declares, feature, ontology, parsed, role, states, wrong}
+use Rattle.statements.specs.Forms.{Parsed, Sort, Statement, class, feature, ontology, parsed, role, wrong}
 use Rattle.tokens.specs.Tokens.{Token, tokens}
 
 -- ---- where words are written, nothing was refused
@@ -73,6 +72,10 @@ told text o n e =
       words = a .1 ∙ ap parsedWords (k .0);
     }
 
+well-sound : (l : List Statement) → declaredWell l ≡ true → soundNames l ≡ true
+unfolding declaredWell
+well-sound l h = and-eq-true-iff (counted (length (declared class l)) (length (declared role l)) (length (declared feature l))) (soundNames l) .0 h .1
+
 -- no name of a sort stands twice
 once : (l : List Statement) → declaredWell l ≡ true → (s : Sort) → repeats (declared s l) ≡ false
 unfolding declaredWell
@@ -85,36 +88,6 @@ once l h s = go s
     go class = not-true _ (sound .0)
     go role = not-true _ (sound .1)
     go feature = not-true _ (sound .2)
-
--- ---- no axiom of a text says that a name has many values
-
-axiom-none : (select : Axiom → List ℕ) → ((a b : ℕ) → select (below a b) ≡ []) → ((a b : ℕ) → select (disjoint a b) ≡ []) →
-    ((r : ℕ) → select (functionalRole r) ≡ []) → ((f : ℕ) → select (functionalFeature f) ≡ []) → ((r c : ℕ) → select (range r c) ≡ []) →
-    (k : ℕ) (ns : List ℕ) → select (axiomOf k ns) ≡ []
-axiom-none select h₁ h₂ h₃ h₄ h₅ k ns = go (eqb k 1) (eqb k 2) (eqb k 3) (eqb k 4)
-  where
-    go : (a b c d : Bool) →
-        select (cond a (below (getD ns 0 0) (getD ns 1 0)) (cond b (disjoint (getD ns 0 0) (getD ns 1 0)) (cond c (functionalRole (getD ns 0 0)) (cond d (functionalFeature (getD ns 0 0)) (range (getD ns 0 0) (getD ns 1 0)))))) ≡ []
-    go true b c d = h₁ _ _
-    go false true c d = h₂ _ _
-    go false false true d = h₃ _
-    go false false false true = h₄ _
-    go false false false false = h₅ _ _
-
-axioms-none : (select : Axiom → List ℕ) → ((k : ℕ) (ns : List ℕ) → select (axiomOf k ns) ≡ []) → (l m : List Statement) → flatMap select (flatMap (axiomsBy l) m) ≡ []
-axioms-none select h l [] = refl
-axioms-none select h l (declares s us ∷ m) = axioms-none select h l m
-axioms-none select h l (states k us ∷ m) = rw (h k (map (numberIn l) us), axioms-none select h l m)
-
-no-many-role : (l : List Statement) → flatMap manyRoleName (axiomsIn l) ≡ []
-unfolding axiomsIn
-no-many-role l =
-    axioms-none manyRoleName (axiom-none manyRoleName (λ a b. refl) (λ a b. refl) (λ r. refl) (λ f. refl) (λ r c. refl)) l l
-
-no-many-feature : (l : List Statement) → flatMap manyFeatureName (axiomsIn l) ≡ []
-unfolding axiomsIn
-no-many-feature l =
-    axioms-none manyFeatureName (axiom-none manyFeatureName (λ a b. refl) (λ a b. refl) (λ r. refl) (λ f. refl) (λ r c. refl)) l l
 
 -- ---- the promises
 
@@ -130,11 +103,7 @@ module _ (text : List ℕ) (o n : ℕ) (e : Wrote text o n) where
 
   -- the axioms of the text have names of the counts
   named : All (NamedAxiom (length (declared class (statementsOf text))) (length (declared role (statementsOf text))) (length (declared feature (statementsOf text)))) (axiomsIn (statementsOf text))
-  unfolding declaredWell axiomsIn
-  named =
-      let t = told text o n e in
-      let u = simp bounds at (t .well) in
-      axioms-named (statementsOf text) (tokens text) (statementsOf text) (t .parses) (u .1 .1 .1 .1)
+  named = let t = told text o n e in axioms-named (statementsOf text) (tokens text) (t .parses) (well-sound (statementsOf text) (t .well))
 
   -- and Read vocabulary accepts them: no name stands both ways
   pub owl-accepted : readVocabulary (readOwl text o .words) ≡ result accepted

@@ -57,32 +57,33 @@ module _ {text roles features : List ℕ} (m : Many text roles features) where
       roles-room =
           (omega (arith, m .roleWords), record { room = room-same (a .same ∙ long) (room .room); within = omega (arith, room .within, all-size, a .count) })
 
-      module _ {o₃ : List ℕ} {n : ℕ} (b : Written (naming 6) last k (members roles) o₂ o₃ n) where
+      module _ {kind : ℕ} {o₃ : List ℕ} {n : ℕ} (b : Written (naming kind) last k (members roles) o₂ o₃ n) where
         pub features-room : (capacity features < 2 ^ 32) × RoomFor 4 last n (members features) o₃
         features-room =
             (omega (arith, m .featureWords), record { room = room-same (b .same ∙ a .same ∙ long) (room .room); within = omega (arith, room .within, all-size, a .count, b .count) })
 
-        module _ {o₄ : List ℕ} {r : ℕ} (d : Written (naming 7) last n (members features) o₃ o₄ r) where
-          pub all-long : length o₄ ≡ length o
-          all-long = d .same ∙ b .same ∙ a .same ∙ long
+        pub all-long : {other : ℕ} {o₄ : List ℕ} {r : ℕ} → Written (naming other) last n (members features) o₃ o₄ r → length o₄ ≡ length o
+        all-long d = d .same ∙ b .same ∙ a .same ∙ long
 
-          all-recorded : o₄ ≡ recorded axioms last 1 (vocabularyIn (statementsOf text) .axioms) o₁
-          all-recorded =
-              let A = axiomsIn (statementsOf text) in
-              let B = map manyRole (members roles) in
-              let C = map manyFeature (members features) in
-              let F = vocabularyIn (statementsOf text) .axioms in
-              let here : RoomFor 4 last 1 F o₁ = record { room = room-same long (room .room); within = room .within } in
-              let first = left-more axiom-length A (B ++ C) F o₂ k (left-start last 1 F o₁ F refl) parts here a in
-              let second = left-more axiom-length B C (B ++ C) o₃ n first refl here (names-written 6 manyRole (λ x next. refl) (members roles) b) in
-              let third = left-more axiom-length C [] C o₄ r second (sym (append-nil C)) here (names-written 7 manyFeature (λ x next. refl) (members features) d) in
-              left-end [] third refl .words
+      module _ {o₃ o₄ : List ℕ} {n r : ℕ} (b : Written (naming 6) last k (members roles) o₂ o₃ n)
+          (d : Written (naming 7) last n (members features) o₃ o₄ r) where
+        all-recorded : o₄ ≡ recorded axioms last 1 (vocabularyIn (statementsOf text) .axioms) o₁
+        all-recorded =
+            let A = axiomsIn (statementsOf text) in
+            let B = map manyRole (members roles) in
+            let C = map manyFeature (members features) in
+            let F = vocabularyIn (statementsOf text) .axioms in
+            let here : RoomFor 4 last 1 F o₁ = record { room = room-same long (room .room); within = room .within } in
+            let first = left-more axiom-length A (B ++ C) F o₂ k (left-start last 1 F o₁ F refl) parts here a in
+            let second = left-more axiom-length B C (B ++ C) o₃ n first refl here (names-written 6 manyRole (λ x next. refl) (members roles) b) in
+            let third = left-more axiom-length C [] C o₄ r second (sym (append-nil C)) here (names-written 7 manyFeature (λ x next. refl) (members features) d) in
+            left-end [] third refl .words
 
-          pub all-words : {table : List ℕ} {c : Counts} → Ready text table c → last ≡ length (vocabularyIn (statementsOf text) .axioms) →
-              o₁ ≡ putAt o 0 (c .classes ∷ (c .roles ∷ (c .features ∷ (linkAt last 0 ∷ [])))) → o₄ ≡ outputAfter (vocabularyWords (vocabularyIn (statementsOf text))) o
-          unfolding vocabularyWords vocabularyIn
-          all-words {c = c} w e p =
-              let K = vocabularyIn (statementsOf text) in
-              let header = c .classes ∷ (c .roles ∷ (c .features ∷ (linkAt last 0 ∷ []))) in
-              all-recorded ∙ ap (recorded axioms last 1 (K .axioms)) p ∙ headed-written axioms header last (K .axioms) o refl e (omega (arith, room .room .long))
-              ∙ rw (link-last (axioms .words) last 0 (K .axioms) (omega arith), class-size w, role-size w, feature-size w)
+        pub all-words : {table : List ℕ} {c : Counts} → Ready text table c → last ≡ length (vocabularyIn (statementsOf text) .axioms) →
+            o₁ ≡ putAt o 0 (c .classes ∷ (c .roles ∷ (c .features ∷ (linkAt last 0 ∷ [])))) → o₄ ≡ outputAfter (vocabularyWords (vocabularyIn (statementsOf text))) o
+        unfolding vocabularyWords vocabularyIn
+        all-words {c = c} w e p =
+            let K = vocabularyIn (statementsOf text) in
+            let header = c .classes ∷ (c .roles ∷ (c .features ∷ (linkAt last 0 ∷ []))) in
+            all-recorded ∙ ap (recorded axioms last 1 (K .axioms)) p ∙ headed-written axioms header last (K .axioms) o refl e (omega (arith, room .room .long))
+            ∙ rw (link-last (axioms .words) last 0 (K .axioms) (omega arith), class-size w, role-size w, feature-size w)

@@ -263,7 +263,7 @@ fn write_axioms(
             return k;
         }
         at = s.next;
-        // A declaration.
+        // An item's numbers from 6 on are declarations, and no kinds of records.
         if 6 <= kind {
             continue;
         }
@@ -305,14 +305,10 @@ fn write_all(
     ensures { λ _. ⌜ now (out .exit) ≡ outputAfter (vocabularyWords (vocabularyIn (statementsOf (now (text .entry))))) (now (out .entry)) ⌝ }
 {
     // The header has a record's form: three counts and a link.
-    put(
-        out,
-        0,
-        last,
-        c.classes as u32,
-        c.roles as u32,
-        c.features as u32,
-    );
+    let classes = c.classes as u32;
+    let role_count = c.roles as u32;
+    let feature_count = c.features as u32;
+    put(out, 0, last, classes, role_count, feature_count);
     let k = write_axioms(text, start, table, c, last, out);
     let m = write_names(out, k, last, 6, roles);
     write_names(out, m, last, 7, features);

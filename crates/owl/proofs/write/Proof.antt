@@ -24,7 +24,7 @@ write-spec =
     (λ c.
     let p = c .before .before .before .before .before .before .before .before .before .before .pre in
     let all = last-record (p .0 .0) (p .1 .1) (c .before .before .before .place .ensures ∙ c .before .before .before .before .count .ensures) (c .before .place2 .ensures ∙ c .before .before .count2 .ensures) in
-    refused _ _ _ (too-many (p .0 .0) (p .0 .2) (p .1 .0) all (c .if1 .taken)))
+    refused _ _ _ (too-many (p .0 .0) (p .0 .2) (p .1 .0) all (omega (arith, c .if1 .taken))))
     (λ c. omega (arith, c .if1 .left))
     (λ c. omega (arith, c .if1 .left))
     (λ c.

@@ -8,9 +8,9 @@ pub write-all-spec : {M : Type 1} → statement M
 write-all-spec =
     tie.close
     (tie.spec
+    (λ c. let s = sizes-small (c .before .before .before .before .before .before .pre .0 .0) in omega arith)
     (λ c. let s = sizes-small (c .before .before .before .before .before .before .before .pre .0 .0) in omega arith)
     (λ c. let s = sizes-small (c .before .before .before .before .before .before .before .before .pre .0 .0) in omega arith)
-    (λ c. let s = sizes-small (c .before .before .before .before .before .before .before .before .before .pre .0 .0) in omega arith)
     (λ c κs. (omega arith, c .before .before .before .before .before .before .before .before .before .pre .1 .0 .room))
     (λ c κs. let p = c .before .before .before .before .before .before .before .before .before .before .before .before .before .pre .0 in ((p .0, p .1), axioms-room (c .before .before .before .before .before .before .before .before .before .before .before .before .before .pre .0 .2) (c .before .before .before .before .before .before .before .before .before .before .before .before .before .pre .1 .0) (c .before .before .before .put .kept .0)))
     (λ c κs. roles-room (c .before .before .before .before .before .before .before .before .before .before .before .before .before .before .before .before .before .pre .0 .2) (c .before .before .before .before .before .before .before .before .before .before .before .before .before .before .before .before .before .pre .1 .0) (c .before .before .before .before .before .before .before .put .kept .0) (c .before .before .before .write-axioms .ensures))
