@@ -1,12 +1,11 @@
 -- Axioms without many-valued ones, with the many-valued of all that they do not make functional: no name stands both ways, and exactly
 -- those are functional that the axioms make so. Of lists of axioms, whatever they come from.
 use Prim.Native.Nat.{ℕ}
-use mathlib.Core.Bool.{Bool, _&&_, and-false, false, not, or-false, true}
+use mathlib.Core.Bool.{Bool, _&&_, false, not, true}
 use mathlib.Core.List.{List, [], _++_, append-nil, map}
 use mathlib.Core.Path.{_∙_, _≡_, ap, ap₂, refl}
 use lib.Dec.{T, eqb, eqb→eq}
 use lib.Ieee.Bits.{is-false, is-true}
-use native.Mathlib.Omega.{arith}
 use Rattle.meaning.proofs.Defaults.{functional-feature, functional-role, in-unnamed, unnamed-names}
 use Rattle.meaning.proofs.Links.{bounds}
 use Rattle.meaning.proofs.Rules.{T-and, all-append, all-at, all-flatMap, all-map, all-mono, any-at, any-in, any-mono, any-out, eqb-of, isFalse, isTrue}
@@ -15,7 +14,7 @@ use Rattle.meaning.specs.Accepted.{NamedAxiom}
 use Rattle.meaning.specs.Lists.{All, _∈_, any, cons, flatMap, nil}
 use Rattle.meaning.specs.Records.{Name, isName}
 use Rattle.meaning.specs.Stated.{isFunctionalFeature, isFunctionalRole, isManyFeature, isManyRole}
-use Rattle.meaning.specs.Vocabulary.{Axiom, Vocabulary, below, disjoint, functionalFeature, functionalFeatureName, functionalRole}
+use Rattle.meaning.specs.Vocabulary.{Axiom, below, disjoint, functionalFeature, functionalFeatureName, functionalRole}
 use Rattle.meaning.specs.Vocabulary.{functionalRoleName, isNamed, isOpposed, manyFeature, manyFeatureName, manyRole, manyRoleName, range, unnamed}
 use Rattle.owl.proofs.Lists.{flatMap-again, flatMap-append, flatMap-none}
 

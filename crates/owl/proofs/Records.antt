@@ -1,5 +1,5 @@
 -- The header, and three runs of records behind it: the axioms, the roles and the features that have many values.
-use Prim.Native.Nat.{_+_, _<_, _^_, _≤_, suc, ℕ}
+use Prim.Native.Nat.{_+_, _<_, _^_, suc, ℕ}
 use mathlib.Core.List.{List, [], _++_, _∷_, append-nil, map}
 use mathlib.Core.Path.{_∙_, _≡_, ap, refl, sym}
 use lib.ListN.{length, length-append, length-map}
@@ -13,7 +13,7 @@ use Rattle.owl.proofs.Looking.{class-size, feature-size, role-size}
 use Rattle.owl.specs.Owl.{axiomsIn, manyIn, vocabularyIn}
 use Rattle.owl.specs.Passes.{Many, Ready, axioms, naming, statementsOf}
 use Rattle.records.proofs.Writing.{headed-written, left-end, left-more, left-start, link-last, room-same}
-use Rattle.records.specs.Written.{Room, RoomFor, Written, linkAt, linkedWords, recorded}
+use Rattle.records.specs.Written.{RoomFor, Written, linkAt, linkedWords, recorded}
 use Rattle.words.specs.Members.{members}
 use Rattle.words.specs.Sets.{capacity}
 
