@@ -20,11 +20,12 @@ use Rattle.meaning.specs.Limits.{mostAxioms}
 use Rattle.meaning.specs.Lists.{cons, nil}
 use Rattle.meaning.specs.Operations.{Outcome, outputAfter, readVocabulary, refuses, unless, written}
 use Rattle.meaning.specs.Records.{orElse}
-use Rattle.meaning.specs.Vocabulary.{vocabularyOf}
+use Rattle.meaning.specs.Stated.{isFunctionalFeature, isFunctionalRole}
+use Rattle.meaning.specs.Vocabulary.{functionalFeatureName, functionalRoleName, isNamed, vocabularyOf}
 use Rattle.meaning.specs.declared.Filling.{Filling}
 use Rattle.meaning.specs.declared.Filling.the-variants as filling
-use Rattle.owl.proofs.Promises.{owl-accepted, owl-states}
-use Rattle.owl.specs.Owl.{OwlPost, owlRefusal, owlWords, parsedOf, parsedRefusal, readOwl, vocabularyIn}
+use Rattle.owl.proofs.Promises.{owl-accepted, owl-functional-feature, owl-functional-role, owl-states}
+use Rattle.owl.specs.Owl.{OwlPost, axiomsIn, owlRefusal, owlWords, parsedOf, parsedRefusal, readOwl, vocabularyIn}
 use Rattle.owl.specs.Passes.{statementsOf}
 use Rattle.statements.specs.Forms.{Parsed, parsed, wrong}
 
@@ -98,10 +99,17 @@ module _ {text o o′ : List ℕ} {r : Filling} (c : OwlPost text o o′ r) wher
     unfolding outputAfter
     first-words = let h = owl-fits text (length o) .1 n told in ap (take n) (c .output) ∙ take-at _ _ n (sym (h .0))
 
-    -- they are a vocabulary that Read vocabulary accepts
+    -- they are a vocabulary that Read vocabulary accepts, so never one that names a role or a feature both ways
     pub owl-written-accepted : readVocabulary (take n o′) ≡ result accepted
     owl-written-accepted = ap readVocabulary first-words ∙ owl-accepted text (length o) n told
 
-    -- and state exactly what the text does: its names counted by their sorts, its axioms in text order
+    -- and state exactly what the text does: its names counted by their sorts, its axioms in text order, then who has many values
     pub owl-written-states : vocabularyOf (take n o′) ≡ vocabularyIn (statementsOf text)
     owl-written-states = ap vocabularyOf first-words ∙ owl-states text (length o) n told
+
+    -- a role is functional in them exactly when an axiom of the text says so, and a feature too
+    pub owl-written-functional-role : (x : ℕ) → isFunctionalRole (vocabularyOf (take n o′)) x ≡ isNamed functionalRoleName (axiomsIn (statementsOf text)) x
+    owl-written-functional-role x = ap (λ (v : List ℕ). isFunctionalRole (vocabularyOf v) x) first-words ∙ owl-functional-role text (length o) n told x
+
+    pub owl-written-functional-feature : (x : ℕ) → isFunctionalFeature (vocabularyOf (take n o′)) x ≡ isNamed functionalFeatureName (axiomsIn (statementsOf text)) x
+    owl-written-functional-feature x = ap (λ (v : List ℕ). isFunctionalFeature (vocabularyOf v) x) first-words ∙ owl-functional-feature text (length o) n told x

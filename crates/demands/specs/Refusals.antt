@@ -75,7 +75,7 @@ abbrev pub formsRefusal : Parsed → ℕ
 formsRefusal wrong = 41
 formsRefusal (parsed l) = 0
 
--- SPECIFICATION 9.12: 41; 42, the names of its statements; 1, their axioms; 23, the words
+-- SPECIFICATION 9.12: 41; 42, the names of its statements; 1, the records, their axioms' and the added ones; 23, the words
 abbrev pub owlOrder : List ℕ → ℕ → List ℕ
 owlOrder text o =
     let l = listOf (parsedOf text) in

@@ -1,4 +1,4 @@
--- The names of an axiom that stands in a text, where they are declared, are names of a vocabulary.
+-- The axioms of a text: their names, where all are sound, are names of a vocabulary, and none lets a name have many values.
 use Prim.Native.Nat.{suc, zero, ℕ}
 use mathlib.Core.Bool.{Bool, and-eq-true-iff, cond, false, not, true}
 use mathlib.Core.List.{List, [], _++_, _∷_, map}
@@ -7,17 +7,18 @@ use lib.Dec.{eqb}
 use lib.ListN.{getD, length}
 use native.Mathlib.Omega.{arith}
 use borrow.Author.Tests.{eqb-false, not-true}
-use Rattle.declarations.specs.Names.{declared, isKnown, numberIn}
+use Rattle.declarations.specs.Names.{declared, isKnown, numberIn, soundNames}
+use Rattle.meaning.proofs.Links.{bounds}
 use Rattle.meaning.specs.Accepted.{NamedAxiom}
 use Rattle.meaning.specs.Lists.{All, all, cons, flatMap, nil}
 use Rattle.meaning.specs.Program.{bytes}
 use Rattle.meaning.specs.Records.{Name}
-use Rattle.meaning.specs.Vocabulary.{Axiom}
+use Rattle.meaning.specs.Vocabulary.{Axiom, below, disjoint, functionalFeature, functionalRole, manyFeatureName, manyRoleName, range}
 use Rattle.name_table.proofs.Numbers.{number-of-range}
-use Rattle.owl.specs.Owl.{axiomsBy}
-use Rattle.statements.specs.Forms.{Front, Parsed, Symbol, Row, Sort, Statement, Taken, Use, after, afterOpening, ahead, class, exactly, feature}
+use Rattle.owl.specs.Owl.{axiomOf, axiomsBy, axiomsIn}
+use Rattle.statements.specs.Forms.{Front, Parsed, Symbol, Row, Sort, Statement, Taken, Use, after, afterOpening, ahead, class, declares, exactly, feature}
 use Rattle.statements.specs.Forms.{firstForm, forms, front, frontOf, isLast, left, name, none, nothing, ontology, opening, orLater, parsed, role}
-use Rattle.statements.specs.Forms.{statements, statementsFrom, taken, takeSymbols, withName, wrong}
+use Rattle.statements.specs.Forms.{statements, statementsFrom, states, taken, takeSymbols, withName, wrong}
 use Rattle.tokens.specs.Tokens.{Token, isNameToken, sameBytes}
 
 -- ---- the sorts of a statement's names are those of its form's places
@@ -157,5 +158,36 @@ module _ (l : List Statement) where
       let k = and-eq-true-iff (isKnown l x) (all (isKnown l) m) .0 h in
       all-append (axiomsBy l x) (flatMap (axiomsBy l) m) (s (k .0)) (sound-named m ss (k .1))
 
-  pub axioms-named : (ts : List Token) (m : List Statement) → ontology ts ≡ parsed m → all (isKnown l) m ≡ true → All NamedHere (flatMap (axiomsBy l) m)
-  axioms-named ts m e h = sound-named m (ontology-holds Sound forms-sound ts m e) h
+  pub axioms-named : (ts : List Token) → ontology ts ≡ parsed l → soundNames l ≡ true → All NamedHere (axiomsIn l)
+  unfolding axiomsIn
+  axioms-named ts e h = let u = simp bounds at h in sound-named l (ontology-holds Sound forms-sound ts l e) (u .1 .1 .1)
+
+-- ---- no axiom lets a name have many values
+
+axiom-none : (select : Axiom → List ℕ) → ((a b : ℕ) → select (below a b) ≡ []) → ((a b : ℕ) → select (disjoint a b) ≡ []) →
+    ((r : ℕ) → select (functionalRole r) ≡ []) → ((f : ℕ) → select (functionalFeature f) ≡ []) → ((r c : ℕ) → select (range r c) ≡ []) →
+    (k : ℕ) (ns : List ℕ) → select (axiomOf k ns) ≡ []
+axiom-none select h₁ h₂ h₃ h₄ h₅ k ns = go (eqb k 1) (eqb k 2) (eqb k 3) (eqb k 4)
+  where
+    go : (a b c d : Bool) →
+        select (cond a (below (getD ns 0 0) (getD ns 1 0)) (cond b (disjoint (getD ns 0 0) (getD ns 1 0)) (cond c (functionalRole (getD ns 0 0)) (cond d (functionalFeature (getD ns 0 0)) (range (getD ns 0 0) (getD ns 1 0)))))) ≡ []
+    go true b c d = h₁ _ _
+    go false true c d = h₂ _ _
+    go false false true d = h₃ _
+    go false false false true = h₄ _
+    go false false false false = h₅ _ _
+
+axioms-none : (select : Axiom → List ℕ) → ((k : ℕ) (ns : List ℕ) → select (axiomOf k ns) ≡ []) → (l m : List Statement) → flatMap select (flatMap (axiomsBy l) m) ≡ []
+axioms-none select h l [] = refl
+axioms-none select h l (declares s us ∷ m) = axioms-none select h l m
+axioms-none select h l (states k us ∷ m) = rw (h k (map (numberIn l) us), axioms-none select h l m)
+
+pub no-many-role : (l : List Statement) → flatMap manyRoleName (axiomsIn l) ≡ []
+unfolding axiomsIn
+no-many-role l =
+    axioms-none manyRoleName (axiom-none manyRoleName (λ a b. refl) (λ a b. refl) (λ r. refl) (λ f. refl) (λ r c. refl)) l l
+
+pub no-many-feature : (l : List Statement) → flatMap manyFeatureName (axiomsIn l) ≡ []
+unfolding axiomsIn
+no-many-feature l =
+    axioms-none manyFeatureName (axiom-none manyFeatureName (λ a b. refl) (λ a b. refl) (λ r. refl) (λ f. refl) (λ r c. refl)) l l

@@ -2,17 +2,17 @@
 use mathlib.Core.Path.{refl}
 use Rattle.declarations.specs.Names.{declaredWell}
 use Rattle.meaning.specs.Lists.{All, cons, nil}
-use Rattle.meaning.specs.Vocabulary.{vocabularyWords}
+use Rattle.meaning.specs.Vocabulary.{isNamed, unnamed, vocabularyWords}
 use Rattle.name_table.specs.Numbers.{numberOf}
 use Rattle.owl.specs.Examples.{Correct, owlExamples}
-use Rattle.owl.specs.Owl.{owlRefusal, owlWords, readOwl, vocabularyIn}
+use Rattle.owl.specs.Owl.{axiomsIn, manyIn, owlRefusal, owlWords, readOwl, vocabularyIn}
 use Rattle.statements.specs.Forms.{forms, frontOf, ontology, statements}
 use Rattle.tokens.specs.Tokens.{goesOn, isLetter, isSign, isSpace, tokens}
 
 pub owl-answered : All Correct owlExamples
-unfolding readOwl owlRefusal owlWords tokens isLetter isSign isSpace goesOn forms frontOf ontology statements numberOf declaredWell vocabularyIn vocabularyWords
+unfolding readOwl owlRefusal owlWords tokens isLetter isSign isSpace goesOn forms frontOf ontology statements numberOf declaredWell axiomsIn manyIn vocabularyIn isNamed unnamed vocabularyWords
 owl-answered =
     cons refl (cons refl (cons refl (cons refl (cons refl (cons refl (cons refl (cons refl (cons refl (cons refl
     (cons refl (cons refl (cons refl (cons refl (cons refl (cons refl (cons refl (cons refl (cons refl (cons refl
     (cons refl (cons refl (cons refl (cons refl (cons refl (cons refl (cons refl (cons refl (cons refl (cons refl
-    (cons refl (cons refl (cons refl (cons refl (cons refl (cons refl nil)))))))))))))))))))))))))))))))))))
+    (cons refl (cons refl (cons refl (cons refl (cons refl (cons refl (cons refl (cons refl (cons refl (cons refl nil)))))))))))))))))))))))))))))))))))))))

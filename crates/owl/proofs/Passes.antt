@@ -1,12 +1,13 @@
 -- The passes that look names up: whether all are known, and the records.
 use Prim.Native.Nat.{_*_, _+_, _<_, _≤_, ℕ}
-use mathlib.Core.Bool.{Bool, _&&_, false, not, true}
-use mathlib.Core.List.{List, [], _∷_}
+use mathlib.Core.Bool.{Bool, _&&_, cond, false, not, true}
+use mathlib.Core.List.{List, [], _++_, _∷_, append-nil}
 use mathlib.Core.Path.{_∙_, _≡_, ap, refl, sym}
+use lib.Dec.{eqb}
 use lib.ListN.{length}
 use native.Mathlib.Omega.{arith}
-use borrow.Author.Tests.{not-false, not-true}
-use Rattle.declarations.proofs.Passing.{by-axiom, by-declaration, parses-end, parses-more, parses-on, parses-some}
+use borrow.Author.Tests.{eq-eqb, ne-eqb, not-false, not-true}
+use Rattle.declarations.proofs.Passing.{by-axiom, by-declaration, by-statement, parses-end, parses-more, parses-on, parses-some}
 use Rattle.declarations.specs.Names.{isKnown}
 use Rattle.declarations.specs.Passes.{Parses, listOf, statementsAt}
 use Rattle.declarations.specs.declared.Counts.{Counts}
@@ -14,16 +15,19 @@ use Rattle.frames.specs.Rows.{putAt}
 use Rattle.meaning.proofs.VocabularyWords.{axiom-length}
 use Rattle.meaning.specs.Lists.{all, flatMap}
 use Rattle.meaning.specs.Vocabulary.{Axiom, axiomWords}
-use Rattle.owl.specs.Owl.{axiomsBy, vocabularyIn}
-use Rattle.owl.specs.Passes.{Begins, Here, Ready, axioms, firstNumber, secondNumber, statementsOf}
+use Rattle.owl.specs.Owl.{axiomsBy, axiomsIn}
+use Rattle.owl.specs.Passes.{Begins, Here, Ready, axioms, firstNameBy, firstNumber, namesBy, secondNumber, statementsOf}
+use Rattle.owl.proofs.Lists.{flatMap-append}
 use Rattle.owl.proofs.Looking.{firstOf, secondOf}
 use Rattle.records.proofs.Writing.{Left, left-end, left-start, turn-more, turn-room}
-use Rattle.records.specs.Written.{Room, RoomFor, linkAt, recorded}
+use Rattle.records.specs.Written.{Room, RoomFor, Written, linkAt}
 use Rattle.statements.specs.Forms.{Statement, ontology, parsed}
 use Rattle.statements.specs.Found.{Next, itemAt, statementOf}
 use Rattle.statements.specs.declared.Item.{Item}
 use Rattle.tokens.specs.Places.{part}
 use Rattle.tokens.specs.Tokens.{Token, tokens}
+use Rattle.words.proofs.Others.{length-includingAll}
+use Rattle.words.specs.Sets.{including, includingAll}
 
 -- ---- the statements from the start on are all
 
@@ -88,26 +92,26 @@ module _ (l : List Statement) (a b : Token) where
 abbrev axiomsFrom : List ℕ → ℕ → List Axiom
 axiomsFrom text at = flatMap (axiomsBy (statementsOf text)) (statementsAt text at)
 
-abbrev axiomsIn : List ℕ → List Axiom
-axiomsIn text = vocabularyIn (statementsOf text) .axioms
+all-from : {text table : List ℕ} {c : Counts} {start : ℕ} → Ready text table c → Begins text start → axiomsFrom text start ≡ axiomsIn (statementsOf text)
+unfolding axiomsIn
+all-from {text} w b = ap (flatMap (axiomsBy (statementsOf text))) (all-begin b (w .parses))
 
 -- at a place, and at record k, the axioms behind it are left
 pub record Writing (text : List ℕ) (last : ℕ) (entry out : List ℕ) (at k : ℕ) : Type 0 where
   pub parses : Parses text at
-  pub left : Left axioms last 1 (axiomsIn text) entry k (axiomsFrom text at) out
+  pub left : Left axioms last 1 (axiomsIn (statementsOf text)) entry k (axiomsFrom text at) out
 
 pub write-starts : {text table : List ℕ} {c : Counts} {start : ℕ} → Ready text table c → Begins text start → (last : ℕ) (out : List ℕ) →
     Writing text last out out start 1
-unfolding vocabularyIn
 write-starts {text} {start = start} w b last out =
     record {
       parses = begins-parses b (w .parses);
-      left = left-start last 1 (axiomsIn text) out (axiomsFrom text start) (ap (flatMap (axiomsBy (statementsOf text))) (all-begin b (w .parses)));
+      left = left-start last 1 (axiomsIn (statementsOf text)) out (axiomsFrom text start) (all-from w b);
     }
 
 module _ {text : List ℕ} {last : ℕ} {entry out : List ℕ} {at k : ℕ} (w : Writing text last entry out at k) {r : Item} (n : Next text at r) where
-  pub write-ends : r .kind ≡ 9 → out ≡ recorded axioms last 1 (axiomsIn text) entry
-  write-ends h = left-end _ (w .left) (ap (flatMap (axiomsBy (statementsOf text))) (parses-end n (w .parses) h)) .words
+  pub write-ends : r .kind ≡ 9 → Written axioms last 1 (axiomsIn (statementsOf text)) entry out k
+  write-ends h = left-end _ (w .left) (ap (flatMap (axiomsBy (statementsOf text))) (parses-end n (w .parses) h))
 
   module _ (g : r .kind ≡ 9 → ⊥) where
     -- a declaration is passed
@@ -117,7 +121,7 @@ module _ {text : List ℕ} {last : ℕ} {entry out : List ℕ} {at k : ℕ} (w :
         ap (flatMap (axiomsBy (statementsOf text))) (parses-more n (w .parses) g) ∙ rw (adds-none (statementsOf text) _ _ (r .kind) h g (n .placed .few)) in
         record { parses = parses-on n (w .parses) g; left = rw e at (w .left) }
 
-    module _ (h : r .kind < 6) (room : RoomFor 4 last 1 (axiomsIn text) entry) where
+    module _ (h : r .kind < 6) (room : RoomFor 4 last 1 (axiomsIn (statementsOf text)) entry) where
       new : Adds (statementsOf text) (part text (r .from) (r .to)) (part text (r .from2) (r .to2)) (r .kind)
       new = adds (statementsOf text) _ _ (r .kind) (parses-some n (w .parses)) h
 
@@ -136,3 +140,51 @@ module _ {text : List ℕ} {last : ℕ} {entry out : List ℕ} {at k : ℕ} (w :
             parses = parses-on n (w .parses) g;
             left = turn-more (w .left) room (new .one) (axiomsFrom text (r .next)) first-left axiom-length out′ (e ∙ ap (putAt out (4 * k)) (sym words));
           }
+
+-- ---- the names of the axioms of a kind
+
+-- an item of that kind has one, its first; no other has any
+names-of : (l : List Statement) (a b : Token) (kind : ℕ) → kind < 6 → (k : ℕ) → (k ≡ 0 → ⊥) → (k ≡ 9 → ⊥) → k ≤ 9 →
+    flatMap (firstNameBy kind) (axiomsBy l (statementOf k a b)) ≡ cond (eqb k kind) (firstOf l a b k ∷ []) []
+names-of l a b kind h =
+    by-statement (λ (k : ℕ). flatMap (firstNameBy kind) (axiomsBy l (statementOf k a b)) ≡ cond (eqb k kind) (firstOf l a b k ∷ []) [])
+    (append-nil _) (append-nil _) (append-nil _) (append-nil _) (append-nil _)
+    (rw (ne-eqb 6 kind (λ p. omega arith))) (rw (ne-eqb 7 kind (λ p. omega arith))) (rw (ne-eqb 8 kind (λ p. omega arith)))
+
+pub record Inserting (text : List ℕ) (kind : ℕ) (entry names : List ℕ) (at : ℕ) : Type 0 where
+  pub parses : Parses text at
+  pub same : includingAll names (flatMap (firstNameBy kind) (axiomsFrom text at)) ≡ includingAll entry (namesBy text kind)
+
+pub insert-starts : {text table : List ℕ} {c : Counts} {start : ℕ} → Ready text table c → Begins text start → (kind : ℕ) (names : List ℕ) →
+    Inserting text kind names names start
+unfolding namesBy
+insert-starts w b kind names =
+    record { parses = begins-parses b (w .parses); same = ap (λ (l : List Axiom). includingAll names (flatMap (firstNameBy kind) l)) (all-from w b) }
+
+module _ {text : List ℕ} {kind : ℕ} {entry names : List ℕ} {at : ℕ} (w : Inserting text kind entry names at) where
+  pub insert-long : length names ≡ length entry
+  insert-long = sym (length-includingAll _ names) ∙ ap length (w .same) ∙ length-includingAll (namesBy text kind) entry
+
+module _ {text : List ℕ} {kind : ℕ} {entry names : List ℕ} {at : ℕ} (w : Inserting text kind entry names at) {r : Item} (n : Next text at r) where
+  pub insert-ends : r .kind ≡ 9 → names ≡ includingAll entry (namesBy text kind)
+  unfolding includingAll
+  insert-ends h = sym (ap (λ (l : List Statement). includingAll names (flatMap (firstNameBy kind) (flatMap (axiomsBy (statementsOf text)) l))) (parses-end n (w .parses) h)) ∙ w .same
+
+  module _ (g : r .kind ≡ 9 → ⊥) (h : kind < 6) where
+    next-names : flatMap (firstNameBy kind) (axiomsFrom text at) ≡ cond (eqb (r .kind) kind) (firstNumber text r ∷ []) [] ++ flatMap (firstNameBy kind) (axiomsFrom text (r .next))
+    next-names =
+        ap (λ (l : List Statement). flatMap (firstNameBy kind) (flatMap (axiomsBy (statementsOf text)) l)) (parses-more n (w .parses) g)
+        ∙ flatMap-append (firstNameBy kind) (axiomsBy (statementsOf text) (itemAt text r)) (axiomsFrom text (r .next))
+        ∙ ap (λ (l : List ℕ). l ++ flatMap (firstNameBy kind) (axiomsFrom text (r .next)))
+        (names-of (statementsOf text) _ _ kind h (r .kind) (parses-some n (w .parses)) g (n .placed .few))
+
+    next-same : includingAll names (cond (eqb (r .kind) kind) (firstNumber text r ∷ []) [] ++ flatMap (firstNameBy kind) (axiomsFrom text (r .next))) ≡ includingAll entry (namesBy text kind)
+    next-same = ap (includingAll names) (sym next-names) ∙ w .same
+
+    -- another item is passed
+    pub insert-passes : (r .kind ≡ kind → ⊥) → Inserting text kind entry names (r .next)
+    insert-passes d = record { parses = parses-on n (w .parses) g; same = rw (ne-eqb (r .kind) kind d) at next-same }
+
+    pub insert-on : r .kind ≡ kind → {x : ℕ} {names′ : List ℕ} → x ≡ firstNumber text r → names′ ≡ including names x → Inserting text kind entry names′ (r .next)
+    unfolding includingAll
+    insert-on d x e = record { parses = parses-on n (w .parses) g; same = rw (e, x) (rw (eq-eqb (r .kind) kind d) at next-same) }

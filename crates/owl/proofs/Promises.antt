@@ -1,25 +1,29 @@
 -- What Read OWL promises, a sentence a theorem. Each is about a text and an output of o words, whatever they are.
 use Prim.Native.Nat.{_<_, _≤_, suc, zero, ℕ}
-use mathlib.Core.Bool.{Bool, cond, false, not, true}
+use mathlib.Core.Bool.{Bool, and-eq-true-iff, cond, false, not, true}
 use mathlib.Core.List.{List, []}
 use mathlib.Core.Path.{_∙_, _≡_, ap, refl, sym}
 use lib.Dec.{leb}
 use lib.ListN.{getD, length}
 use native.Mathlib.Omega.{arith}
 use borrow.Author.Tests.{le-leb, not-true}
-use Rattle.declarations.specs.Names.{declared, declaredWell, numberIn}
+use Rattle.declarations.specs.Names.{counted, declared, declaredWell, numberIn, soundNames}
 use Rattle.declarations.specs.Passes.{listOf}
 use Rattle.meaning.proofs.Links.{bounds, passed}
 use Rattle.meaning.proofs.Refusals.{orElse-zero}
 use Rattle.meaning.proofs.VocabularyWords.{vocabulary-words-accepted, vocabulary-words-read}
 use Rattle.meaning.specs.Answers.{accepted, result, wrote}
 use Rattle.meaning.specs.Limits.{mostAxioms, mostText}
+use Rattle.meaning.specs.Accepted.{NamedAxiom}
+use Rattle.meaning.specs.Lists.{All}
 use Rattle.meaning.specs.Operations.{readVocabulary, refuses, unless, written}
-use Rattle.meaning.specs.Vocabulary.{vocabularyOf, vocabularyWords}
+use Rattle.meaning.specs.Stated.{isFunctionalFeature, isFunctionalRole}
+use Rattle.meaning.specs.Vocabulary.{Vocabulary, functionalFeatureName, functionalRoleName, isNamed, vocabularyOf, vocabularyWords}
 use Rattle.name_table.proofs.Numbers.{number-at, number-injective}
 use Rattle.name_table.specs.Numbers.{repeats}
-use Rattle.owl.proofs.Accepted.{axioms-named}
-use Rattle.owl.specs.Owl.{owlRefusal, owlWords, parsedRefusal, parsedWords, readOwl, vocabularyIn}
+use Rattle.owl.proofs.Accepted.{axioms-named, no-many-feature, no-many-role}
+use Rattle.owl.proofs.Adding.{added-apart, added-feature, added-named, added-role}
+use Rattle.owl.specs.Owl.{axiomsIn, manyIn, owlRefusal, owlWords, parsedRefusal, parsedWords, readOwl, vocabularyIn}
 use Rattle.owl.specs.Passes.{statementsOf}
 use Rattle.statements.specs.Forms.{Parsed, Sort, Statement, class, feature, ontology, parsed, role, wrong}
 use Rattle.tokens.specs.Tokens.{Token, tokens}
@@ -68,6 +72,10 @@ told text o n e =
       words = a .1 ∙ ap parsedWords (k .0);
     }
 
+well-sound : (l : List Statement) → declaredWell l ≡ true → soundNames l ≡ true
+unfolding declaredWell
+well-sound l h = and-eq-true-iff (counted (length (declared class l)) (length (declared role l)) (length (declared feature l))) (soundNames l) .0 h .1
+
 -- no name of a sort stands twice
 once : (l : List Statement) → declaredWell l ≡ true → (s : Sort) → repeats (declared s l) ≡ false
 unfolding declaredWell
@@ -84,24 +92,47 @@ once l h s = go s
 -- ---- the promises
 
 module _ (text : List ℕ) (o n : ℕ) (e : Wrote text o n) where
-  -- the words are those of what the statements say: a record for each axiom, chained 1, 2, 3 and so on, the header's link 0 if there are none
+  -- the words are those of what the statements say: a record for each axiom, then for each role and each feature that has many values, chained
+  -- 1, 2, 3 and so on, the header's link 0 if there are none
   pub owl-chained : readOwl text o .words ≡ vocabularyWords (vocabularyIn (statementsOf text))
   owl-chained = told text o n e .words
 
-  -- read as a vocabulary they say exactly that: so many names of each sort, and the axioms in text order
+  -- read as a vocabulary they say exactly that: so many names of each sort, the axioms in text order, and who has many values
   pub owl-states : vocabularyOf (readOwl text o .words) ≡ vocabularyIn (statementsOf text)
   owl-states = ap vocabularyOf owl-chained ∙ vocabulary-words-read (vocabularyIn (statementsOf text))
 
-  -- and Read vocabulary accepts them
+  -- the axioms of the text have names of the counts
+  named : All (NamedAxiom (length (declared class (statementsOf text))) (length (declared role (statementsOf text))) (length (declared feature (statementsOf text)))) (axiomsIn (statementsOf text))
+  named = let t = told text o n e in axioms-named (statementsOf text) (tokens text) (t .parses) (well-sound (statementsOf text) (t .well))
+
+  -- and Read vocabulary accepts them: no name stands both ways
   pub owl-accepted : readVocabulary (readOwl text o .words) ≡ result accepted
-  unfolding vocabularyIn declaredWell
+  unfolding vocabularyIn manyIn declaredWell
   owl-accepted =
       let t = told text o n e in
-      let K = vocabularyIn (statementsOf text) in
+      let l = statementsOf text in
+      let A = axiomsIn l in
+      let R = length (declared role l) in
+      let F = length (declared feature l) in
       let u = simp bounds at (t .well) in
       ap readVocabulary owl-chained
-      ∙ vocabulary-words-accepted K (u .0 .0 .0) (u .0 .0 .1) (u .0 .1 .0) (u .0 .1 .1) (t .few)
-      (axioms-named (statementsOf text) (tokens text) (statementsOf text) (t .parses) (u .1 .1 .1 .1))
+      ∙ vocabulary-words-accepted (vocabularyIn l) (u .0 .0 .0) (u .0 .0 .1) (u .0 .1 .0) (u .0 .1 .1) (t .few)
+      (added-named A R F (length (declared class l)) named) (added-apart A R F (no-many-role l) (no-many-feature l))
+
+  -- a role is functional in them exactly when an axiom of the text says so, and a feature too
+  pub owl-functional-role : (r : ℕ) → isFunctionalRole (vocabularyOf (readOwl text o .words)) r ≡ isNamed functionalRoleName (axiomsIn (statementsOf text)) r
+  unfolding vocabularyIn manyIn
+  owl-functional-role r =
+      let l = statementsOf text in
+      ap (λ (K : Vocabulary). isFunctionalRole K r) owl-states
+      ∙ added-role (axiomsIn l) (length (declared role l)) (length (declared feature l)) (no-many-role l) (no-many-feature l) (length (declared class l)) named r
+
+  pub owl-functional-feature : (f : ℕ) → isFunctionalFeature (vocabularyOf (readOwl text o .words)) f ≡ isNamed functionalFeatureName (axiomsIn (statementsOf text)) f
+  unfolding vocabularyIn manyIn
+  owl-functional-feature f =
+      let l = statementsOf text in
+      ap (λ (K : Vocabulary). isFunctionalFeature K f) owl-states
+      ∙ added-feature (axiomsIn l) (length (declared role l)) (length (declared feature l)) (no-many-role l) (no-many-feature l) (length (declared class l)) named f
 
   -- the k-th declared name of a sort has number k: counted from 0, number k + 1
   pub owl-number : (s : Sort) (k : ℕ) → k < length (declared s (statementsOf text)) →

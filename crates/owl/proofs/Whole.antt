@@ -10,7 +10,6 @@ use borrow.Author.Tests.{le-leb, lt-leb, not-false, not-true}
 use Rattle.declarations.specs.Names.{counted, declared, declaredWell, isKnown, soundNames}
 use Rattle.declarations.specs.Passes.{Fits, Tabled, axiomCount, countsOf, listOf, parsedAt, statementsAt, tableSize}
 use Rattle.declarations.specs.declared.Counts.{Counts}
-use Rattle.frames.specs.Rows.{putAt}
 use Rattle.meaning.proofs.Links.{bounds}
 use Rattle.meaning.proofs.VocabularyWords.{vocabulary-length}
 use Rattle.meaning.specs.Answers.{result, wrote}
@@ -23,14 +22,17 @@ use Rattle.name_table.specs.Numbers.{repeats}
 use Rattle.name_table.specs.Table.{namesFrom}
 use Rattle.owl.proofs.Looking.{class-size, feature-size, role-size, sorted-names}
 use Rattle.owl.proofs.Passes.{all-begin, begins-parses}
-use Rattle.owl.specs.Owl.{OwlPost, axiomsBy, owlRefusal, owlWords, parsedOf, parsedRefusal, parsedWords, readOwl, vocabularyIn}
-use Rattle.owl.specs.Passes.{Begins, Ready, axioms, statementsOf}
-use Rattle.records.proofs.Writing.{headed-written, link-last}
-use Rattle.records.specs.Written.{Room, RoomFor, linkAt, recorded}
+use Rattle.owl.proofs.Records.{all-size}
+use Rattle.owl.proofs.Sizes.{axioms-few}
+use Rattle.owl.specs.Owl.{OwlPost, axiomsBy, axiomsIn, owlRefusal, owlWords, parsedOf, parsedRefusal, parsedWords, readOwl, vocabularyIn}
+use Rattle.owl.specs.Passes.{Begins, Many, Ready, statementsOf}
+use Rattle.records.specs.Written.{RoomFor}
 use Rattle.statements.specs.Forms.{Parsed, Statement, class, declares, feature, ontology, parsed, role, states, wrong}
 use Rattle.statements.specs.Found.{Opened}
 use Rattle.statements.specs.declared.Step.{Step}
 use Rattle.tokens.specs.Tokens.{tokens}
+use Rattle.words.proofs.Laws.{members-few}
+use Rattle.words.specs.Members.{members}
 
 -- ---- a refusal writes nothing
 
@@ -163,9 +165,17 @@ module _ {text table : List ℕ} {c : Counts} (w : Ready text table c) where
         pub sound-known : {u : Bool} → z ≡ false → u ≡ all (isKnown (statementsOf text)) (statementsOf text) → u ≡ soundNames (statementsOf text)
         sound-known j k = rw (sym classes-told ∙ h, sym roles-told ∙ g, sym features-told ∙ j) k
 
-  last-axiom : c .axioms ≡ length (vocabularyIn (statementsOf text) .axioms)
-  unfolding vocabularyIn
-  last-axiom = ap (λ (x : Counts). x .axioms) (w .counts) ∙ sym (axiom-count (statementsOf text) (statementsOf text))
+  pub last-record : {roles features : List ℕ} → Many text roles features → {a b : ℕ} → a ≡ length (members roles) → b ≡ length (members features) →
+      c .axioms + a + b ≡ length (vocabularyIn (statementsOf text) .axioms)
+  unfolding axiomsIn
+  last-record m p q =
+      omega (arith, all-size m, ap (λ (x : Counts). x .axioms) (w .counts), axiom-count (statementsOf text) (statementsOf text))
+
+  -- the sum of the records is no overflow
+  pub records-small : length text ≤ mostText → {roles features : List ℕ} → Many text roles features →
+      (c .axioms ≤ mostText) × (length (members roles) ≤ mostRoles) × (length (members features) ≤ mostRoles)
+  records-small short {roles} {features} m =
+      (omega (arith, axioms-few w), omega (arith, members-few roles, m .roleWords), omega (arith, members-few features, m .featureWords))
 
   module _ (short : length text ≤ mostText) where
     parsed-told : parsedOf text ≡ parsed (statementsOf text)
@@ -178,58 +188,46 @@ module _ {text table : List ℕ} {c : Counts} (w : Ready text table c) where
     unfolding owlRefusal declaredWell
     not-sound {x} e h = ap parsedRefusal parsed-told ∙ rw (counted-told, sym e ∙ not-true x h)
 
-    module _ {x : Bool} (e : x ≡ soundNames (statementsOf text)) (h : not x ≡ false) where
+    module _ (sound : soundNames (statementsOf text) ≡ true) {last : ℕ} (all : last ≡ length (vocabularyIn (statementsOf text) .axioms)) where
       -- 1
-      pub too-many : mostAxioms < c .axioms → owlRefusal text ≡ 1
+      pub too-many : mostAxioms < last → owlRefusal text ≡ 1
       unfolding owlRefusal declaredWell
       too-many m =
           ap parsedRefusal parsed-told
-          ∙ rw (counted-told, sym e ∙ not-false x h, lt-leb (length (vocabularyIn (statementsOf text) .axioms)) mostAxioms (omega (arith, last-axiom)))
+          ∙ rw (counted-told, sound, lt-leb (length (vocabularyIn (statementsOf text) .axioms)) mostAxioms (omega arith))
 
-      module _ (few : c .axioms ≤ mostAxioms) where
+      module _ (few : last ≤ mostAxioms) where
         none-refused : owlRefusal text ≡ 0
         unfolding owlRefusal declaredWell
         none-refused =
             ap parsedRefusal parsed-told
-            ∙ rw (counted-told, sym e ∙ not-false x h, le-leb (length (vocabularyIn (statementsOf text) .axioms)) mostAxioms (omega (arith, last-axiom)))
+            ∙ rw (counted-told, sound, le-leb (length (vocabularyIn (statementsOf text) .axioms)) mostAxioms (omega arith))
 
         words : owlWords text ≡ vocabularyWords (vocabularyIn (statementsOf text))
         unfolding owlWords
         words = ap parsedWords parsed-told
 
-        size : length (owlWords text) ≡ 4 * (c .axioms + 1)
-        size = ap length words ∙ vocabulary-length (vocabularyIn (statementsOf text)) ∙ omega (arith, last-axiom)
+        size : length (owlWords text) ≡ 4 * (last + 1)
+        size = ap length words ∙ vocabulary-length (vocabularyIn (statementsOf text)) ∙ omega arith
 
         -- 23
-        pub too-short : (before : List ℕ) → length before < 4 * (c .axioms + 1) → OwlPost text before before (Refused 23)
+        pub too-short : (before : List ℕ) → length before < 4 * (last + 1) → OwlPost text before before (Refused 23)
         unfolding readOwl outputAfter
         too-short before m =
             let d = lt-leb (length (owlWords text)) (length before) (omega (arith, size)) in
             record { answer = rw (none-refused, d); output = rw (none-refused, d) }
 
-        module _ (before : List ℕ) (m : 4 * (c .axioms + 1) ≤ length before) where
-          pub words-room : Room 4 (c .axioms) before
-          words-room = record { long = m; few = omega arith }
-
-          pub axioms-room : (after : List ℕ) → length after ≡ length before → RoomFor 4 (c .axioms) 1 (vocabularyIn (statementsOf text) .axioms) after
-          axioms-room after n = record { room = record { long = rw n m; few = omega arith }; within = omega (arith, last-axiom) }
+        module _ (before : List ℕ) (m : 4 * (last + 1) ≤ length before) where
+          pub words-room : RoomFor 4 last 1 (vocabularyIn (statementsOf text) .axioms) before
+          words-room = record { room = record { long = m; few = omega arith }; within = omega arith }
 
           -- the words
-          module _ {first after : List ℕ} (p : first ≡ putAt before 0 (c .classes ∷ (c .roles ∷ (c .features ∷ (linkAt (c .axioms) 0 ∷ [])))))
-              (q : after ≡ recorded axioms (c .axioms) 1 (vocabularyIn (statementsOf text) .axioms) first) where
-            all-words : after ≡ outputAfter (vocabularyWords (vocabularyIn (statementsOf text))) before
-            unfolding vocabularyWords vocabularyIn
-            all-words =
-                let K = vocabularyIn (statementsOf text) in
-                let header = c .classes ∷ (c .roles ∷ (c .features ∷ (linkAt (c .axioms) 0 ∷ []))) in
-                q ∙ ap (recorded axioms (c .axioms) 1 (K .axioms)) p ∙ headed-written axioms header (c .axioms) (K .axioms) before refl last-axiom (omega arith)
-                ∙ rw (link-last (axioms .words) (c .axioms) 0 (K .axioms) (omega (arith, last-axiom)), class-size w, role-size w, feature-size w)
-
-            pub filled : OwlPost text before after (Written (4 * (c .axioms + 1)))
-            unfolding readOwl
-            filled =
-                let d = le-leb (length (owlWords text)) (length before) (omega (arith, size)) in
-                record {
-                  answer = rw (none-refused, d) (ap (λ (n : ℕ). result (wrote n)) (sym size));
-                  output = rw (none-refused, d) (all-words ∙ ap (λ (ws : List ℕ). outputAfter ws before) (sym words));
-                }
+          pub filled : {after : List ℕ} → after ≡ outputAfter (vocabularyWords (vocabularyIn (statementsOf text))) before →
+              OwlPost text before after (Written (4 * (last + 1)))
+          unfolding readOwl
+          filled q =
+              let d = le-leb (length (owlWords text)) (length before) (omega (arith, size)) in
+              record {
+                answer = rw (none-refused, d) (ap (λ (n : ℕ). result (wrote n)) (sym size));
+                output = rw (none-refused, d) (q ∙ ap (λ (ws : List ℕ). outputAfter ws before) (sym words));
+              }

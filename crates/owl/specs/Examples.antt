@@ -22,7 +22,7 @@ abbrev four : ℕ → ℕ → ℕ → ℕ → List ℕ → List ℕ
 four a b c d rest = a ∷ (b ∷ (c ∷ (d ∷ rest)))
 
 -- used before it is declared, one name in two sorts, two names without a space, layout; no axiom; every kind, equal axioms, a class
--- disjoint from itself; a name of 32
+-- disjoint from itself; a name of 32; one axiom
 abbrev legal : List Example
 legal =
     writes "Ontology( SubClassOf(:A:B) Declaration(Class(:B)) Declaration ( Class(:A ))\n\tFunctionalDataProperty(:A)Declaration(DataProperty(:A)))" 12
@@ -33,6 +33,16 @@ legal =
     ∷ (writes " \n\tOntology\n(\tDeclaration ( Class ( :12345678901234567890123456789012 ) ) ) \n" 4 (four 1 0 0 0 [])
     ∷ (writes "Ontology(Declaration(Class(:A))SubClassOf(:A:A))" 8 (four 1 0 0 1 (four 1 1 1 0 []))
     ∷ []))))
+
+-- many values where no axiom says one: a role; a feature; some and not others, rising, behind the axioms, roles before features though
+-- declared behind them, one made functional twice, one with a range
+abbrev many : List Example
+many =
+    writes "Ontology(Declaration(Class(:A))Declaration(ObjectProperty(:r)))" 8 (four 1 1 0 1 (four 6 1 0 0 []))
+    ∷ (writes "Ontology(Declaration(Class(:A))Declaration(DataProperty(:f)))" 8 (four 1 0 1 1 (four 7 1 0 0 []))
+    ∷ (writes "Ontology(Declaration(DataProperty(:f))Declaration(DataProperty(:g))FunctionalObjectProperty(:s)Declaration(ObjectProperty(:r))Declaration(ObjectProperty(:s))Declaration(ObjectProperty(:t))Declaration(Class(:c))FunctionalObjectProperty(:s)FunctionalDataProperty(:f)ObjectPropertyRange(:t:c))" 100
+    (four 1 3 2 1 (four 3 2 0 2 (four 3 2 0 3 (four 4 1 0 4 (four 5 3 1 5 (four 6 1 0 6 (four 6 3 0 7 (four 7 2 0 0 []))))))))
+    ∷ []))
 
 -- nothing; no end; twice; behind the end; another word; another case; a longer keyword; a keyword cut; one name; three names; a name
 -- of no character; of 33; split; with a dash; a prefix; an IRI; a comment; a carriage return; a byte over 127; no sort; a digit behind a
@@ -79,6 +89,8 @@ misnamed =
 abbrev pub owlExamples : List Example
 owlExamples =
     legal
+    ++ (many
     ++ (map (λ (text : String). isRefused text 100 41) departing
     ++ (map (λ (text : String). isRefused text 0 42) misnamed
-    ++ (isRefused "Ontology(Declaration(Class(:A))SubClassOf(:A:A))" 7 23 ∷ [])))
+    ++ (isRefused "Ontology(Declaration(Class(:A))SubClassOf(:A:A))" 7 23
+    ∷ (isRefused "Ontology(Declaration(Class(:A))Declaration(ObjectProperty(:r)))" 7 23 ∷ [])))))

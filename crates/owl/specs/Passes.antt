@@ -1,18 +1,25 @@
 -- What the passes that look names up know of a text.
-use Prim.Native.Nat.{_≤_, ℕ}
-use mathlib.Core.Bool.{true}
-use mathlib.Core.List.{List, map}
+use Prim.Native.Nat.{_<_, _≤_, ℕ}
+use mathlib.Core.Bool.{cond, true}
+use mathlib.Core.List.{List, [], _∷_, map}
 use mathlib.Core.Path.{_≡_}
+use lib.Dec.{eqb}
 use lib.ListN.{getD, length}
-use Rattle.declarations.specs.Names.{counted, needed, numberIn}
+use Rattle.declarations.specs.Names.{counted, declared, needed, numberIn}
 use Rattle.declarations.specs.Passes.{Tabled, countsOf, listOf, parsedAt}
 use Rattle.declarations.specs.declared.Counts.{Counts}
-use Rattle.meaning.specs.Vocabulary.{Axiom, axiomWords}
+use Rattle.meaning.specs.Limits.{mostRoles}
+use Rattle.meaning.specs.Lists.{All, flatMap}
+use Rattle.meaning.specs.Records.{Name}
+use Rattle.meaning.specs.Vocabulary.{Axiom, axiomWords, functionalFeatureName, functionalRoleName, unnamed}
+use Rattle.owl.specs.Owl.{axiomsIn}
 use Rattle.records.specs.Written.{Format}
-use Rattle.statements.specs.Forms.{Statement, ontology, parsed}
+use Rattle.statements.specs.Forms.{Statement, feature, ontology, parsed, role}
 use Rattle.statements.specs.Found.{Within, itemAt}
 use Rattle.statements.specs.declared.Item.{Item}
 use Rattle.tokens.specs.Tokens.{tokens}
+use Rattle.words.specs.Members.{members}
+use Rattle.words.specs.Sets.{capacity}
 
 -- the statements of a text that keeps to the forms
 unfoldable pub statementsOf : List ℕ → List Statement
@@ -47,3 +54,34 @@ secondNumber text s = getD (map (numberIn (statementsOf text)) (needed (itemAt t
 -- an axiom is a record of four words
 abbrev pub axioms : Format Axiom
 axioms = record { width = 4; words = axiomWords }
+
+-- ---- who has many values
+
+-- the first name of an axiom of a kind
+abbrev pub firstNameBy : ℕ → Axiom → List ℕ
+firstNameBy kind x = let ws = axiomWords x 0 in cond (eqb (getD ws 0 0) kind) (getD ws 1 0 ∷ []) []
+
+-- the first names of the axioms of a kind
+unfoldable pub namesBy : List ℕ → ℕ → List ℕ
+namesBy text kind = flatMap (firstNameBy kind) (axiomsIn (statementsOf text))
+
+-- the names 1 to n that are not among them
+unfoldable pub unnamedBy : List ℕ → ℕ → ℕ → List ℕ
+unnamedBy text kind n = unnamed (firstNameBy kind) (axiomsIn (statementsOf text)) n
+
+-- they are names of a series of n that a set of roles has a bit for, and the kind is an axiom's
+pub record NamesWithin (text : List ℕ) (kind n : ℕ) : Type 0 where
+  pub stating : kind < 6
+  pub few : n ≤ mostRoles
+  pub named : All (Name n) (namesBy text kind)
+
+-- sets of the roles and of the features that have many values
+pub record Many (text roles features : List ℕ) : Type 0 where
+  pub roleWords : capacity roles ≡ mostRoles
+  pub featureWords : capacity features ≡ mostRoles
+  pub sameRoles : members roles ≡ unnamed functionalRoleName (axiomsIn (statementsOf text)) (length (declared role (statementsOf text)))
+  pub sameFeatures : members features ≡ unnamed functionalFeatureName (axiomsIn (statementsOf text)) (length (declared feature (statementsOf text)))
+
+-- a record of a kind for a name
+abbrev pub naming : ℕ → Format ℕ
+naming kind = record { width = 4; words = λ x next. kind ∷ (x ∷ (0 ∷ (next ∷ []))) }

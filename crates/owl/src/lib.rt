@@ -20,24 +20,34 @@ use statements::END;
 use statements::Item;
 use statements::next_item;
 use statements::open_ontology;
+use words::count;
+use words::insert;
+use words::insert_others;
+use words::next;
+use words::place;
 ghost use mathlib.Core.Bool.{true};
 ghost use mathlib.Core.List.{[], _∷_};
 ghost use mathlib.Core.Path.{_≡_};
-ghost use Prim.Native.Nat.{_*_, _+_, _<_, _≤_};
+ghost use Prim.Native.Nat.{_*_, _+_, _<_, _^_, _≤_};
 ghost use lib.ListN.{length};
 ghost use Rattle.declarations.specs.Names.{counted, declared, isKnown, soundNames};
 ghost use Rattle.declarations.specs.Passes.{countsOf};
 ghost use Rattle.frames.specs.Rows.{putAt};
 ghost use Rattle.meaning.specs.Limits.{mostText};
 ghost use Rattle.meaning.specs.Lists.{all};
+ghost use Rattle.meaning.specs.Operations.{outputAfter};
+ghost use Rattle.meaning.specs.Vocabulary.{vocabularyWords};
 ghost use Rattle.name_table.specs.Numbers.{numberOf};
-ghost use Rattle.owl.specs.Owl.{OwlPost, vocabularyIn};
-ghost use Rattle.owl.specs.Passes.{Begins, Here, Ready, axioms, firstNumber, secondNumber, statementsOf};
-ghost use Rattle.records.specs.Written.{Room, RoomFor, linkAt, recorded};
+ghost use Rattle.owl.specs.Owl.{OwlPost, axiomsIn, vocabularyIn};
+ghost use Rattle.owl.specs.Passes.{Begins, Here, Many, NamesWithin, Ready, axioms, firstNumber, namesBy, naming, secondNumber};
+ghost use Rattle.owl.specs.Passes.{statementsOf, unnamedBy};
+ghost use Rattle.records.specs.Written.{Room, RoomFor, Written, linkAt};
 ghost use Rattle.statements.specs.Forms.{class, feature, ontology, role};
 ghost use Rattle.statements.specs.Found.{Within, itemAt};
 ghost use Rattle.tokens.specs.Places.{part};
 ghost use Rattle.tokens.specs.Tokens.{tokens};
+ghost use Rattle.words.specs.Members.{members};
+ghost use Rattle.words.specs.Sets.{capacity, includingAll};
 
 // ---- names looked up, 0 where none is declared
 
@@ -173,6 +183,50 @@ fn are_counted(c: Counts) -> bool
     c.features <= MOST_FEATURES as usize
 }
 
+// ---- who has many values
+
+// Puts the first name of every axiom of a kind into a set.
+fn insert_named(text: &[u8], start: usize, table: &[u32], c: Counts, kind: u32, names: &mut [u32])
+    requires { ⌜ Ready (now text) (now table) c × Begins (now text) start × (kind < 6) ⌝ }
+    ensures { λ _. ⌜ now (names .exit) ≡ includingAll (now (names .entry)) (namesBy (now (text .entry)) kind) ⌝ }
+{
+    let mut at = start;
+    loop {
+        let s = next_item(text, at);
+        let found = s.kind;
+        if found == END {
+            return;
+        }
+        at = s.next;
+        if found != kind {
+            continue;
+        }
+        insert(names, first_number(text, table, c, s));
+    }
+}
+
+// A bit for each role that a vocabulary may have; it may have as many features.
+const NAME_WORDS: usize = MOST_ROLES as usize / 32;
+
+// The names 1 to n that no axiom of a kind names first.
+fn unnamed(
+    text: &[u8],
+    start: usize,
+    table: &[u32],
+    c: Counts,
+    kind: u32,
+    n: u32,
+) -> [u32; NAME_WORDS]
+    requires { ⌜ Ready (now text) (now table) c × Begins (now text) start × NamesWithin (now text) kind n ⌝ }
+    ensures { λ r. ⌜ members r ≡ unnamedBy (now (text .entry)) kind n ⌝ }
+{
+    let mut names = [0u32; NAME_WORDS];
+    let mut others = [0u32; NAME_WORDS];
+    insert_named(text, start, table, c, kind, &mut names[..]);
+    insert_others(&mut others[..], &names[..], n);
+    others
+}
+
 // ---- the words
 
 // Record k: kind, a, b, next.
@@ -187,22 +241,29 @@ fn put(out: &mut [u32], k: usize, last: usize, kind: u32, a: u32, b: u32)
     out[at + 3] = link(k, last);
 }
 
-// A record for each axiom, in text order.
-fn write_axioms(text: &[u8], start: usize, table: &[u32], c: Counts, out: &mut [u32])
+// A record for each axiom, in text order, from record 1 on.
+fn write_axioms(
+    text: &[u8],
+    start: usize,
+    table: &[u32],
+    c: Counts,
+    last: usize,
+    out: &mut [u32],
+) -> usize
     requires { ⌜ Ready (now text) (now table) c × Begins (now text) start ⌝ }
-    requires { ⌜ RoomFor 4 (c .axioms) 1 (vocabularyIn (statementsOf (now text)) .axioms) (now out) ⌝ }
-    ensures { λ _. ⌜ now (out .exit) ≡ recorded axioms (c .axioms) 1 (vocabularyIn (statementsOf (now (text .entry))) .axioms) (now (out .entry)) ⌝ }
+    requires { ⌜ RoomFor 4 last 1 (axiomsIn (statementsOf (now text))) (now out) ⌝ }
+    ensures { λ r. ⌜ Written axioms last 1 (axiomsIn (statementsOf (now (text .entry)))) (now (out .entry)) (now (out .exit)) r ⌝ }
 {
-    let last = c.axioms;
     let mut at = start;
     let mut k = 1;
     loop {
         let s = next_item(text, at);
         let kind = s.kind;
         if kind == END {
-            return;
+            return k;
         }
         at = s.next;
+        // An item's numbers from 6 on are declarations, and no kinds of records.
         if 6 <= kind {
             continue;
         }
@@ -213,17 +274,64 @@ fn write_axioms(text: &[u8], start: usize, table: &[u32], c: Counts, out: &mut [
     }
 }
 
+// A record of a kind for each name of a set, rising, from record k on.
+fn write_names(out: &mut [u32], k: usize, last: usize, kind: u32, names: &[u32]) -> usize
+    requires { ⌜ (capacity (now names) < 2 ^ 32) × RoomFor 4 last k (members (now names)) (now out) ⌝ }
+    ensures { λ r. ⌜ Written (naming kind) last k (members (now (names .entry))) (now (out .entry)) (now (out .exit)) r ⌝ }
+{
+    let mut at = k;
+    let mut x = next(names, 0);
+    while x != 0 {
+        put(out, at, last, kind, x, 0);
+        at += 1;
+        x = next(names, x);
+    }
+    at
+}
+
+// The header and all records: the axioms, then the roles and the features that have many values.
+fn write_all(
+    text: &[u8],
+    start: usize,
+    table: &[u32],
+    c: Counts,
+    last: usize,
+    roles: &[u32],
+    features: &[u32],
+    out: &mut [u32],
+)
+    requires { ⌜ Ready (now text) (now table) c × Begins (now text) start × Many (now text) (now roles) (now features) ⌝ }
+    requires { ⌜ RoomFor 4 last 1 (vocabularyIn (statementsOf (now text)) .axioms) (now out) × (last ≡ length (vocabularyIn (statementsOf (now text)) .axioms)) ⌝ }
+    ensures { λ _. ⌜ now (out .exit) ≡ outputAfter (vocabularyWords (vocabularyIn (statementsOf (now (text .entry))))) (now (out .entry)) ⌝ }
+{
+    // The header has a record's form: three counts and a link.
+    let classes = c.classes as u32;
+    let role_count = c.roles as u32;
+    let feature_count = c.features as u32;
+    put(out, 0, last, classes, role_count, feature_count);
+    let k = write_axioms(text, start, table, c, last, out);
+    let m = write_names(out, k, last, 6, roles);
+    write_names(out, m, last, 7, features);
+}
+
 // ---- the operation
 
-// With the table of names: 42, 1, 23, or the words.
-fn finish(text: &[u8], start: usize, table: &[u32], c: Counts, out: &mut [u32]) -> Filling
+// With all that is to be written: 1, 23, or the words.
+fn write(
+    text: &[u8],
+    start: usize,
+    table: &[u32],
+    c: Counts,
+    roles: &[u32],
+    features: &[u32],
+    out: &mut [u32],
+) -> Filling
     requires { ⌜ Ready (now text) (now table) c × Begins (now text) start × (length (now text) ≤ mostText) ⌝ }
+    requires { ⌜ (soundNames (statementsOf (now text)) ≡ true) × Many (now text) (now roles) (now features) ⌝ }
     ensures { λ r. ⌜ OwlPost (now (text .entry)) (now (out .entry)) (now (out .exit)) r ⌝ }
 {
-    let last = c.axioms;
-    if !are_sound(text, start, table, c) {
-        return Filling::Refused(42);
-    }
+    let axioms = c.axioms;
+    let last = axioms + place(count(roles)) + place(count(features));
     if MOST_AXIOMS < last {
         return Filling::Refused(1);
     }
@@ -231,13 +339,21 @@ fn finish(text: &[u8], start: usize, table: &[u32], c: Counts, out: &mut [u32]) 
     if out.len() < size {
         return Filling::Refused(23);
     }
-    // The header has a record's form: three counts and a link.
-    let classes = c.classes as u32;
-    let roles = c.roles as u32;
-    let features = c.features as u32;
-    put(out, 0, last, classes, roles, features);
-    write_axioms(text, start, table, c, out);
+    write_all(text, start, table, c, last, roles, features, out);
     Filling::Written(size)
+}
+
+// With the table of names: 42, or what follows.
+fn finish(text: &[u8], start: usize, table: &[u32], c: Counts, out: &mut [u32]) -> Filling
+    requires { ⌜ Ready (now text) (now table) c × Begins (now text) start × (length (now text) ≤ mostText) ⌝ }
+    ensures { λ r. ⌜ OwlPost (now (text .entry)) (now (out .entry)) (now (out .exit)) r ⌝ }
+{
+    if !are_sound(text, start, table, c) {
+        return Filling::Refused(42);
+    }
+    let roles = unnamed(text, start, table, c, 3, c.roles as u32);
+    let features = unnamed(text, start, table, c, 4, c.features as u32);
+    write(text, start, table, c, &roles[..], &features[..], out)
 }
 
 // Three words for each name that a vocabulary may have.

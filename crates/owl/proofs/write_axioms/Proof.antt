@@ -7,10 +7,10 @@ use Rattle.owl.proofs.write_axioms.Statement.{statement}
 use Rattle.owl.proofs.write_axioms.Tie as tie
 
 abbrev Inv-loop : tie.InvT-loop
-Inv-loop text start table c out₀ last at₀ k₀ out at k = Writing text last out₀ out at k
+Inv-loop text start table c last out₀ at₀ k₀ out at k = Writing text last out₀ out at k
 
 abbrev μ-loop : tie.MeasureT-loop
-μ-loop text start table c out₀ last at₀ k₀ out at k = length text - at
+μ-loop text start table c last out₀ at₀ k₀ out at k = length text - at
 
 pub write-axioms-spec : {M : Type 1} → statement M
 write-axioms-spec =

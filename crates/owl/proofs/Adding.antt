@@ -1,0 +1,156 @@
+-- Axioms without many-valued ones, with the many-valued of all that they do not make functional: no name stands both ways, and exactly
+-- those are functional that the axioms make so. Of lists of axioms, whatever they come from.
+use Prim.Native.Nat.{ℕ}
+use mathlib.Core.Bool.{Bool, _&&_, false, not, true}
+use mathlib.Core.List.{List, [], _++_, append-nil, map}
+use mathlib.Core.Path.{_∙_, _≡_, ap, ap₂, refl}
+use lib.Dec.{T, eqb, eqb→eq}
+use lib.Ieee.Bits.{is-false, is-true}
+use Rattle.meaning.proofs.Defaults.{functional-feature, functional-role, in-unnamed, unnamed-names}
+use Rattle.meaning.proofs.Links.{bounds}
+use Rattle.meaning.proofs.Rules.{T-and, all-append, all-at, all-flatMap, all-map, all-mono, any-at, any-in, any-mono, any-out, eqb-of, isFalse, isTrue}
+use Rattle.meaning.proofs.Rules.{notTrue, same-test}
+use Rattle.meaning.specs.Accepted.{NamedAxiom}
+use Rattle.meaning.specs.Lists.{All, _∈_, any, cons, flatMap, nil}
+use Rattle.meaning.specs.Records.{Name, isName}
+use Rattle.meaning.specs.Stated.{isFunctionalFeature, isFunctionalRole, isManyFeature, isManyRole}
+use Rattle.meaning.specs.Vocabulary.{Axiom, below, disjoint, functionalFeature, functionalFeatureName, functionalRole}
+use Rattle.meaning.specs.Vocabulary.{functionalRoleName, isNamed, isOpposed, manyFeature, manyFeatureName, manyRole, manyRoleName, range, unnamed}
+use Rattle.owl.proofs.Lists.{flatMap-again, flatMap-append, flatMap-none}
+
+-- ---- one series: L makes functional what l does, and many-valued all else of its n names
+
+listed : (x : ℕ) (l : List ℕ) → T (any (eqb x) l) → x ∈ l
+listed x l t = any-mono (λ y e. eqb→eq x y e) (any-out (eqb x) l t)
+
+is-listed : (x : ℕ) (l : List ℕ) → x ∈ l → T (any (eqb x) l)
+is-listed x l m = any-in (eqb x) (any-mono (λ y e. eqb-of x y e) m)
+
+-- what is no name of the series is not functional
+all-but : (name one : Bool) → (T one → T name) → name && not (name && not one) ≡ one
+all-but true true h = refl
+all-but true false h = refl
+all-but false true h = absurd (h tt)
+all-but false false h = refl
+
+-- lists that share no number
+none-shared : (xs ys : List ℕ) → ((x : ℕ) → x ∈ xs → x ∈ ys → ⊥) → any (λ x. any (eqb x) xs) ys ≡ false
+none-shared xs ys h =
+    isFalse (any (λ x. any (eqb x) xs) ys) (λ t.
+    let found = any-at (any-out (λ x. any (eqb x) xs) ys t) in
+    h (found .0) (listed (found .0) xs (found .2)) (found .1))
+
+module _ (one many : Axiom → List ℕ) (l L : List Axiom) (n : ℕ) (ones : flatMap one L ≡ flatMap one l) (others : flatMap many L ≡ unnamed one l n) where
+  none-both : any (isNamed many L) (flatMap one L) ≡ false
+  unfolding isNamed
+  none-both =
+      ap₂ (λ (xs ys : List ℕ). any (λ x. any (eqb x) xs) ys) others ones
+      ∙ none-shared (unnamed one l n) (flatMap one l) (λ x m k. notTrue (all-at (unnamed-names one l n) m .1) (is-listed x (flatMap one l) k))
+
+  many-others : (x : ℕ) → isNamed many L x ≡ isName n x && not (isNamed one l x)
+  unfolding isNamed
+  many-others x =
+      same-test (isNamed many L x) (isName n x && not (isNamed one l x))
+      (λ t.
+      let o = all-at (unnamed-names one l n) (listed x (unnamed one l n) (rw others at t)) in
+      isTrue {b = isName n x && not (isNamed one l x)} (rw (o .1) (simp bounds (o .0, refl))))
+      (λ t.
+      let u = T-and (isName n x) (not (isNamed one l x)) t in
+      let e = is-true (isName n x) (u .0) in
+      rw others (is-listed x (unnamed one l n) (in-unnamed one l n x (simp bounds at e) (is-false (isNamed one l x) (u .1)))))
+
+  -- a counted name that is not many-valued is one that l makes functional
+  counted-ones : All (Name n) (flatMap one l) → (x : ℕ) → isName n x && not (isNamed many L x) ≡ isNamed one l x
+  unfolding isNamed
+  counted-ones named x =
+      ap (λ (b : Bool). isName n x && not b) (many-others x)
+      ∙ all-but (isName n x) (isNamed one l x) (λ t. isTrue {b = isName n x} (simp bounds (all-at named (listed x (flatMap one l) t))))
+
+-- ---- both
+
+-- the names of an axiom that makes functional are those of its series
+role-name : (N R F : ℕ) (x : Axiom) → NamedAxiom N R F x → All (Name R) (functionalRoleName x)
+role-name N R F (below a b) h = nil
+role-name N R F (disjoint a b) h = nil
+role-name N R F (functionalRole r) h = cons h nil
+role-name N R F (functionalFeature f) h = nil
+role-name N R F (range r c) h = nil
+role-name N R F (manyRole r) h = nil
+role-name N R F (manyFeature f) h = nil
+
+feature-name : (N R F : ℕ) (x : Axiom) → NamedAxiom N R F x → All (Name F) (functionalFeatureName x)
+feature-name N R F (below a b) h = nil
+feature-name N R F (disjoint a b) h = nil
+feature-name N R F (functionalRole r) h = nil
+feature-name N R F (functionalFeature f) h = cons h nil
+feature-name N R F (range r c) h = nil
+feature-name N R F (manyRole r) h = nil
+feature-name N R F (manyFeature f) h = nil
+
+module _ {N R F : ℕ} {l : List Axiom} (named : All (NamedAxiom N R F) l) where
+  pub roles-named : All (Name R) (flatMap functionalRoleName l)
+  roles-named = all-flatMap functionalRoleName (all-mono (role-name N R F) named)
+
+  pub features-named : All (Name F) (flatMap functionalFeatureName l)
+  features-named = all-flatMap functionalFeatureName (all-mono (feature-name N R F) named)
+
+module _ (l : List Axiom) (R F : ℕ) where
+  abbrev pub added : List Axiom
+  added = map manyRole (unnamed functionalRoleName l R) ++ map manyFeature (unnamed functionalFeatureName l F)
+
+  pub added-named : (N : ℕ) → All (NamedAxiom N R F) l → All (NamedAxiom N R F) (l ++ added)
+  added-named N named =
+      all-append named
+      (all-append (all-map manyRole (all-mono (λ r h. h .0) (unnamed-names functionalRoleName l R)))
+      (all-map manyFeature (all-mono (λ f h. h .0) (unnamed-names functionalFeatureName l F))))
+
+  abbrev manyRoles : List ℕ
+  manyRoles = unnamed functionalRoleName l R
+
+  abbrev manyFeatures : List ℕ
+  manyFeatures = unnamed functionalFeatureName l F
+
+  -- what a selector finds in all of them, by what it finds in each part
+  found : (select : Axiom → List ℕ) → flatMap select (l ++ added) ≡ flatMap select l ++ (flatMap select (map manyRole manyRoles) ++ flatMap select (map manyFeature manyFeatures))
+  found select = flatMap-append select l added ∙ ap (λ (xs : List ℕ). flatMap select l ++ xs) (flatMap-append select (map manyRole manyRoles) (map manyFeature manyFeatures))
+
+  role-ones : flatMap functionalRoleName (l ++ added) ≡ flatMap functionalRoleName l
+  role-ones =
+      found functionalRoleName
+      ∙ rw (flatMap-none functionalRoleName manyRole (λ x. refl) manyRoles, flatMap-none functionalRoleName manyFeature (λ x. refl) manyFeatures, append-nil)
+
+  feature-ones : flatMap functionalFeatureName (l ++ added) ≡ flatMap functionalFeatureName l
+  feature-ones =
+      found functionalFeatureName
+      ∙ rw (flatMap-none functionalFeatureName manyRole (λ x. refl) manyRoles, flatMap-none functionalFeatureName manyFeature (λ x. refl) manyFeatures, append-nil)
+
+  module _ (noRole : flatMap manyRoleName l ≡ []) (noFeature : flatMap manyFeatureName l ≡ []) where
+    role-others : flatMap manyRoleName (l ++ added) ≡ unnamed functionalRoleName l R
+    role-others =
+        found manyRoleName
+        ∙ rw (noRole, flatMap-again manyRoleName manyRole (λ x. refl) manyRoles, flatMap-none manyRoleName manyFeature (λ x. refl) manyFeatures, append-nil)
+
+    feature-others : flatMap manyFeatureName (l ++ added) ≡ unnamed functionalFeatureName l F
+    feature-others =
+        found manyFeatureName
+        ∙ rw (noFeature, flatMap-none manyFeatureName manyRole (λ x. refl) manyRoles, flatMap-again manyFeatureName manyFeature (λ x. refl) manyFeatures)
+
+    -- no name stands both ways
+    pub added-apart : isOpposed (l ++ added) ≡ false
+    unfolding isOpposed
+    added-apart =
+        rw (none-both functionalRoleName manyRoleName l (l ++ added) R role-ones role-others, none-both functionalFeatureName manyFeatureName l (l ++ added) F feature-ones feature-others)
+
+    -- a name is functional exactly when l makes it so
+    module _ (N : ℕ) (named : All (NamedAxiom N R F) l) where
+      pub added-role : (r : ℕ) → isFunctionalRole (record { classes = N; roles = R; features = F; axioms = l ++ added }) r ≡ isNamed functionalRoleName l r
+      unfolding isManyRole
+      added-role r =
+          functional-role (record { classes = N; roles = R; features = F; axioms = l ++ added }) (added-named N named) added-apart r
+          ∙ counted-ones functionalRoleName manyRoleName l (l ++ added) R role-ones role-others (roles-named named) r
+
+      pub added-feature : (f : ℕ) → isFunctionalFeature (record { classes = N; roles = R; features = F; axioms = l ++ added }) f ≡ isNamed functionalFeatureName l f
+      unfolding isManyFeature
+      added-feature f =
+          functional-feature (record { classes = N; roles = R; features = F; axioms = l ++ added }) (added-named N named) added-apart f
+          ∙ counted-ones functionalFeatureName manyFeatureName l (l ++ added) F feature-ones feature-others (features-named named) f
