@@ -1,4 +1,5 @@
 use Prim.Native.Nat.{_-_}
+use native.Mathlib.Omega.{arith}
 use borrow.Author.Needs.{needs}
 use Rattle.satisfaction.proofs.Holding.{Numbering, numbering-ends, numbering-fails, numbering-on, numbering-past}
 use Rattle.satisfaction.proofs.Holding.{numbering-starts}
@@ -15,12 +16,12 @@ abbrev μ-loop : tie.MeasureT-loop
 returns : tie.Need-returns Inv-loop μ-loop
 returns c =
     let names = c .before .before .before .before .before .before .before .before .before .has-number .ensures _ (c .before .before .before .before .before .before .before .before .before .before .before .before .of .ensures) in
-    numbering-fails (c .before .before .before .before .before .before .before .before .before .before .before .loop .inv) (c .before .before .before .before .before .before .before .before .before .before .loop-test .taken) names (c .before .before .before .before .before .before .block-of .ensures) (c .before .before .before .before .before .make-table .ensures) (c .before .is-functional .ensures) (c .before .before .before .before .before .before .before .before .if1 .left) (c .if2 .taken)
+    numbering-fails (c .before .before .before .before .before .before .before .before .before .before .before .loop .inv) (omega arith) names (c .before .before .before .before .before .before .block-of .ensures) (c .before .before .before .before .before .make-table .ensures) (c .before .is-functional .ensures) (c .before .before .before .before .before .before .before .before .if1 .left) (c .if2 .taken)
 
 loop-again-2 : tie.Need-loop-again-2 Inv-loop μ-loop
 loop-again-2 c =
     let names = c .before .before .before .before .before .before .before .before .before .has-number .ensures _ (c .before .before .before .before .before .before .before .before .before .before .before .before .of .ensures) in
-    numbering-on (c .before .before .before .before .before .before .before .before .before .before .before .loop .inv) (c .before .before .before .before .before .before .before .before .before .before .loop-test .taken) names (c .before .before .before .before .before .before .block-of .ensures) (c .before .before .before .before .before .make-table .ensures) (c .before .is-functional .ensures) (c .if2 .left)
+    numbering-on (c .before .before .before .before .before .before .before .before .before .before .before .loop .inv) (omega arith) names (c .before .before .before .before .before .before .block-of .ensures) (c .before .before .before .before .before .make-table .ensures) (c .before .is-functional .ensures) (c .if2 .left)
 
 pub are-single-spec : {M : Type 1} → statement M
 are-single-spec =
@@ -34,7 +35,7 @@ are-single-spec =
     (λ c κs. search needs)
     (λ c. search needs)
     (λ c. search needs)
-    (λ c. let names = c .before .has-number .ensures _ (c .before .before .before .before .of .ensures) in search numbering-past)
+    (λ c. let names = c .before .has-number .ensures _ (c .before .before .before .before .of .ensures) in numbering-past (c .before .before .before .loop .inv) (omega arith) names (c .if1 .taken))
     (λ c κs. search needs)
     (λ c κs. search needs)
     (λ c κs. search needs)

@@ -1,8 +1,8 @@
 use borrow.Author.Needs.{needs}
 use Rattle.meaning.specs.Records.{falling, lastOf}
-use Rattle.satisfaction.proofs.Statements.{obeying-falls}
 use Rattle.satisfaction.proofs.Holding.{Judging, judging-ends, judging-fails, judging-named, judging-on, judging-prepared}
 use Rattle.satisfaction.proofs.Holding.{judging-starts}
+use Rattle.satisfaction.proofs.Statements.{obeying-falls}
 use Rattle.satisfaction.proofs.Tables.{table-few}
 use Rattle.satisfaction.proofs.hold_records.Statement.{statement}
 use Rattle.satisfaction.proofs.hold_records.Tie as tie
