@@ -8,3 +8,4 @@ pub mod Links
 pub mod Values
 pub mod Series
 pub mod Tables
+pub mod Holding

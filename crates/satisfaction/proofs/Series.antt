@@ -62,18 +62,20 @@ module _ (F : List Fact) where
     single-iff : Single says F ↔ ((i j k : ℕ) → fact i j ∈ F → fact i k ∈ F → j ≡ k)
     single-iff = (λ s i j k x y. s i j k (stated i j x) (stated i k y), λ s i j k x y. s i j k (any-mono (is i j) x) (any-mono (is i k) y))
 
-  module _ (a : ℕ) {t : Bool} where
-    pub role-told : Name mostRoles a → T t ↔ Single (linkOf a) F → t ≡ obeys F (functionalRole a)
-    role-told n e =
+  module _ (a : ℕ) where
+    pub role-iff : Name mostRoles a → Single (linkOf a) F ↔ T (obeys F (functionalRole a))
+    role-iff n =
         let s = single-iff (linkOf a) (edge a) (λ i j. rw (named-within mostRoles a (n .0) (n .1), eq-eqb a a refl)) (λ i j. edge-is a i j n) in
-        let o = obeys-iff F 0 (functionalRole a) in
-        same-test t (obeys F (functionalRole a)) (λ h. o .1 (s .0 (e .0 h))) (λ h. e .1 (s .1 (o .0 h)))
+        let o = obeys-iff F 0 (functionalRole a) in (λ h. o .1 (s .0 h), λ h. s .1 (o .0 h))
 
-    pub feature-told : Name mostFeatures a → T t ↔ Single (linkOf (mostRoles + a)) F → t ≡ obeys F (functionalFeature a)
-    feature-told n e =
+    pub feature-iff : Name mostFeatures a → Single (linkOf (mostRoles + a)) F ↔ T (obeys F (functionalFeature a))
+    feature-iff n =
         let s = single-iff (linkOf (mostRoles + a)) (value a) (λ i j. rw (named-within mostFeatures a (n .0) (n .1), eq-eqb (mostRoles + a) (mostRoles + a) refl)) (λ i j. value-is a i j n) in
-        let o = obeys-iff F 0 (functionalFeature a) in
-        same-test t (obeys F (functionalFeature a)) (λ h. o .1 (s .0 (e .0 h))) (λ h. e .1 (s .1 (o .0 h)))
+        let o = obeys-iff F 0 (functionalFeature a) in (λ h. o .1 (s .0 h), λ h. s .1 (o .0 h))
+
+-- a test that tells the one tells the other
+told-by : {A : Type 0} (s t : Bool) → T s ↔ A → A ↔ T t → s ≡ t
+told-by s t e f = same-test s t (λ h. f .0 (e .0 h)) (λ h. e .1 (f .1 h))
 
 pub feature-named : {v : List ℕ} {k kind a : ℕ} → Named v k → kind ≡ axiomKind v k → a ≡ axiomLeft v k → kind ≡ 4 → Name mostFeatures a
 feature-named x ek ea e = rw ea (x .feature (sym ek ∙ e))
@@ -86,10 +88,10 @@ module _ {m w v : List ℕ} {k kind a : ℕ} {t : Bool} (p : Prepared m w (axiom
   states-role e h =
       let n : Name mostRoles a = rw ea (x .role (sym ek ∙ e)) in
       let s = rw (← ek, e, ← ea) at (p .decides) in
-      h ∙ role-told (factsOf m) a n (s n) ∙ rw (← ek, e, ea)
+      h ∙ told-by (not (inSet (clashesOf w) a)) (obeys (factsOf m) (functionalRole a)) (s n) (role-iff (factsOf m) a n) ∙ rw (← ek, e, ea)
 
   pub states-feature : kind ≡ 4 → t ≡ not (inSet (clashesOf w) (mostRoles + a)) → t ≡ obeys (factsOf m) (axiomAt v k)
   states-feature e h =
       let n : Name mostFeatures a = rw ea (x .feature (sym ek ∙ e)) in
       let s = rw (← ek, e, ← ea) at (p .decides) in
-      h ∙ feature-told (factsOf m) a n (s n) ∙ rw (← ek, e, ea)
+      h ∙ told-by (not (inSet (clashesOf w) (mostRoles + a))) (obeys (factsOf m) (functionalFeature a)) (s n) (feature-iff (factsOf m) a n) ∙ rw (← ek, e, ea)

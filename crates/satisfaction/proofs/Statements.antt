@@ -1,25 +1,25 @@
 -- Laws of what a vocabulary states: tests of one after another, and what the facts obey.
 use Prim.Native.Nat.{_+_, _-_, _<_, _≤_, suc, zero, ℕ}
-use mathlib.Core.Bool.{Bool, _&&_, cond, false, not, true}
+use mathlib.Core.Bool.{Bool, cond, false, not, true}
 use mathlib.Core.List.{List, [], _∷_}
 use mathlib.Core.Logic.{_↔_}
 use mathlib.Core.Path.{_∙_, _≡_, refl, sym}
 use lib.Dec.{T, T-not, eqb, not-T}
 use native.Mathlib.Numerals.{add-one}
 use native.Mathlib.Omega.{arith}
-use borrow.Author.Tests.{eqb-true, ne-eqb, not-false, not-true}
+use borrow.Author.Tests.{ne-eqb, not-false, not-true}
 use Rattle.meaning.proofs.ModelCheck.{is-member, member-is, obeys-iff}
 use Rattle.meaning.proofs.Counting.{in-counting}
 use Rattle.meaning.proofs.Rules.{all-at, all-in, all-out, any-in, any-mono, any-out, imp-in, imp-out, same-test}
-use Rattle.meaning.proofs.Links.{tests}
+use Rattle.meaning.proofs.Links.{split, tests}
 use Rattle.meaning.proofs.Wellformed.{accepted-counts}
 use Rattle.meaning.specs.Limits.{mostClasses, mostRoles}
 use Rattle.meaning.specs.Lists.{All, _∈_, all, any, cons, counting, nil}
 use Rattle.meaning.specs.Model.{Fact, factsOf, individualCount, member}
-use Rattle.meaning.specs.ModelCheck.{isMember, isModel, obeys}
-use Rattle.meaning.specs.Records.{Name, falling, isName, lastOf}
-use Rattle.meaning.specs.Vocabulary.{axiomAt, axiomFits, axiomKind, axiomLeft, axiomNext, axiomRight, below, classCount, disjoint}
-use Rattle.meaning.specs.Vocabulary.{featureCount, firstAxiom, range, roleCount, vocabularyOf, vocabularyRefusal}
+use Rattle.meaning.specs.ModelCheck.{isMember, obeys}
+use Rattle.meaning.specs.Records.{Name, falling, lastOf}
+use Rattle.meaning.specs.Vocabulary.{axiomAt, axiomFits, axiomKind, axiomLeft, axiomNext, axiomRight, below, disjoint}
+use Rattle.meaning.specs.Vocabulary.{firstAxiom, range, vocabularyOf, vocabularyRefusal}
 use Rattle.model.specs.Chain.{Readable}
 use Rattle.records.proofs.Chains.{Walking, walking-ends, walking-falls, walking-found, walking-on, walking-sound, walking-starts}
 use Rattle.satisfaction.proofs.Facts.{owners-named}
@@ -123,57 +123,48 @@ module _ (F : List Fact) (v : List ℕ) (k : ℕ) {kind a b : ℕ} (ek : kind �
   pub states-disjoint : kind ≡ 2 → t ≡ obeys F (disjoint a b) → t ≡ obeys F (axiomAt v k)
   states-disjoint e h = h ∙ rw (← ek, e, ea, eb)
 
-  pub states-range : (kind ≡ 1 → ⊥) → (kind ≡ 2 → ⊥) → (kind ≡ 3 → ⊥) → (kind ≡ 4 → ⊥) → t ≡ obeys F (range a b) → t ≡ obeys F (axiomAt v k)
-  states-range n₁ n₂ n₃ n₄ h = h ∙ rw (← ek, ne-eqb kind 1 n₁, ne-eqb kind 2 n₂, ne-eqb kind 3 n₃, ne-eqb kind 4 n₄, ea, eb)
+  pub states-range : kind ≡ 5 → t ≡ obeys F (range a b) → t ≡ obeys F (axiomAt v k)
+  states-range e h = h ∙ rw (← ek, e, ea, eb)
+
+-- one of another kind asks nothing
+pub states-many : (F : List Fact) (v : List ℕ) (k : ℕ) {kind : ℕ} → kind ≡ axiomKind v k → (kind ≡ 1 → ⊥) → (kind ≡ 2 → ⊥) → (kind ≡ 3 → ⊥) → (kind ≡ 4 → ⊥) → (kind ≡ 5 → ⊥) →
+    true ≡ obeys F (axiomAt v k)
+states-many F v k {kind} ek n₁ n₂ n₃ n₄ n₅ =
+    rw (← ek, ne-eqb kind 1 n₁, ne-eqb kind 2 n₂, ne-eqb kind 3 n₃, ne-eqb kind 4 n₄, ne-eqb kind 5 n₅)
+    (split (λ x. true ≡ obeys F x) (eqb kind 6) (λ _. refl) (λ _. refl))
 
 -- the names of a range
-module _ {v : List ℕ} {k kind : ℕ} (x : Named v k) (ek : kind ≡ axiomKind v k) (n₁ : kind ≡ 1 → ⊥) (n₂ : kind ≡ 2 → ⊥) (n₃ : kind ≡ 3 → ⊥) (n₄ : kind ≡ 4 → ⊥) where
-  last-kind : axiomKind v k ≡ 5
-  last-kind = let y = x .kind in omega arith
-
+module _ {v : List ℕ} {k kind : ℕ} (x : Named v k) (ek : kind ≡ axiomKind v k) (e : kind ≡ 5) where
   pub range-role : {a : ℕ} → a ≡ axiomLeft v k → Name mostRoles a
-  range-role ea = rw ea (x .ranged last-kind)
+  range-role ea = rw ea (x .ranged (sym ek ∙ e))
 
   pub range-class : {b : ℕ} → b ≡ axiomRight v k → Name mostClasses b
-  range-class eb = rw eb (x .range last-kind)
+  range-class eb = rw eb (x .range (sym ek ∙ e))
 
   pub range-made : {m w : List ℕ} → Prepared m w (axiomAt v k) → Ranged m w
-  range-made p = rw last-kind at (p .decides)
+  range-made p = rw (← ek, e) at (p .decides)
 
 -- ---- all that is stated
 
 -- each record of an accepted vocabulary names what the tables have room for
 axiom-named : (v : List ℕ) (k : ℕ) → vocabularyRefusal v ≡ 0 → axiomFits v k ≡ true → Named v k
 axiom-named v k h f = record {
-  kind = go (eqb (axiomKind v k) 1) (eqb (axiomKind v k) 2) (eqb (axiomKind v k) 3) (eqb (axiomKind v k) 4) refl refl refl refl f;
   role = λ e. let u = simp tests at (rw e at f) in let n = accepted-counts v h in omega arith;
   feature = λ e. let u = simp tests at (rw e at f) in let n = accepted-counts v h in omega arith;
   ranged = λ e. let u = simp tests at (rw e at f) in let n = accepted-counts v h in omega arith;
   range = λ e. let u = simp tests at (rw e at f) in let n = accepted-counts v h in omega arith;
 }
-  where
-    classes : Bool
-    classes = isName (classCount v) (axiomLeft v k) && isName (classCount v) (axiomRight v k)
 
-    go : (a b c d : Bool) → eqb (axiomKind v k) 1 ≡ a → eqb (axiomKind v k) 2 ≡ b → eqb (axiomKind v k) 3 ≡ c → eqb (axiomKind v k) 4 ≡ d →
-        cond a classes (cond b classes (cond c (isName (roleCount v) (axiomLeft v k) && eqb (axiomRight v k) 0) (cond d (isName (featureCount v) (axiomLeft v k) && eqb (axiomRight v k) 0) (eqb (axiomKind v k) 5 && (isName (roleCount v) (axiomLeft v k) && isName (classCount v) (axiomRight v k)))))) ≡ true →
-        Name 5 (axiomKind v k)
-    go true b c d e₁ e₂ e₃ e₄ g = let z = eqb-true (axiomKind v k) 1 e₁ in omega arith
-    go false true c d e₁ e₂ e₃ e₄ g = let z = eqb-true (axiomKind v k) 2 e₂ in omega arith
-    go false false true d e₁ e₂ e₃ e₄ g = let z = eqb-true (axiomKind v k) 3 e₃ in omega arith
-    go false false false true e₁ e₂ e₃ e₄ g = let z = eqb-true (axiomKind v k) 4 e₄ in omega arith
-    go false false false false e₁ e₂ e₃ e₄ g = let u = simp tests at g in omega arith
-
--- a loop that has come to record k of the vocabulary: the answer for all is that for those that are left
+-- a loop that has come to record k of the vocabulary: the answer for all records is that for those that are left
 pub record Obeying (F : List Fact) (v : List ℕ) (k : ℕ) : Type 0 where
-  pub walk : Walking (axiomLinks v) (λ l. isModel F (vocabularyOf v) ≡ all (obeys F) l) k
+  pub walk : Walking (axiomLinks v) (λ l. all (obeys F) (vocabularyOf v .axioms) ≡ all (obeys F) l) k
 
 module _ {F : List Fact} {v : List ℕ} {k : ℕ} where
   pub obeying-starts : vocabularyRefusal v ≡ 0 → k ≡ firstAxiom v → Obeying F v k
   obeying-starts h e = record { walk = walking-starts (axioms-along v h) e refl }
 
   module _ (x : Obeying F v k) where
-    pub obeying-ends : k ≡ 0 → true ≡ isModel F (vocabularyOf v)
+    pub obeying-ends : k ≡ 0 → true ≡ all (obeys F) (vocabularyOf v .axioms)
     unfolding axiomLinks
     obeying-ends z = sym (walking-ends (x .walk) z)
 
@@ -182,7 +173,7 @@ module _ {F : List Fact} {v : List ℕ} {k : ℕ} where
       unfolding axiomLinks
       obeying-named h = axiom-named v k h (walking-sound (x .walk) n)
 
-      pub obeying-fails : {b : Bool} → b ≡ obeys F (axiomAt v k) → not b ≡ true → false ≡ isModel F (vocabularyOf v)
+      pub obeying-fails : {b : Bool} → b ≡ obeys F (axiomAt v k) → not b ≡ true → false ≡ all (obeys F) (vocabularyOf v .axioms)
       unfolding axiomLinks
       obeying-fails e h = walking-found (x .walk) n (λ l a. all-fails (obeys F) (axiomAt v k) e l a h)
 

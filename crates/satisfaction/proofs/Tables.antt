@@ -10,25 +10,23 @@ use lib.Pow.{shl-exact}
 use native.Mathlib.Nat.{one-mul}
 use native.Mathlib.Omega.{arith}
 use borrow.Author.Tests.{eq-eqb, eqb-false, eqb-true, ne-eqb}
-use Rattle.frames.proofs.Frames.{only-none, only-span, only-then, row-behind}
+use Rattle.frames.proofs.Frames.{only-none, only-span, row-behind}
 use Rattle.frames.specs.Frames.{Cleared, Only, Span}
 use Rattle.meaning.proofs.Links.{split}
 use Rattle.meaning.specs.Limits.{mostRoles}
 use Rattle.meaning.specs.Model.{factsOf}
-use Rattle.meaning.specs.ModelCheck.{isModel, obeys}
 use Rattle.meaning.specs.Records.{Name}
-use Rattle.meaning.specs.Vocabulary.{Axiom, axiomAt, axiomKind, axiomLeft, axiomNext, below, disjoint, firstAxiom, functionalFeature}
-use Rattle.meaning.specs.Vocabulary.{functionalRole, range, vocabularyOf, vocabularyRefusal}
+use Rattle.meaning.specs.Vocabulary.{Axiom, axiomAt, axiomKind, axiomLeft, below, disjoint, functionalFeature}
+use Rattle.meaning.specs.Vocabulary.{functionalRole, manyFeature, manyRole, range}
 use Rattle.satisfaction.proofs.Classes.{interpreted-kept}
 use Rattle.satisfaction.proofs.Ranges.{ranged-kept}
 use Rattle.satisfaction.proofs.Rows.{none-in}
-use Rattle.satisfaction.proofs.Statements.{Obeying, obeying-ends, obeying-fails, obeying-named, obeying-on, obeying-starts}
 use Rattle.satisfaction.specs.Axioms.{Named}
-use Rattle.satisfaction.specs.Classes.{AllEntered, Interpreted, Satisfied}
+use Rattle.satisfaction.specs.Classes.{Interpreted}
 use Rattle.satisfaction.specs.Links.{BlockComparable, BlockCompared, InBlock, Single, Tells, linkOf}
-use Rattle.satisfaction.specs.Places.{blockSize, clashWords, clashesAt, clashesOf, rangesAt, rangesEnd, seriesCount, valuesEnd}
+use Rattle.satisfaction.specs.Places.{blockSize, clashWords, clashesAt, clashesOf, rangesAt, rangesEnd, seriesCount}
 use Rattle.satisfaction.specs.Ranges.{AllNarrowed, Ranged}
-use Rattle.satisfaction.specs.Tables.{Decides, Made, MadeAlso, Prepared, blockOf, classTable, rangeTable, tableOf}
+use Rattle.satisfaction.specs.Tables.{Decides, Made, MadeAlso, blockOf, classTable, rangeTable, tableOf}
 use Rattle.words.proofs.Bits.{bit-none, bit-or, bit-pow}
 use Rattle.words.specs.Sets.{testBit}
 
@@ -41,8 +39,13 @@ module _ (v : List ℕ) (k : ℕ) {kind : ℕ} (ek : kind ≡ axiomKind v k) whe
   pub table-disjoint : kind ≡ 2 → classTable ≡ tableOf (axiomAt v k)
   table-disjoint e = rw (← ek, e)
 
-  pub table-range : (kind ≡ 1 → ⊥) → (kind ≡ 2 → ⊥) → (kind ≡ 3 → ⊥) → (kind ≡ 4 → ⊥) → rangeTable ≡ tableOf (axiomAt v k)
-  table-range n₁ n₂ n₃ n₄ = rw (← ek, ne-eqb kind 1 n₁, ne-eqb kind 2 n₂, ne-eqb kind 3 n₃, ne-eqb kind 4 n₄)
+  pub table-range : kind ≡ 5 → rangeTable ≡ tableOf (axiomAt v k)
+  table-range e = rw (← ek, e)
+
+  pub table-many : (kind ≡ 1 → ⊥) → (kind ≡ 2 → ⊥) → (kind ≡ 3 → ⊥) → (kind ≡ 4 → ⊥) → (kind ≡ 5 → ⊥) → classTable ≡ tableOf (axiomAt v k)
+  table-many n₁ n₂ n₃ n₄ n₅ =
+      rw (← ek, ne-eqb kind 1 n₁, ne-eqb kind 2 n₂, ne-eqb kind 3 n₃, ne-eqb kind 4 n₄, ne-eqb kind 5 n₅)
+      (split (λ x. classTable ≡ tableOf x) (eqb kind 6) (λ _. refl) (λ _. refl))
 
   module _ {a : ℕ} (ea : a ≡ axiomLeft v k) where
     pub table-role : {b : ℕ} → kind ≡ 3 → b ≡ blockOf a → b ≡ tableOf (axiomAt v k)
@@ -61,7 +64,9 @@ table-few {v} {k} x h =
     (split (λ a. tableOf a ≤ classTable) (eqb kind 1) (λ _. omega arith) (λ _.
     split (λ a. tableOf a ≤ classTable) (eqb kind 2) (λ _. omega arith) (λ _.
     split (λ a. tableOf a ≤ classTable) (eqb kind 3) (λ e. let r = x .role (eqb-true kind 3 e) in omega arith) (λ _.
-    split (λ a. tableOf a ≤ classTable) (eqb kind 4) (λ e. let f = x .feature (eqb-true kind 4 e) in omega arith) (λ _. omega arith)))))
+    split (λ a. tableOf a ≤ classTable) (eqb kind 4) (λ e. let f = x .feature (eqb-true kind 4 e) in omega arith) (λ _.
+    split (λ a. tableOf a ≤ classTable) (eqb kind 5) (λ _. omega arith) (λ _.
+    split (λ a. tableOf a ≤ classTable) (eqb kind 6) (λ _. omega arith) (λ _. omega arith)))))))
 
 -- ---- one table more
 
@@ -147,73 +152,20 @@ module _ {m w : List ℕ} {tables t : ℕ} (p : Made m tables w) where
 -- ---- what a statement is held to
 
 module _ {m w : List ℕ} {tables : ℕ} (p : Made m tables w) where
-  decides : (x : Axiom) → testBit tables (tableOf x) ≡ true → Decides m w x
+  pub decides : (x : Axiom) → testBit tables (tableOf x) ≡ true → Decides m w x
   decides (below a b) h = tt
   decides (disjoint a b) h = tt
   decides (functionalRole r) h = λ n. p .told r (n .0, omega arith) h
   decides (functionalFeature f) h = λ n. p .told (mostRoles + f) (omega arith, omega arith) h
   decides (range r c) h = p .ranged h
+  decides (manyRole r) h = tt
+  decides (manyFeature f) h = tt
 
--- ---- one statement after another
-
--- a loop that has come to record k of the vocabulary: those before it are obeyed, these tables are made, and nothing else changed
-pub record Judging (v m w₀ : List ℕ) (k tables : ℕ) (w : List ℕ) : Type 0 where
-  pub accepted : vocabularyRefusal v ≡ 0
-  pub obeying : Obeying (factsOf m) v k
-  pub made : Made m tables w
-  pub only : Only (Span rangesAt valuesEnd) w₀ w
-
-module _ {v m w w₁ : List ℕ} {k : ℕ} (i : Interpreted m w) (c : Cleared clashesAt clashWords w w₁) where
-  pub judging-starts : vocabularyRefusal v ≡ 0 → k ≡ firstAxiom v → Judging v m w₁ k 0 w₁
-  judging-starts h e = record {
-    accepted = h;
-    obeying = obeying-starts h e;
-    made = record {
-      interpreted = interpreted-kept (omega arith) (c .only) i;
-      ranged = λ e. absurd (true≢false (sym e ∙ bit-none rangeTable));
-      told = λ u n e. absurd (true≢false (sym e ∙ bit-none (blockOf u)));
-      none = λ u n e. none-in clashWords w₁ clashesAt (λ i a b. c .zeros i a b) u;
-    };
-    only = only-none;
-  }
-
-  module _ {tables : ℕ} {w₂ : List ℕ} (x : Judging v m w₁ k tables w₂) where
-    judged : {w₃ : List ℕ} {r : Bool} → Interpreted m w₃ → Only (Span rangesAt valuesEnd) w₂ w₃ → r ≡ isModel (factsOf m) (vocabularyOf v) →
-        Satisfied v m w w₃ r
-    judged j o e = record {
-      told = e;
-      interpreted = j;
-      only = only-then (only-span (c .only) (omega arith) (omega arith)) (only-span (only-then (x .only) o) (omega arith) (omega arith));
-    }
-
-    pub judging-ends : k ≡ 0 → Satisfied v m w w₂ true
-    judging-ends z = judged (x .made .interpreted) only-none (obeying-ends (x .obeying) z)
-
-    pub judging-fails : {t tables′ : ℕ} {w₃ : List ℕ} {b : Bool} → (k ≡ 0 → ⊥) → MadeAlso m t w₂ w₃ tables′ →
-        b ≡ obeys (factsOf m) (axiomAt v k) → not b ≡ true → Satisfied v m w w₃ false
-    judging-fails n a e h = judged (a .made .interpreted) (a .only) (obeying-fails (x .obeying) n e h)
-
-module _ {v m w₁ w₂ : List ℕ} {k tables : ℕ} (x : Judging v m w₁ k tables w₂) where
-  pub judging-named : (k ≡ 0 → ⊥) → Named v k
-  judging-named n = obeying-named (x .obeying) n (x .accepted)
-
-  module _ {t tables′ : ℕ} {w₃ : List ℕ} (a : MadeAlso m t w₂ w₃ tables′) where
-    pub judging-prepared : t ≡ tableOf (axiomAt v k) → Prepared m w₃ (axiomAt v k)
-    judging-prepared e = record { interpreted = a .made .interpreted; decides = decides (a .made) (axiomAt v k) (rw e at (a .has)) }
-
-    pub judging-on : {j : ℕ} {b : Bool} → (k ≡ 0 → ⊥) → b ≡ obeys (factsOf m) (axiomAt v k) → not b ≡ false → j ≡ axiomNext v k →
-        Judging v m w₁ j tables′ w₃
-    judging-on n e h z = record {
-      accepted = x .accepted;
-      obeying = obeying-on (x .obeying) n z e h;
-      made = a .made;
-      only = only-then (x .only) (a .only);
-    }
-
--- the classes are entered first
-pub satisfied : {v m w w₁ w₂ : List ℕ} {r : Bool} → AllEntered m w w₁ → Satisfied v m w₁ w₂ r → Satisfied v m w w₂ r
-satisfied a s = record {
-  told = s .told;
-  interpreted = s .interpreted;
-  only = only-then (only-span (a .only) (omega arith) (omega arith)) (s .only);
+-- no table is made yet
+pub made-none : {m w w₁ : List ℕ} → Interpreted m w → Cleared clashesAt clashWords w w₁ → Made m 0 w₁
+made-none {w₁ = w₁} i c = record {
+  interpreted = interpreted-kept (omega arith) (c .only) i;
+  ranged = λ e. absurd (true≢false (sym e ∙ bit-none rangeTable));
+  told = λ u n e. absurd (true≢false (sym e ∙ bit-none (blockOf u)));
+  none = λ u n e. none-in clashWords w₁ clashesAt (λ i a b. c .zeros i a b) u;
 }

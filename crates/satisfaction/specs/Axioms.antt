@@ -6,9 +6,8 @@ use Rattle.meaning.specs.Limits.{mostClasses, mostFeatures, mostRoles}
 use Rattle.meaning.specs.Records.{Name}
 use Rattle.meaning.specs.Vocabulary.{axiomKind, axiomLeft, axiomRight}
 
--- record k has one of the five kinds, and its names are ones that a vocabulary may count
+-- what record k names, where it asks something of a role or a feature, is what a vocabulary may count
 pub record Named (v : List ℕ) (k : ℕ) : Type 0 where
-  pub kind : Name 5 (axiomKind v k)
   pub role : axiomKind v k ≡ 3 → Name mostRoles (axiomLeft v k)
   pub feature : axiomKind v k ≡ 4 → Name mostFeatures (axiomLeft v k)
   pub ranged : axiomKind v k ≡ 5 → Name mostRoles (axiomLeft v k)

@@ -5,3 +5,4 @@ pub mod Ranges
 pub mod Axioms
 pub mod Links
 pub mod Tables
+pub mod Holding

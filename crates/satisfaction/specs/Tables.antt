@@ -6,7 +6,7 @@ use mathlib.Core.Path.{_≡_}
 use Rattle.frames.specs.Frames.{Only, Span}
 use Rattle.meaning.specs.Limits.{mostFeatures, mostRoles}
 use Rattle.meaning.specs.Records.{Name}
-use Rattle.meaning.specs.Vocabulary.{Axiom, below, disjoint, functionalFeature, functionalRole, range}
+use Rattle.meaning.specs.Vocabulary.{Axiom, below, disjoint, functionalFeature, functionalRole, manyFeature, manyRole, range}
 use Rattle.satisfaction.specs.Classes.{Interpreted}
 use Rattle.satisfaction.specs.Links.{Tells}
 use Rattle.satisfaction.specs.Places.{blockSize, clashesOf, rangesAt, seriesCount, valuesEnd}
@@ -30,6 +30,8 @@ tableOf (disjoint a b) = classTable
 tableOf (functionalRole r) = blockOf r
 tableOf (functionalFeature f) = blockOf (mostRoles + f)
 tableOf (range r c) = rangeTable
+tableOf (manyRole r) = classTable
+tableOf (manyFeature f) = classTable
 
 -- the tables whose bits are set are made, and no number of another block is in the set of what clashes
 pub record Made (m : List ℕ) (tables : ℕ) (w : List ℕ) : Type 0 where
@@ -51,6 +53,8 @@ Decides m w (disjoint a b) = Unit {0}
 Decides m w (functionalRole r) = Name mostRoles r → Tells m w r
 Decides m w (functionalFeature f) = Name mostFeatures f → Tells m w (mostRoles + f)
 Decides m w (range r c) = Ranged m w
+Decides m w (manyRole r) = Unit {0}
+Decides m w (manyFeature f) = Unit {0}
 
 -- all that a statement is held to
 pub record Prepared (m w : List ℕ) (x : Axiom) : Type 0 where

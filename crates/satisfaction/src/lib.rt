@@ -13,10 +13,11 @@
 //     the end of these, of 16,384                                                   13,317                 14,469
 //
 // The records of first values are needed no more when the sets of a policy's records are put in their place. The facts are walked over once
-// for the classes; once for the ranges, when a record of the vocabulary first states one; and once for each block of 16 roles or features,
-// when a record first states one of them functional: at most ten times, whatever the number of records. What a record states is then one
-// bit or, for a pair of classes, a look at each individual.
+// for the classes; once for the ranges, when a record of the vocabulary first states one; and once for each block of 16 roles or features
+// that has a functional one, when a record first states it or, after all records, as it is so by default: at most ten times, whatever the
+// number of records. What is stated is then one bit or, for a pair of classes, a look at each individual.
 use frames::clear;
+use functional::Functional;
 use meaning::ClassNo;
 use meaning::FeatureNo;
 use meaning::RoleNo;
@@ -43,18 +44,21 @@ use words::insert;
 use words::place;
 ghost use mathlib.Core.Path.{_≡_};
 ghost use mathlib.Core.Bool.{not};
-ghost use Prim.Native.Nat.{_*_, _+_, _<_, _≤_};
+ghost use mathlib.Core.List.{List};
+ghost use Prim.Native.Nat.{_*_, _+_, _<_, _≤_, ℕ};
 ghost use lib.ListN.{length};
 ghost use Rattle.frames.specs.Frames.{Cleared};
+ghost use Rattle.functional.specs.FunctionalNames.{FunctionalNames};
 ghost use Rattle.meaning.specs.Limits.{mostFeatures, mostIndividuals, mostRoles, workSize};
 ghost use Rattle.meaning.specs.Lists.{all, counting};
 ghost use Rattle.meaning.specs.Model.{factAt, factsOf, individualCount};
 ghost use Rattle.meaning.specs.ModelCheck.{obeys};
 ghost use Rattle.meaning.specs.Records.{Name};
-ghost use Rattle.meaning.specs.Vocabulary.{axiomAt, vocabularyRefusal};
+ghost use Rattle.meaning.specs.Vocabulary.{axiomAt, vocabularyOf, vocabularyRefusal};
 ghost use Rattle.model.specs.Chain.{Readable, Stated};
 ghost use Rattle.satisfaction.specs.Axioms.{Named};
 ghost use Rattle.satisfaction.specs.Classes.{AllEntered, Interpreted, Satisfied, entered, follows};
+ghost use Rattle.satisfaction.specs.Holding.{NumbersHeld, RecordsHeld, isFunctionalNumber};
 ghost use Rattle.satisfaction.specs.Links.{BlockComparable, BlockCompared, Comparable, Compared, numberOf};
 ghost use Rattle.satisfaction.specs.Places.{blockSize, classPlace, classesOf, clashesOf, putIn, rangePlace, rangeWords};
 ghost use Rattle.satisfaction.specs.Places.{rangesOf, valuePlace};
@@ -343,7 +347,7 @@ fn block_of(u: u32) -> u32
     (u - 1) / BLOCK_SIZE
 }
 
-// The table that record k of the vocabulary is held to.
+// The table that record k of the vocabulary is held to. Kinds 6 and 7 ask nothing, so any table will do: the one that is always there.
 fn table_of(v: &[u32], k: u32) -> u32
     requires { ⌜ Named (now v) k ⌝ }
     ensures { λ r. ⌜ r ≡ tableOf (axiomAt (now (v .entry)) k) ⌝ }
@@ -355,7 +359,8 @@ fn table_of(v: &[u32], k: u32) -> u32
         2 => CLASS_TABLE,
         3 => block_of(a),
         4 => block_of(MOST_ROLES + a),
-        _ => RANGE_TABLE,
+        5 => RANGE_TABLE,
+        _ => CLASS_TABLE,
     }
 }
 
@@ -399,26 +404,81 @@ fn is_obeyed(v: &[u32], m: &[u32], work: &[u32], k: u32) -> bool
         2 => do_follow(work, individual_count(m), ClassNo(a), ClassNo(b), true),
         3 => is_functional_role(work, RoleNo(a)),
         4 => is_functional_feature(work, FeatureNo(a)),
-        _ => is_range(work, RoleNo(a), ClassNo(b)),
+        5 => is_range(work, RoleNo(a), ClassNo(b)),
+        _ => true,
     }
 }
 
-// Whether all that the vocabulary states is so. A table is made for the first statement that is held to it.
-fn are_obeyed(v: &[u32], m: &[u32], work: &mut [u32]) -> bool
-    requires { ⌜ (vocabularyRefusal (now v) ≡ 0) × Interpreted (now m) (now work) ⌝ }
-    ensures { λ r. ⌜ Satisfied (now (v .entry)) (now (m .entry)) (now (work .entry)) (now (work .exit)) r ⌝ }
+// Whether all records are obeyed, and the tables that are made by then.
+struct Held {
+    obeyed: bool,
+    tables: u32,
+}
+
+// Holds each record of the vocabulary to its table, which is made for the first record that is held to it.
+fn hold_records(v: &[u32], m: &[u32], work: &mut [u32]) -> Held
+    requires { ⌜ (vocabularyRefusal (now v) ≡ 0) × Made (now m) 0 (now work) ⌝ }
+    ensures { λ h. ⌜ RecordsHeld (now (v .entry)) (now (m .entry)) (now (work .entry)) (now (work .exit)) h ⌝ }
 {
-    clear(work, CLASHES, CLASH_WORDS);
     let mut tables = 0;
     let mut k = first_axiom(v);
     while k != 0 {
         tables = make_table(m, work, tables, table_of(v, k));
         if !is_obeyed(v, m, work, k) {
-            return false;
+            return Held {
+                obeyed: false,
+                tables,
+            };
         }
         k = axiom_next(v, k);
     }
+    Held {
+        obeyed: true,
+        tables,
+    }
+}
+
+// Whether number u of the series is that of a functional role or feature.
+fn has_number(f: Functional, u: u32) -> bool
+    ensures { λ t. ⌜ ((v : List ℕ) → FunctionalNames v f → t ≡ isFunctionalNumber (vocabularyOf v) u) ⌝ }
+{
+    if u <= MOST_ROLES {
+        return f.has_role(RoleNo(u));
+    }
+    f.has_feature(FeatureNo(u - MOST_ROLES))
+}
+
+// Whether no individual has two values of a role or feature that is functional, by a record or by default. No table is made twice.
+fn are_single(v: &[u32], m: &[u32], work: &mut [u32], tables: u32) -> bool
+    requires { ⌜ (vocabularyRefusal (now v) ≡ 0) × Made (now m) tables (now work) ⌝ }
+    ensures { λ r. ⌜ NumbersHeld (now (v .entry)) (now (m .entry)) (now (work .entry)) (now (work .exit)) r ⌝ }
+{
+    let f = Functional::of(v);
+    let mut made = tables;
+    for i in 0..SERIES {
+        let u = i + 1;
+        if !has_number(f, u) {
+            continue;
+        }
+        made = make_table(m, work, made, block_of(u));
+        if !is_functional(work, u) {
+            return false;
+        }
+    }
     true
+}
+
+// Whether all that the vocabulary states is so, by its records and then by default.
+fn are_obeyed(v: &[u32], m: &[u32], work: &mut [u32]) -> bool
+    requires { ⌜ (vocabularyRefusal (now v) ≡ 0) × Interpreted (now m) (now work) ⌝ }
+    ensures { λ r. ⌜ Satisfied (now (v .entry)) (now (m .entry)) (now (work .entry)) (now (work .exit)) r ⌝ }
+{
+    clear(work, CLASHES, CLASH_WORDS);
+    let held = hold_records(v, m, work);
+    if !held.obeyed {
+        return false;
+    }
+    are_single(v, m, work, held.tables)
 }
 
 // Whether the model satisfies the vocabulary. The sets of classes are left for whoever asks of the same model.

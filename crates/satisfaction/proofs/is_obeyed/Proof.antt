@@ -2,7 +2,7 @@ use borrow.Author.Needs.{needs}
 use Rattle.satisfaction.proofs.Ranges.{range-told}
 use Rattle.satisfaction.proofs.Series.{feature-named, states-feature, states-role}
 use Rattle.satisfaction.proofs.Statements.{below-told, disjoint-told, range-class, range-made, range-role, states-below}
-use Rattle.satisfaction.proofs.Statements.{states-disjoint, states-range}
+use Rattle.satisfaction.proofs.Statements.{states-disjoint, states-many, states-range}
 use Rattle.satisfaction.proofs.is_obeyed.Statement.{statement}
 use Rattle.satisfaction.proofs.is_obeyed.Tie as tie
 
@@ -24,4 +24,5 @@ is-obeyed-spec =
     (λ c. search (states-disjoint, disjoint-told))
     (λ c. search states-role)
     (λ c. search states-feature)
-    (λ c. search (states-range, range-told, range-role, range-class, range-made)))
+    (λ c. search (states-range, range-told, range-role, range-class, range-made))
+    (λ c. search states-many))

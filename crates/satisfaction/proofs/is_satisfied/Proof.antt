@@ -1,6 +1,6 @@
 use borrow.Author.Needs.{needs}
 use Rattle.satisfaction.proofs.Classes.{entered-all}
-use Rattle.satisfaction.proofs.Tables.{satisfied}
+use Rattle.satisfaction.proofs.Holding.{satisfied}
 use Rattle.satisfaction.proofs.is_satisfied.Statement.{statement}
 use Rattle.satisfaction.proofs.is_satisfied.Tie as tie
 

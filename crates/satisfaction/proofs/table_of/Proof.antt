@@ -1,6 +1,7 @@
 use borrow.Author.Needs.{needs}
 use Rattle.satisfaction.proofs.Series.{feature-named}
-use Rattle.satisfaction.proofs.Tables.{role-positive, table-below, table-disjoint, table-feature, table-range, table-role}
+use Rattle.satisfaction.proofs.Tables.{role-positive, table-below, table-disjoint, table-feature, table-many, table-range}
+use Rattle.satisfaction.proofs.Tables.{table-role}
 use Rattle.satisfaction.proofs.table_of.Statement.{statement}
 use Rattle.satisfaction.proofs.table_of.Tie as tie
 
@@ -22,4 +23,5 @@ table-of-spec =
     (λ c. search table-disjoint)
     (λ c. search table-role)
     (λ c. search table-feature)
-    (λ c. search table-range))
+    (λ c. search table-range)
+    (λ c. search table-many))
