@@ -21,7 +21,7 @@ use Rattle.meaning.specs.Lists.{cons, nil}
 use Rattle.meaning.specs.Operations.{Outcome, outputAfter, readVocabulary, refuses, unless, written}
 use Rattle.meaning.specs.Records.{orElse}
 use Rattle.meaning.specs.Stated.{isFunctionalFeature, isFunctionalRole}
-use Rattle.meaning.specs.Vocabulary.{functionalFeatureName, functionalRoleName, isNamed, vocabularyOf}
+use Rattle.meaning.specs.Vocabulary.{isNamed, vocabularyOf}
 use Rattle.meaning.specs.declared.Filling.{Filling}
 use Rattle.meaning.specs.declared.Filling.the-variants as filling
 use Rattle.owl.proofs.Promises.{owl-accepted, owl-functional-feature, owl-functional-role, owl-states}
@@ -108,8 +108,8 @@ module _ {text o o′ : List ℕ} {r : Filling} (c : OwlPost text o o′ r) wher
     owl-written-states = ap vocabularyOf first-words ∙ owl-states text (length o) n told
 
     -- a role is functional in them exactly when an axiom of the text says so, and a feature too
-    pub owl-written-functional-role : (x : ℕ) → isFunctionalRole (vocabularyOf (take n o′)) x ≡ isNamed functionalRoleName (axiomsIn (statementsOf text)) x
+    pub owl-written-functional-role : (x : ℕ) → isFunctionalRole (vocabularyOf (take n o′)) x ≡ isNamed 3 (axiomsIn (statementsOf text)) x
     owl-written-functional-role x = ap (λ (v : List ℕ). isFunctionalRole (vocabularyOf v) x) first-words ∙ owl-functional-role text (length o) n told x
 
-    pub owl-written-functional-feature : (x : ℕ) → isFunctionalFeature (vocabularyOf (take n o′)) x ≡ isNamed functionalFeatureName (axiomsIn (statementsOf text)) x
+    pub owl-written-functional-feature : (x : ℕ) → isFunctionalFeature (vocabularyOf (take n o′)) x ≡ isNamed 4 (axiomsIn (statementsOf text)) x
     owl-written-functional-feature x = ap (λ (v : List ℕ). isFunctionalFeature (vocabularyOf v) x) first-words ∙ owl-functional-feature text (length o) n told x

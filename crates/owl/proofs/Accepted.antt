@@ -13,7 +13,7 @@ use Rattle.meaning.specs.Accepted.{NamedAxiom}
 use Rattle.meaning.specs.Lists.{All, all, cons, flatMap, nil}
 use Rattle.meaning.specs.Program.{bytes}
 use Rattle.meaning.specs.Records.{Name}
-use Rattle.meaning.specs.Vocabulary.{Axiom, below, disjoint, functionalFeature, functionalRole, manyFeatureName, manyRoleName, range}
+use Rattle.meaning.specs.Vocabulary.{Axiom, below, disjoint, functionalFeature, functionalRole, nameBy, namesBy, range}
 use Rattle.name_table.proofs.Numbers.{number-of-range}
 use Rattle.owl.specs.Owl.{axiomOf, axiomsBy, axiomsIn}
 use Rattle.statements.specs.Forms.{Front, Parsed, Symbol, Row, Sort, Statement, Taken, Use, after, afterOpening, ahead, class, declares, exactly, feature}
@@ -182,12 +182,12 @@ axioms-none select h l [] = refl
 axioms-none select h l (declares s us ∷ m) = axioms-none select h l m
 axioms-none select h l (states k us ∷ m) = rw (h k (map (numberIn l) us), axioms-none select h l m)
 
-pub no-many-role : (l : List Statement) → flatMap manyRoleName (axiomsIn l) ≡ []
-unfolding axiomsIn
+pub no-many-role : (l : List Statement) → namesBy 6 (axiomsIn l) ≡ []
+unfolding axiomsIn namesBy
 no-many-role l =
-    axioms-none manyRoleName (axiom-none manyRoleName (λ a b. refl) (λ a b. refl) (λ r. refl) (λ f. refl) (λ r c. refl)) l l
+    axioms-none (nameBy 6) (axiom-none (nameBy 6) (λ a b. refl) (λ a b. refl) (λ r. refl) (λ f. refl) (λ r c. refl)) l l
 
-pub no-many-feature : (l : List Statement) → flatMap manyFeatureName (axiomsIn l) ≡ []
-unfolding axiomsIn
+pub no-many-feature : (l : List Statement) → namesBy 7 (axiomsIn l) ≡ []
+unfolding axiomsIn namesBy
 no-many-feature l =
-    axioms-none manyFeatureName (axiom-none manyFeatureName (λ a b. refl) (λ a b. refl) (λ r. refl) (λ f. refl) (λ r c. refl)) l l
+    axioms-none (nameBy 7) (axiom-none (nameBy 7) (λ a b. refl) (λ a b. refl) (λ r. refl) (λ f. refl) (λ r c. refl)) l l

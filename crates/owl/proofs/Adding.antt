@@ -9,14 +9,14 @@ use lib.Ieee.Bits.{is-false, is-true}
 use Rattle.meaning.proofs.Defaults.{functional-feature, functional-role, in-unnamed, unnamed-names}
 use Rattle.meaning.proofs.Links.{bounds}
 use Rattle.meaning.proofs.Rules.{T-and, all-append, all-at, all-flatMap, all-map, all-mono, any-at, any-in, any-mono, any-out, eqb-of, isFalse, isTrue}
-use Rattle.meaning.proofs.Rules.{notTrue, same-test}
+use Rattle.meaning.proofs.Rules.{flatMap-append, notTrue, same-test}
 use Rattle.meaning.specs.Accepted.{NamedAxiom}
 use Rattle.meaning.specs.Lists.{All, _∈_, any, cons, flatMap, nil}
 use Rattle.meaning.specs.Records.{Name, isName}
 use Rattle.meaning.specs.Stated.{isFunctionalFeature, isFunctionalRole, isManyFeature, isManyRole}
-use Rattle.meaning.specs.Vocabulary.{Axiom, below, disjoint, functionalFeature, functionalFeatureName, functionalRole}
-use Rattle.meaning.specs.Vocabulary.{functionalRoleName, isNamed, isOpposed, manyFeature, manyFeatureName, manyRole, manyRoleName, range, unnamed}
-use Rattle.owl.proofs.Lists.{flatMap-again, flatMap-append, flatMap-none}
+use Rattle.meaning.specs.Vocabulary.{Axiom, below, disjoint, functionalFeature, functionalRole, isNamed, isOpposed, manyFeature}
+use Rattle.meaning.specs.Vocabulary.{manyRole, nameBy, namesBy, range, unnamed}
+use Rattle.owl.proofs.Lists.{flatMap-again, flatMap-none}
 
 -- ---- one series: L makes functional what l does, and many-valued all else of its n names
 
@@ -40,12 +40,12 @@ none-shared xs ys h =
     let found = any-at (any-out (λ x. any (eqb x) xs) ys t) in
     h (found .0) (listed (found .0) xs (found .2)) (found .1))
 
-module _ (one many : Axiom → List ℕ) (l L : List Axiom) (n : ℕ) (ones : flatMap one L ≡ flatMap one l) (others : flatMap many L ≡ unnamed one l n) where
-  none-both : any (isNamed many L) (flatMap one L) ≡ false
+module _ (one many : ℕ) (l L : List Axiom) (n : ℕ) (ones : namesBy one L ≡ namesBy one l) (others : namesBy many L ≡ unnamed one l n) where
+  none-both : any (isNamed many L) (namesBy one L) ≡ false
   unfolding isNamed
   none-both =
       ap₂ (λ (xs ys : List ℕ). any (λ x. any (eqb x) xs) ys) others ones
-      ∙ none-shared (unnamed one l n) (flatMap one l) (λ x m k. notTrue (all-at (unnamed-names one l n) m .1) (is-listed x (flatMap one l) k))
+      ∙ none-shared (unnamed one l n) (namesBy one l) (λ x m k. notTrue (all-at (unnamed-names one l n) m .1) (is-listed x (namesBy one l) k))
 
   many-others : (x : ℕ) → isNamed many L x ≡ isName n x && not (isNamed one l x)
   unfolding isNamed
@@ -60,16 +60,16 @@ module _ (one many : Axiom → List ℕ) (l L : List Axiom) (n : ℕ) (ones : fl
       rw others (is-listed x (unnamed one l n) (in-unnamed one l n x (simp bounds at e) (is-false (isNamed one l x) (u .1)))))
 
   -- a counted name that is not many-valued is one that l makes functional
-  counted-ones : All (Name n) (flatMap one l) → (x : ℕ) → isName n x && not (isNamed many L x) ≡ isNamed one l x
+  counted-ones : All (Name n) (namesBy one l) → (x : ℕ) → isName n x && not (isNamed many L x) ≡ isNamed one l x
   unfolding isNamed
   counted-ones named x =
       ap (λ (b : Bool). isName n x && not b) (many-others x)
-      ∙ all-but (isName n x) (isNamed one l x) (λ t. isTrue {b = isName n x} (simp bounds (all-at named (listed x (flatMap one l) t))))
+      ∙ all-but (isName n x) (isNamed one l x) (λ t. isTrue {b = isName n x} (simp bounds (all-at named (listed x (namesBy one l) t))))
 
 -- ---- both
 
 -- the names of an axiom that makes functional are those of its series
-role-name : (N R F : ℕ) (x : Axiom) → NamedAxiom N R F x → All (Name R) (functionalRoleName x)
+role-name : (N R F : ℕ) (x : Axiom) → NamedAxiom N R F x → All (Name R) (nameBy 3 x)
 role-name N R F (below a b) h = nil
 role-name N R F (disjoint a b) h = nil
 role-name N R F (functionalRole r) h = cons h nil
@@ -78,7 +78,7 @@ role-name N R F (range r c) h = nil
 role-name N R F (manyRole r) h = nil
 role-name N R F (manyFeature f) h = nil
 
-feature-name : (N R F : ℕ) (x : Axiom) → NamedAxiom N R F x → All (Name F) (functionalFeatureName x)
+feature-name : (N R F : ℕ) (x : Axiom) → NamedAxiom N R F x → All (Name F) (nameBy 4 x)
 feature-name N R F (below a b) h = nil
 feature-name N R F (disjoint a b) h = nil
 feature-name N R F (functionalRole r) h = nil
@@ -88,69 +88,78 @@ feature-name N R F (manyRole r) h = nil
 feature-name N R F (manyFeature f) h = nil
 
 module _ {N R F : ℕ} {l : List Axiom} (named : All (NamedAxiom N R F) l) where
-  pub roles-named : All (Name R) (flatMap functionalRoleName l)
-  roles-named = all-flatMap functionalRoleName (all-mono (role-name N R F) named)
+  pub roles-named : All (Name R) (namesBy 3 l)
+  unfolding namesBy
+  roles-named = all-flatMap (nameBy 3) (all-mono (role-name N R F) named)
 
-  pub features-named : All (Name F) (flatMap functionalFeatureName l)
-  features-named = all-flatMap functionalFeatureName (all-mono (feature-name N R F) named)
+  pub features-named : All (Name F) (namesBy 4 l)
+  unfolding namesBy
+  features-named = all-flatMap (nameBy 4) (all-mono (feature-name N R F) named)
 
 module _ (l : List Axiom) (R F : ℕ) where
   abbrev pub added : List Axiom
-  added = map manyRole (unnamed functionalRoleName l R) ++ map manyFeature (unnamed functionalFeatureName l F)
+  added = map manyRole (unnamed 3 l R) ++ map manyFeature (unnamed 4 l F)
 
   pub added-named : (N : ℕ) → All (NamedAxiom N R F) l → All (NamedAxiom N R F) (l ++ added)
   added-named N named =
       all-append named
-      (all-append (all-map manyRole (all-mono (λ r h. h .0) (unnamed-names functionalRoleName l R)))
-      (all-map manyFeature (all-mono (λ f h. h .0) (unnamed-names functionalFeatureName l F))))
+      (all-append (all-map manyRole (all-mono (λ r h. h .0) (unnamed-names 3 l R)))
+      (all-map manyFeature (all-mono (λ f h. h .0) (unnamed-names 4 l F))))
 
   abbrev manyRoles : List ℕ
-  manyRoles = unnamed functionalRoleName l R
+  manyRoles = unnamed 3 l R
 
   abbrev manyFeatures : List ℕ
-  manyFeatures = unnamed functionalFeatureName l F
+  manyFeatures = unnamed 4 l F
 
-  -- what a selector finds in all of them, by what it finds in each part
-  found : (select : Axiom → List ℕ) → flatMap select (l ++ added) ≡ flatMap select l ++ (flatMap select (map manyRole manyRoles) ++ flatMap select (map manyFeature manyFeatures))
-  found select = flatMap-append select l added ∙ ap (λ (xs : List ℕ). flatMap select l ++ xs) (flatMap-append select (map manyRole manyRoles) (map manyFeature manyFeatures))
+  -- the names of a kind in all of them, by those in each part
+  found : (kind : ℕ) → namesBy kind (l ++ added) ≡ namesBy kind l ++ (namesBy kind (map manyRole manyRoles) ++ namesBy kind (map manyFeature manyFeatures))
+  unfolding namesBy
+  found kind =
+      flatMap-append (nameBy kind) l added
+      ∙ ap (λ (xs : List ℕ). namesBy kind l ++ xs) (flatMap-append (nameBy kind) (map manyRole manyRoles) (map manyFeature manyFeatures))
 
-  role-ones : flatMap functionalRoleName (l ++ added) ≡ flatMap functionalRoleName l
+  role-ones : namesBy 3 (l ++ added) ≡ namesBy 3 l
+  unfolding namesBy
   role-ones =
-      found functionalRoleName
-      ∙ rw (flatMap-none functionalRoleName manyRole (λ x. refl) manyRoles, flatMap-none functionalRoleName manyFeature (λ x. refl) manyFeatures, append-nil)
+      found 3
+      ∙ rw (flatMap-none (nameBy 3) manyRole (λ x. refl) manyRoles, flatMap-none (nameBy 3) manyFeature (λ x. refl) manyFeatures, append-nil)
 
-  feature-ones : flatMap functionalFeatureName (l ++ added) ≡ flatMap functionalFeatureName l
+  feature-ones : namesBy 4 (l ++ added) ≡ namesBy 4 l
+  unfolding namesBy
   feature-ones =
-      found functionalFeatureName
-      ∙ rw (flatMap-none functionalFeatureName manyRole (λ x. refl) manyRoles, flatMap-none functionalFeatureName manyFeature (λ x. refl) manyFeatures, append-nil)
+      found 4
+      ∙ rw (flatMap-none (nameBy 4) manyRole (λ x. refl) manyRoles, flatMap-none (nameBy 4) manyFeature (λ x. refl) manyFeatures, append-nil)
 
-  module _ (noRole : flatMap manyRoleName l ≡ []) (noFeature : flatMap manyFeatureName l ≡ []) where
-    role-others : flatMap manyRoleName (l ++ added) ≡ unnamed functionalRoleName l R
+  module _ (noRole : namesBy 6 l ≡ []) (noFeature : namesBy 7 l ≡ []) where
+    role-others : namesBy 6 (l ++ added) ≡ unnamed 3 l R
+    unfolding namesBy
     role-others =
-        found manyRoleName
-        ∙ rw (noRole, flatMap-again manyRoleName manyRole (λ x. refl) manyRoles, flatMap-none manyRoleName manyFeature (λ x. refl) manyFeatures, append-nil)
+        found 6
+        ∙ rw (noRole, flatMap-again (nameBy 6) manyRole (λ x. refl) manyRoles, flatMap-none (nameBy 6) manyFeature (λ x. refl) manyFeatures, append-nil)
 
-    feature-others : flatMap manyFeatureName (l ++ added) ≡ unnamed functionalFeatureName l F
+    feature-others : namesBy 7 (l ++ added) ≡ unnamed 4 l F
+    unfolding namesBy
     feature-others =
-        found manyFeatureName
-        ∙ rw (noFeature, flatMap-none manyFeatureName manyRole (λ x. refl) manyRoles, flatMap-again manyFeatureName manyFeature (λ x. refl) manyFeatures)
+        found 7
+        ∙ rw (noFeature, flatMap-none (nameBy 7) manyRole (λ x. refl) manyRoles, flatMap-again (nameBy 7) manyFeature (λ x. refl) manyFeatures)
 
     -- no name stands both ways
     pub added-apart : isOpposed (l ++ added) ≡ false
     unfolding isOpposed
     added-apart =
-        rw (none-both functionalRoleName manyRoleName l (l ++ added) R role-ones role-others, none-both functionalFeatureName manyFeatureName l (l ++ added) F feature-ones feature-others)
+        rw (none-both 3 6 l (l ++ added) R role-ones role-others, none-both 4 7 l (l ++ added) F feature-ones feature-others)
 
     -- a name is functional exactly when l makes it so
     module _ (N : ℕ) (named : All (NamedAxiom N R F) l) where
-      pub added-role : (r : ℕ) → isFunctionalRole (record { classes = N; roles = R; features = F; axioms = l ++ added }) r ≡ isNamed functionalRoleName l r
+      pub added-role : (r : ℕ) → isFunctionalRole (record { classes = N; roles = R; features = F; axioms = l ++ added }) r ≡ isNamed 3 l r
       unfolding isManyRole
       added-role r =
           functional-role (record { classes = N; roles = R; features = F; axioms = l ++ added }) (added-named N named) added-apart r
-          ∙ counted-ones functionalRoleName manyRoleName l (l ++ added) R role-ones role-others (roles-named named) r
+          ∙ counted-ones 3 6 l (l ++ added) R role-ones role-others (roles-named named) r
 
-      pub added-feature : (f : ℕ) → isFunctionalFeature (record { classes = N; roles = R; features = F; axioms = l ++ added }) f ≡ isNamed functionalFeatureName l f
+      pub added-feature : (f : ℕ) → isFunctionalFeature (record { classes = N; roles = R; features = F; axioms = l ++ added }) f ≡ isNamed 4 l f
       unfolding isManyFeature
       added-feature f =
           functional-feature (record { classes = N; roles = R; features = F; axioms = l ++ added }) (added-named N named) added-apart f
-          ∙ counted-ones functionalFeatureName manyFeatureName l (l ++ added) F feature-ones feature-others (features-named named) f
+          ∙ counted-ones 4 7 l (l ++ added) F feature-ones feature-others (features-named named) f

@@ -1,17 +1,9 @@
 -- Lists that are made of lists.
 use Prim.Native.Nat.{ℕ}
 use mathlib.Core.Bool.{Bool}
-use mathlib.Core.List.{List, [], _++_, _∷_, append-assoc, map}
-use mathlib.Core.Path.{_≡_, refl, sym}
+use mathlib.Core.List.{List, [], _∷_, map}
+use mathlib.Core.Path.{_≡_, refl}
 use Rattle.meaning.specs.Lists.{filter, flatMap}
-
-pub flatMap-append : {A B : Type 0} (f : A → List B) (l m : List A) → flatMap f (l ++ m) ≡ flatMap f l ++ flatMap f m
-flatMap-append f [] m = refl
-flatMap-append f (x ∷ l) m = rw (flatMap-append f l m) (sym (append-assoc (f x) (flatMap f l) (flatMap f m)))
-
-pub flatMap-alike : {A B : Type 0} (f g : A → List B) → ((x : A) → f x ≡ g x) → (l : List A) → flatMap f l ≡ flatMap g l
-flatMap-alike f g h [] = refl
-flatMap-alike f g h (x ∷ l) = rw (h x, flatMap-alike f g h l)
 
 pub filter-alike : (p q : ℕ → Bool) → ((x : ℕ) → p x ≡ q x) → (l : List ℕ) → filter p l ≡ filter q l
 filter-alike p q h [] = refl

@@ -14,9 +14,9 @@ use Rattle.declarations.specs.declared.Counts.{Counts}
 use Rattle.frames.specs.Rows.{putAt}
 use Rattle.meaning.proofs.VocabularyWords.{axiom-length}
 use Rattle.meaning.specs.Lists.{all, flatMap}
-use Rattle.meaning.specs.Vocabulary.{Axiom, axiomWords}
+use Rattle.meaning.specs.Vocabulary.{Axiom, axiomWords, nameBy, namesBy}
 use Rattle.owl.specs.Owl.{axiomsBy, axiomsIn}
-use Rattle.owl.specs.Passes.{Begins, Here, Ready, axioms, firstNameBy, firstNumber, namesBy, secondNumber, statementsOf}
+use Rattle.owl.specs.Passes.{Begins, Here, Ready, axioms, firstNumber, secondNumber, statementsOf}
 use Rattle.owl.proofs.Lists.{flatMap-append}
 use Rattle.owl.proofs.Looking.{firstOf, secondOf}
 use Rattle.records.proofs.Writing.{Left, left-end, left-start, turn-more, turn-room}
@@ -145,40 +145,40 @@ module _ {text : List ℕ} {last : ℕ} {entry out : List ℕ} {at k : ℕ} (w :
 
 -- an item of that kind has one, its first; no other has any
 names-of : (l : List Statement) (a b : Token) (kind : ℕ) → kind < 6 → (k : ℕ) → (k ≡ 0 → ⊥) → (k ≡ 9 → ⊥) → k ≤ 9 →
-    flatMap (firstNameBy kind) (axiomsBy l (statementOf k a b)) ≡ cond (eqb k kind) (firstOf l a b k ∷ []) []
+    flatMap (nameBy kind) (axiomsBy l (statementOf k a b)) ≡ cond (eqb k kind) (firstOf l a b k ∷ []) []
 names-of l a b kind h =
-    by-statement (λ (k : ℕ). flatMap (firstNameBy kind) (axiomsBy l (statementOf k a b)) ≡ cond (eqb k kind) (firstOf l a b k ∷ []) [])
+    by-statement (λ (k : ℕ). flatMap (nameBy kind) (axiomsBy l (statementOf k a b)) ≡ cond (eqb k kind) (firstOf l a b k ∷ []) [])
     (append-nil _) (append-nil _) (append-nil _) (append-nil _) (append-nil _)
     (rw (ne-eqb 6 kind (λ p. omega arith))) (rw (ne-eqb 7 kind (λ p. omega arith))) (rw (ne-eqb 8 kind (λ p. omega arith)))
 
 pub record Inserting (text : List ℕ) (kind : ℕ) (entry names : List ℕ) (at : ℕ) : Type 0 where
   pub parses : Parses text at
-  pub same : includingAll names (flatMap (firstNameBy kind) (axiomsFrom text at)) ≡ includingAll entry (namesBy text kind)
+  pub same : includingAll names (flatMap (nameBy kind) (axiomsFrom text at)) ≡ includingAll entry (namesBy kind (axiomsIn (statementsOf text)))
 
 pub insert-starts : {text table : List ℕ} {c : Counts} {start : ℕ} → Ready text table c → Begins text start → (kind : ℕ) (names : List ℕ) →
     Inserting text kind names names start
 unfolding namesBy
 insert-starts w b kind names =
-    record { parses = begins-parses b (w .parses); same = ap (λ (l : List Axiom). includingAll names (flatMap (firstNameBy kind) l)) (all-from w b) }
+    record { parses = begins-parses b (w .parses); same = ap (λ (l : List Axiom). includingAll names (flatMap (nameBy kind) l)) (all-from w b) }
 
 module _ {text : List ℕ} {kind : ℕ} {entry names : List ℕ} {at : ℕ} (w : Inserting text kind entry names at) where
   pub insert-long : length names ≡ length entry
-  insert-long = sym (length-includingAll _ names) ∙ ap length (w .same) ∙ length-includingAll (namesBy text kind) entry
+  insert-long = sym (length-includingAll _ names) ∙ ap length (w .same) ∙ length-includingAll (namesBy kind (axiomsIn (statementsOf text))) entry
 
 module _ {text : List ℕ} {kind : ℕ} {entry names : List ℕ} {at : ℕ} (w : Inserting text kind entry names at) {r : Item} (n : Next text at r) where
-  pub insert-ends : r .kind ≡ 9 → names ≡ includingAll entry (namesBy text kind)
+  pub insert-ends : r .kind ≡ 9 → names ≡ includingAll entry (namesBy kind (axiomsIn (statementsOf text)))
   unfolding includingAll
-  insert-ends h = sym (ap (λ (l : List Statement). includingAll names (flatMap (firstNameBy kind) (flatMap (axiomsBy (statementsOf text)) l))) (parses-end n (w .parses) h)) ∙ w .same
+  insert-ends h = sym (ap (λ (l : List Statement). includingAll names (flatMap (nameBy kind) (flatMap (axiomsBy (statementsOf text)) l))) (parses-end n (w .parses) h)) ∙ w .same
 
   module _ (g : r .kind ≡ 9 → ⊥) (h : kind < 6) where
-    next-names : flatMap (firstNameBy kind) (axiomsFrom text at) ≡ cond (eqb (r .kind) kind) (firstNumber text r ∷ []) [] ++ flatMap (firstNameBy kind) (axiomsFrom text (r .next))
+    next-names : flatMap (nameBy kind) (axiomsFrom text at) ≡ cond (eqb (r .kind) kind) (firstNumber text r ∷ []) [] ++ flatMap (nameBy kind) (axiomsFrom text (r .next))
     next-names =
-        ap (λ (l : List Statement). flatMap (firstNameBy kind) (flatMap (axiomsBy (statementsOf text)) l)) (parses-more n (w .parses) g)
-        ∙ flatMap-append (firstNameBy kind) (axiomsBy (statementsOf text) (itemAt text r)) (axiomsFrom text (r .next))
-        ∙ ap (λ (l : List ℕ). l ++ flatMap (firstNameBy kind) (axiomsFrom text (r .next)))
+        ap (λ (l : List Statement). flatMap (nameBy kind) (flatMap (axiomsBy (statementsOf text)) l)) (parses-more n (w .parses) g)
+        ∙ flatMap-append (nameBy kind) (axiomsBy (statementsOf text) (itemAt text r)) (axiomsFrom text (r .next))
+        ∙ ap (λ (l : List ℕ). l ++ flatMap (nameBy kind) (axiomsFrom text (r .next)))
         (names-of (statementsOf text) _ _ kind h (r .kind) (parses-some n (w .parses)) g (n .placed .few))
 
-    next-same : includingAll names (cond (eqb (r .kind) kind) (firstNumber text r ∷ []) [] ++ flatMap (firstNameBy kind) (axiomsFrom text (r .next))) ≡ includingAll entry (namesBy text kind)
+    next-same : includingAll names (cond (eqb (r .kind) kind) (firstNumber text r ∷ []) [] ++ flatMap (nameBy kind) (axiomsFrom text (r .next))) ≡ includingAll entry (namesBy kind (axiomsIn (statementsOf text)))
     next-same = ap (includingAll names) (sym next-names) ∙ w .same
 
     -- another item is passed

@@ -18,7 +18,7 @@ use Rattle.meaning.specs.Accepted.{NamedAxiom}
 use Rattle.meaning.specs.Lists.{All}
 use Rattle.meaning.specs.Operations.{readVocabulary, refuses, unless, written}
 use Rattle.meaning.specs.Stated.{isFunctionalFeature, isFunctionalRole}
-use Rattle.meaning.specs.Vocabulary.{Vocabulary, functionalFeatureName, functionalRoleName, isNamed, vocabularyOf, vocabularyWords}
+use Rattle.meaning.specs.Vocabulary.{Vocabulary, isNamed, vocabularyOf, vocabularyWords}
 use Rattle.name_table.proofs.Numbers.{number-at, number-injective}
 use Rattle.name_table.specs.Numbers.{repeats}
 use Rattle.owl.proofs.Accepted.{axioms-named, no-many-feature, no-many-role}
@@ -120,14 +120,14 @@ module _ (text : List ℕ) (o n : ℕ) (e : Wrote text o n) where
       (added-named A R F (length (declared class l)) named) (added-apart A R F (no-many-role l) (no-many-feature l))
 
   -- a role is functional in them exactly when an axiom of the text says so, and a feature too
-  pub owl-functional-role : (r : ℕ) → isFunctionalRole (vocabularyOf (readOwl text o .words)) r ≡ isNamed functionalRoleName (axiomsIn (statementsOf text)) r
+  pub owl-functional-role : (r : ℕ) → isFunctionalRole (vocabularyOf (readOwl text o .words)) r ≡ isNamed 3 (axiomsIn (statementsOf text)) r
   unfolding vocabularyIn manyIn
   owl-functional-role r =
       let l = statementsOf text in
       ap (λ (K : Vocabulary). isFunctionalRole K r) owl-states
       ∙ added-role (axiomsIn l) (length (declared role l)) (length (declared feature l)) (no-many-role l) (no-many-feature l) (length (declared class l)) named r
 
-  pub owl-functional-feature : (f : ℕ) → isFunctionalFeature (vocabularyOf (readOwl text o .words)) f ≡ isNamed functionalFeatureName (axiomsIn (statementsOf text)) f
+  pub owl-functional-feature : (f : ℕ) → isFunctionalFeature (vocabularyOf (readOwl text o .words)) f ≡ isNamed 4 (axiomsIn (statementsOf text)) f
   unfolding vocabularyIn manyIn
   owl-functional-feature f =
       let l = statementsOf text in

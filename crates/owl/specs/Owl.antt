@@ -11,8 +11,8 @@ use Rattle.meaning.specs.Limits.{mostAxioms, mostText}
 use Rattle.meaning.specs.Lists.{flatMap}
 use Rattle.meaning.specs.Operations.{Outcome, outputAfter, refuses, unless, written}
 use Rattle.meaning.specs.Records.{orElse}
-use Rattle.meaning.specs.Vocabulary.{Axiom, Vocabulary, below, disjoint, functionalFeature, functionalFeatureName, functionalRole}
-use Rattle.meaning.specs.Vocabulary.{functionalRoleName, manyFeature, manyRole, range, unnamed, vocabularyWords}
+use Rattle.meaning.specs.Vocabulary.{Axiom, Vocabulary, below, disjoint, functionalFeature, functionalRole, manyFeature, manyRole}
+use Rattle.meaning.specs.Vocabulary.{range, unnamed, vocabularyWords}
 use Rattle.meaning.specs.declared.Filling.{Filling}
 use Rattle.statements.specs.Forms.{Parsed, Statement, class, declares, feature, ontology, parsed, role, states, wrong}
 use Rattle.tokens.specs.Tokens.{tokens}
@@ -36,9 +36,7 @@ axiomsIn l = flatMap (axiomsBy l) l
 
 -- a role that no axiom makes functional has many values, and so has a feature: OWL knows no default
 unfoldable pub manyIn : List Statement → List Axiom
-manyIn l =
-    map manyRole (unnamed functionalRoleName (axiomsIn l) (length (declared role l)))
-    ++ map manyFeature (unnamed functionalFeatureName (axiomsIn l) (length (declared feature l)))
+manyIn l = map manyRole (unnamed 3 (axiomsIn l) (length (declared role l))) ++ map manyFeature (unnamed 4 (axiomsIn l) (length (declared feature l)))
 
 -- what statements say: how many names each sort has, the axioms, then who has many values
 unfoldable pub vocabularyIn : List Statement → Vocabulary

@@ -11,7 +11,7 @@ use Rattle.declarations.specs.declared.Counts.{Counts}
 use Rattle.meaning.specs.Limits.{mostRoles}
 use Rattle.meaning.specs.Lists.{All, flatMap}
 use Rattle.meaning.specs.Records.{Name}
-use Rattle.meaning.specs.Vocabulary.{Axiom, axiomWords, functionalFeatureName, functionalRoleName, unnamed}
+use Rattle.meaning.specs.Vocabulary.{Axiom, axiomWords, namesBy, unnamed}
 use Rattle.owl.specs.Owl.{axiomsIn}
 use Rattle.records.specs.Written.{Format}
 use Rattle.statements.specs.Forms.{Statement, feature, ontology, parsed, role}
@@ -57,30 +57,18 @@ axioms = record { width = 4; words = axiomWords }
 
 -- ---- who has many values
 
--- the first name of an axiom of a kind
-abbrev pub firstNameBy : ℕ → Axiom → List ℕ
-firstNameBy kind x = let ws = axiomWords x 0 in cond (eqb (getD ws 0 0) kind) (getD ws 1 0 ∷ []) []
-
--- the first names of the axioms of a kind
-unfoldable pub namesBy : List ℕ → ℕ → List ℕ
-namesBy text kind = flatMap (firstNameBy kind) (axiomsIn (statementsOf text))
-
--- the names 1 to n that are not among them
-unfoldable pub unnamedBy : List ℕ → ℕ → ℕ → List ℕ
-unnamedBy text kind n = unnamed (firstNameBy kind) (axiomsIn (statementsOf text)) n
-
--- they are names of a series of n that a set of roles has a bit for, and the kind is an axiom's
+-- the kind is an axiom's, and its names are of a series of n that a set of roles has a bit for
 pub record NamesWithin (text : List ℕ) (kind n : ℕ) : Type 0 where
   pub stating : kind < 6
   pub few : n ≤ mostRoles
-  pub named : All (Name n) (namesBy text kind)
+  pub named : All (Name n) (namesBy kind (axiomsIn (statementsOf text)))
 
 -- sets of the roles and of the features that have many values
 pub record Many (text roles features : List ℕ) : Type 0 where
   pub roleWords : capacity roles ≡ mostRoles
   pub featureWords : capacity features ≡ mostRoles
-  pub sameRoles : members roles ≡ unnamed functionalRoleName (axiomsIn (statementsOf text)) (length (declared role (statementsOf text)))
-  pub sameFeatures : members features ≡ unnamed functionalFeatureName (axiomsIn (statementsOf text)) (length (declared feature (statementsOf text)))
+  pub sameRoles : members roles ≡ unnamed 3 (axiomsIn (statementsOf text)) (length (declared role (statementsOf text)))
+  pub sameFeatures : members features ≡ unnamed 4 (axiomsIn (statementsOf text)) (length (declared feature (statementsOf text)))
 
 -- a record of a kind for a name
 abbrev pub naming : ℕ → Format ℕ

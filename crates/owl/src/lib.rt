@@ -36,11 +36,11 @@ ghost use Rattle.frames.specs.Rows.{putAt};
 ghost use Rattle.meaning.specs.Limits.{mostText};
 ghost use Rattle.meaning.specs.Lists.{all};
 ghost use Rattle.meaning.specs.Operations.{outputAfter};
-ghost use Rattle.meaning.specs.Vocabulary.{vocabularyWords};
+ghost use Rattle.meaning.specs.Vocabulary.{namesBy, unnamed, vocabularyWords};
 ghost use Rattle.name_table.specs.Numbers.{numberOf};
 ghost use Rattle.owl.specs.Owl.{OwlPost, axiomsIn, vocabularyIn};
-ghost use Rattle.owl.specs.Passes.{Begins, Here, Many, NamesWithin, Ready, axioms, firstNumber, namesBy, naming, secondNumber};
-ghost use Rattle.owl.specs.Passes.{statementsOf, unnamedBy};
+ghost use Rattle.owl.specs.Passes.{Begins, Here, Many, NamesWithin, Ready, axioms, firstNumber, naming, secondNumber};
+ghost use Rattle.owl.specs.Passes.{statementsOf};
 ghost use Rattle.records.specs.Written.{Room, RoomFor, Written, linkAt};
 ghost use Rattle.statements.specs.Forms.{class, feature, ontology, role};
 ghost use Rattle.statements.specs.Found.{Within, itemAt};
@@ -188,7 +188,7 @@ fn are_counted(c: Counts) -> bool
 // Puts the first name of every axiom of a kind into a set.
 fn insert_named(text: &[u8], start: usize, table: &[u32], c: Counts, kind: u32, names: &mut [u32])
     requires { ⌜ Ready (now text) (now table) c × Begins (now text) start × (kind < 6) ⌝ }
-    ensures { λ _. ⌜ now (names .exit) ≡ includingAll (now (names .entry)) (namesBy (now (text .entry)) kind) ⌝ }
+    ensures { λ _. ⌜ now (names .exit) ≡ includingAll (now (names .entry)) (namesBy kind (axiomsIn (statementsOf (now (text .entry))))) ⌝ }
 {
     let mut at = start;
     loop {
@@ -209,7 +209,7 @@ fn insert_named(text: &[u8], start: usize, table: &[u32], c: Counts, kind: u32, 
 const NAME_WORDS: usize = MOST_ROLES as usize / 32;
 
 // The names 1 to n that no axiom of a kind names first.
-fn unnamed(
+fn find_unnamed(
     text: &[u8],
     start: usize,
     table: &[u32],
@@ -218,7 +218,7 @@ fn unnamed(
     n: u32,
 ) -> [u32; NAME_WORDS]
     requires { ⌜ Ready (now text) (now table) c × Begins (now text) start × NamesWithin (now text) kind n ⌝ }
-    ensures { λ r. ⌜ members r ≡ unnamedBy (now (text .entry)) kind n ⌝ }
+    ensures { λ r. ⌜ members r ≡ unnamed kind (axiomsIn (statementsOf (now (text .entry)))) n ⌝ }
 {
     let mut names = [0u32; NAME_WORDS];
     let mut others = [0u32; NAME_WORDS];
@@ -351,8 +351,8 @@ fn finish(text: &[u8], start: usize, table: &[u32], c: Counts, out: &mut [u32]) 
     if !are_sound(text, start, table, c) {
         return Filling::Refused(42);
     }
-    let roles = unnamed(text, start, table, c, 3, c.roles as u32);
-    let features = unnamed(text, start, table, c, 4, c.features as u32);
+    let roles = find_unnamed(text, start, table, c, 3, c.roles as u32);
+    let features = find_unnamed(text, start, table, c, 4, c.features as u32);
     write(text, start, table, c, &roles[..], &features[..], out)
 }
 

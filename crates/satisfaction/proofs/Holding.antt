@@ -21,7 +21,7 @@ use Rattle.meaning.specs.ModelCheck.{isModel, obeys}
 use Rattle.meaning.specs.Records.{Name, isName}
 use Rattle.meaning.specs.Stated.{isFunctionalFeature, isFunctionalRole, isManyFeature, isManyRole}
 use Rattle.meaning.specs.Vocabulary.{Axiom, Vocabulary, axiomAt, axiomNext, defaults, firstAxiom, functionalFeature, functionalRole}
-use Rattle.meaning.specs.Vocabulary.{manyFeatureName, manyRoleName, stated, unnamed, vocabularyOf, vocabularyRefusal}
+use Rattle.meaning.specs.Vocabulary.{stated, unnamed, vocabularyOf, vocabularyRefusal}
 use Rattle.satisfaction.proofs.Series.{feature-iff, role-iff}
 use Rattle.satisfaction.proofs.Statements.{Obeying, obeying-ends, obeying-fails, obeying-named, obeying-on, obeying-starts}
 use Rattle.satisfaction.proofs.Tables.{decides}
@@ -148,8 +148,8 @@ unfolding stated defaults
 stated-more K a role feature =
     all-append a
     (all-append
-    (all-map functionalRole (all-of (unnamed manyRoleName (K .axioms) (K .roles)) (λ r m. role r (functionalRole-stated K r (role-default K r m)))))
-    (all-map functionalFeature (all-of (unnamed manyFeatureName (K .axioms) (K .features)) (λ f m. feature f (functionalFeature-stated K f (feature-default K f m))))))
+    (all-map functionalRole (all-of (unnamed 6 (K .axioms) (K .roles)) (λ r m. role r (functionalRole-stated K r (role-default K r m)))))
+    (all-map functionalFeature (all-of (unnamed 7 (K .axioms) (K .features)) (λ f m. feature f (functionalFeature-stated K f (feature-default K f m))))))
 
 -- a functional name is one that a vocabulary may count
 name-of : {n most : ℕ} (x : ℕ) (b many : Bool) → n ≤ most → b ≡ isName n x && not many → T b → Name most x

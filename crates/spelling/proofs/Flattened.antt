@@ -19,9 +19,8 @@ use Rattle.meaning.specs.Stated.{closure, isBelow, isFunctionalFeature, isFunct
 use Rattle.meaning.specs.Stated.{subclass, subclasses}
 use Rattle.meaning.specs.Vocabulary.{Axiom, Vocabulary, axiomAt, axiomFits, axiomKind, axiomLeft, axiomNext, axiomRight, axiomsFrom}
 use Rattle.meaning.specs.Vocabulary.{axiomsOf, axiomsRefusal, below, classCount, defaults, disjoint, featureCount, firstAxiom}
-use Rattle.meaning.specs.Vocabulary.{functionalFeature, functionalFeatureName, functionalRole, functionalRoleName, isNamed, isOpposed}
-use Rattle.meaning.specs.Vocabulary.{manyFeature, manyFeatureName, manyRole, manyRoleName, range, roleCount, soundAxiom, stated}
-use Rattle.meaning.specs.Vocabulary.{unnamed, vocabularyOf, vocabularyRefusal}
+use Rattle.meaning.specs.Vocabulary.{functionalFeature, functionalRole, isNamed, isOpposed, manyFeature, manyRole, nameBy, namesBy}
+use Rattle.meaning.specs.Vocabulary.{range, roleCount, soundAxiom, stated, unnamed, vocabularyOf, vocabularyRefusal}
 
 abbrev pub flatOne : Axiom → Axiom
 flatOne (below a b) = below a a
@@ -82,45 +81,48 @@ module _ {A : Type 0} (f : Axiom → List A) (h : (a b : ℕ) → f (below a a) 
   kept [] = refl
   kept (x ∷ l) = ap₂ _++_ (kept-one x) (kept l)
 
-module _ (select : Axiom → List ℕ) (h : (a b : ℕ) → select (below a a) ≡ select (below a b)) (l : List Axiom) where
-  kept-named : isNamed select (map flatOne l) ≡ isNamed select l
-  unfolding isNamed
-  kept-named = fun-ext (λ x. ap (any (eqb x)) (kept select h l))
+module _ (kind : ℕ) (h : (a b : ℕ) → nameBy kind (below a a) ≡ nameBy kind (below a b)) (l : List Axiom) where
+  kept-names : namesBy kind (map flatOne l) ≡ namesBy kind l
+  unfolding namesBy
+  kept-names = kept (nameBy kind) h l
 
-  kept-unnamed : (n : ℕ) → unnamed select (map flatOne l) n ≡ unnamed select l n
+  kept-named : isNamed kind (map flatOne l) ≡ isNamed kind l
+  unfolding isNamed
+  kept-named = fun-ext (λ x. ap (any (eqb x)) kept-names)
+
+  kept-unnamed : (n : ℕ) → unnamed kind (map flatOne l) n ≡ unnamed kind l n
   unfolding unnamed
   kept-unnamed n = ap (λ (p : ℕ → Bool). filter (λ x. not (p x)) (counting 1 n)) kept-named
 
   -- with more axioms behind them, too
-  kept-stated : (d : List Axiom) → isNamed select (map flatOne l ++ d) ≡ isNamed select (l ++ d)
-  unfolding isNamed
+  kept-stated : (d : List Axiom) → isNamed kind (map flatOne l ++ d) ≡ isNamed kind (l ++ d)
+  unfolding isNamed namesBy
   kept-stated d =
       fun-ext (λ x.
-      ap (any (eqb x)) (flatMap-append select (map flatOne l) d ∙ ap (λ (m : List ℕ). m ++ flatMap select d) (kept select h l) ∙ sym (flatMap-append select l d)))
+      ap (any (eqb x)) (flatMap-append (nameBy kind) (map flatOne l) d ∙ ap (λ (m : List ℕ). m ++ namesBy kind d) kept-names ∙ sym (flatMap-append (nameBy kind) l d)))
 
 flattened-opposed : (l : List Axiom) → isOpposed (map flatOne l) ≡ isOpposed l
 unfolding isOpposed
 flattened-opposed l =
-    rw (kept-named manyRoleName (λ a b. refl) l, kept-named manyFeatureName (λ a b. refl) l, kept functionalRoleName (λ a b. refl) l,
-    kept functionalFeatureName (λ a b. refl) l)
+    rw (kept-named 6 (λ a b. refl) l, kept-named 7 (λ a b. refl) l, kept-names 3 (λ a b. refl) l, kept-names 4 (λ a b. refl) l)
 
 module _ (K : Vocabulary) where
   flattened-defaults : defaults (flattened K) ≡ defaults K
   unfolding defaults
-  flattened-defaults = rw (kept-unnamed manyRoleName (λ a b. refl) (K .axioms), kept-unnamed manyFeatureName (λ a b. refl) (K .axioms))
+  flattened-defaults = rw (kept-unnamed 6 (λ a b. refl) (K .axioms), kept-unnamed 7 (λ a b. refl) (K .axioms))
 
-  flattened-stated : (select : Axiom → List ℕ) → ((a b : ℕ) → select (below a a) ≡ select (below a b)) → (x : ℕ) →
-      isNamed select (stated (flattened K)) x ≡ isNamed select (stated K) x
+  flattened-stated : (kind : ℕ) → ((a b : ℕ) → nameBy kind (below a a) ≡ nameBy kind (below a b)) → (x : ℕ) →
+      isNamed kind (stated (flattened K)) x ≡ isNamed kind (stated K) x
   unfolding stated
-  flattened-stated select h x = rw flattened-defaults (ap (λ (p : ℕ → Bool). p x) (kept-stated select h (K .axioms) (defaults K)))
+  flattened-stated kind h x = rw flattened-defaults (ap (λ (p : ℕ → Bool). p x) (kept-stated kind h (K .axioms) (defaults K)))
 
   flattened-role : (r : ℕ) → isFunctionalRole (flattened K) r ≡ isFunctionalRole K r
   unfolding isFunctionalRole
-  flattened-role = flattened-stated functionalRoleName (λ a b. refl)
+  flattened-role = flattened-stated 3 (λ a b. refl)
 
   flattened-feature : (f : ℕ) → isFunctionalFeature (flattened K) f ≡ isFunctionalFeature K f
   unfolding isFunctionalFeature
-  flattened-feature = flattened-stated functionalFeatureName (λ a b. refl)
+  flattened-feature = flattened-stated 4 (λ a b. refl)
 
   flattened-ranges : (r : ℕ) → ranges (flattened K) r ≡ ranges K r
   unfolding ranges rangePairs

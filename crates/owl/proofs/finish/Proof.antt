@@ -23,6 +23,6 @@ finish-spec =
     (λ c κs.
     let p = c .before .before .before .before .before .before .before .before .before .before .before .before .pre in
     let sound = sym (c .before .before .before .before .before .before .before .before .are-sound .ensures) ∙ not-false _ (c .before .before .before .before .before .before .before .if1 .left) in
-    ((p .0, p .1, p .2), (sound, many-sets (p .0) sound (search needs) (search needs) (c .before .before .before .before .before .unnamed .ensures) (c .before .before .before .unnamed2 .ensures))))
+    ((p .0, p .1, p .2), (sound, many-sets (p .0) sound (search needs) (search needs) (c .before .before .before .before .before .find-unnamed .ensures) (c .before .before .before .find-unnamed2 .ensures))))
     (λ c. search needs)
     (λ c. c .before .before .write .ensures))

@@ -1,10 +1,10 @@
 use borrow.Author.Needs.{needs}
 use Rattle.owl.proofs.Others.{others-unnamed}
-use Rattle.owl.proofs.unnamed.Statement.{statement}
-use Rattle.owl.proofs.unnamed.Tie as tie
+use Rattle.owl.proofs.find_unnamed.Statement.{statement}
+use Rattle.owl.proofs.find_unnamed.Tie as tie
 
-pub unnamed-spec : {M : Type 1} → statement M
-unnamed-spec =
+pub find-unnamed-spec : {M : Type 1} → statement M
+find-unnamed-spec =
     tie.close
     (tie.spec
     (λ c. search needs)
