@@ -1,4 +1,4 @@
--- Laws of the tables that statements are held to: which one a record of the vocabulary takes, one table more, and all records.
+-- Laws of the tables that statements are held to: which one a record of the vocabulary takes, one table more, and no table yet.
 use Prim.Native.Nat.{_%_, _*_, _+_, _<_, _^_, _≤_, ℕ}
 use mathlib.Core.Bool.{Bool, _||_, false, not, or-false, or-true, true, true≢false}
 use mathlib.Core.List.{List}
