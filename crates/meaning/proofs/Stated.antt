@@ -198,13 +198,18 @@ module _ {P : Axiom → Type 0} (K : Vocabulary) where
       many-feature-of g (manyRole r) o m = absurd (any-none m)
       many-feature-of g (manyFeature f) o m = subst (λ (k : ℕ). P (manyFeature k)) (sym (eqb→eq g f (any-single m))) o
 
-  pub stated-all : AllStated P K → All P (stated K)
+  -- the axioms of the chain, and what is functional
+  pub stated-more : All P (K .axioms) → ((r : ℕ) → T (isFunctionalRole K r) → P (functionalRole r)) →
+      ((f : ℕ) → T (isFunctionalFeature K f) → P (functionalFeature f)) → All P (stated K)
   unfolding stated defaults
-  stated-all o =
-      all-append (all-of (K .axioms) each)
+  stated-more a role feature =
+      all-append a
       (all-append
-      (all-map functionalRole (all-of (unnamed 6 (K .axioms) (K .roles)) (λ r m. o .role r (functionalRole-stated K r (role-default K r m)))))
-      (all-map functionalFeature (all-of (unnamed 7 (K .axioms) (K .features)) (λ f m. o .feature f (functionalFeature-stated K f (feature-default K f m))))))
+      (all-map functionalRole (all-of (unnamed 6 (K .axioms) (K .roles)) (λ r m. role r (functionalRole-stated K r (role-default K r m)))))
+      (all-map functionalFeature (all-of (unnamed 7 (K .axioms) (K .features)) (λ f m. feature f (functionalFeature-stated K f (feature-default K f m))))))
+
+  pub stated-all : AllStated P K → All P (stated K)
+  stated-all o = stated-more (all-of (K .axioms) each) (o .role) (o .feature)
     where
       each : (x : Axiom) → x ∈ K .axioms → P x
       each (below a b) m = o .subclass a b (below-stated K a b m)

@@ -2,7 +2,7 @@
 use mathlib.Core.Path.{refl}
 use Rattle.declarations.specs.Names.{declaredWell}
 use Rattle.meaning.specs.Lists.{All, cons, nil}
-use Rattle.meaning.specs.Vocabulary.{isNamed, unnamed, vocabularyWords}
+use Rattle.meaning.specs.Vocabulary.{isNamed, namesBy, unnamed, vocabularyWords}
 use Rattle.name_table.specs.Numbers.{numberOf}
 use Rattle.owl.specs.Examples.{Correct, owlExamples}
 use Rattle.owl.specs.Owl.{axiomsIn, manyIn, owlRefusal, owlWords, readOwl, vocabularyIn}
@@ -10,7 +10,7 @@ use Rattle.statements.specs.Forms.{forms, frontOf, ontology, statements}
 use Rattle.tokens.specs.Tokens.{goesOn, isLetter, isSign, isSpace, tokens}
 
 pub owl-answered : All Correct owlExamples
-unfolding readOwl owlRefusal owlWords tokens isLetter isSign isSpace goesOn forms frontOf ontology statements numberOf declaredWell axiomsIn manyIn vocabularyIn isNamed unnamed vocabularyWords
+unfolding readOwl owlRefusal owlWords tokens isLetter isSign isSpace goesOn forms frontOf ontology statements numberOf declaredWell axiomsIn manyIn vocabularyIn namesBy isNamed unnamed vocabularyWords
 owl-answered =
     cons refl (cons refl (cons refl (cons refl (cons refl (cons refl (cons refl (cons refl (cons refl (cons refl
     (cons refl (cons refl (cons refl (cons refl (cons refl (cons refl (cons refl (cons refl (cons refl (cons refl

@@ -17,7 +17,7 @@ use Rattle.meaning.specs.Lists.{all, flatMap}
 use Rattle.meaning.specs.Vocabulary.{Axiom, axiomWords, nameBy, namesBy}
 use Rattle.owl.specs.Owl.{axiomsBy, axiomsIn}
 use Rattle.owl.specs.Passes.{Begins, Here, Ready, axioms, firstNumber, secondNumber, statementsOf}
-use Rattle.owl.proofs.Lists.{flatMap-append}
+use Rattle.meaning.proofs.Rules.{flatMap-append}
 use Rattle.owl.proofs.Looking.{firstOf, secondOf}
 use Rattle.records.proofs.Writing.{Left, left-end, left-start, turn-more, turn-room}
 use Rattle.records.specs.Written.{Room, RoomFor, Written, linkAt}

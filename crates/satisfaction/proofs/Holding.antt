@@ -11,8 +11,8 @@ use Rattle.frames.proofs.Frames.{only-none, only-span, only-then}
 use Rattle.frames.specs.Frames.{Cleared, Only, Span}
 use Rattle.meaning.proofs.Defaults.{accepted-feature, accepted-role}
 use Rattle.meaning.proofs.Links.{tests}
-use Rattle.meaning.proofs.Rules.{T-and, all-append, all-fst, all-in, all-map, all-of, all-out, isFalse, isTrue, notTrue, same-test}
-use Rattle.meaning.proofs.Stated.{AllStated, all-stated, feature-default, functionalFeature-stated, functionalRole-stated, role-default}
+use Rattle.meaning.proofs.Rules.{T-and, all-fst, all-in, all-out, isFalse, isTrue, notTrue, same-test}
+use Rattle.meaning.proofs.Stated.{AllStated, all-stated, stated-more}
 use Rattle.meaning.proofs.Wellformed.{accepted-counts}
 use Rattle.meaning.specs.Limits.{mostFeatures, mostRoles}
 use Rattle.meaning.specs.Lists.{All, all}
@@ -20,8 +20,8 @@ use Rattle.meaning.specs.Model.{Fact, factsOf}
 use Rattle.meaning.specs.ModelCheck.{isModel, obeys}
 use Rattle.meaning.specs.Records.{Name, isName}
 use Rattle.meaning.specs.Stated.{isFunctionalFeature, isFunctionalRole, isManyFeature, isManyRole}
-use Rattle.meaning.specs.Vocabulary.{Axiom, Vocabulary, axiomAt, axiomNext, defaults, firstAxiom, functionalFeature, functionalRole}
-use Rattle.meaning.specs.Vocabulary.{stated, unnamed, vocabularyOf, vocabularyRefusal}
+use Rattle.meaning.specs.Vocabulary.{Vocabulary, axiomAt, axiomNext, defaults, firstAxiom, functionalFeature, functionalRole, stated}
+use Rattle.meaning.specs.Vocabulary.{vocabularyOf, vocabularyRefusal}
 use Rattle.satisfaction.proofs.Series.{feature-iff, role-iff}
 use Rattle.satisfaction.proofs.Statements.{Obeying, obeying-ends, obeying-fails, obeying-named, obeying-on, obeying-starts}
 use Rattle.satisfaction.proofs.Tables.{decides}
@@ -140,16 +140,6 @@ module _ {v m w₁ w₂ : List ℕ} {i tables : ℕ} (x : Numbering v m w₁ i t
       }
 
 -- ---- all that is stated
-
--- the axioms, and what is functional
-stated-more : {P : Axiom → Type 0} (K : Vocabulary) → All P (K .axioms) → ((r : ℕ) → T (isFunctionalRole K r) → P (functionalRole r)) →
-    ((f : ℕ) → T (isFunctionalFeature K f) → P (functionalFeature f)) → All P (stated K)
-unfolding stated defaults
-stated-more K a role feature =
-    all-append a
-    (all-append
-    (all-map functionalRole (all-of (unnamed 6 (K .axioms) (K .roles)) (λ r m. role r (functionalRole-stated K r (role-default K r m)))))
-    (all-map functionalFeature (all-of (unnamed 7 (K .axioms) (K .features)) (λ f m. feature f (functionalFeature-stated K f (feature-default K f m))))))
 
 -- a functional name is one that a vocabulary may count
 name-of : {n most : ℕ} (x : ℕ) (b many : Bool) → n ≤ most → b ≡ isName n x && not many → T b → Name most x

@@ -75,7 +75,7 @@ module _ {v w₀ : List ℕ} {kind k : ℕ} where
           record {
             long = ap length q ∙ length-includingAll (nameAt v kind k) w ∙ p .long;
             walk = walking-on (p .walk) n e (λ l h.
-            rw (q, ← nameBy-at v k (walking-sound (p .walk) n) kind) (sym (foldl-append including w (nameBy kind (axiomAt v k)) (namesBy kind l)) ∙ h));
+                rw (q, ← nameBy-at v k (walking-sound (p .walk) n) kind) (sym (foldl-append including w (nameBy kind (axiomAt v k)) (namesBy kind l)) ∙ h));
           }
 
 -- a loop that looks for one in a set has come to record k
