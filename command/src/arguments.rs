@@ -287,7 +287,7 @@ pub struct Group {
 
 const VOCABULARY: &str = "\
 What does a vocabulary hold? The proved library reads its text, and there is one line: how many
-classes, roles, features and axioms it has.
+classes, roles, features and axioms it has, and which roles and features are many-valued.
 
 An OWL editor saves more than that. Prefixes, IRIs, annotations and the like state nothing: they are
 left out, and standard error says what was. Names that the library has no spelling for are handed to it
@@ -304,8 +304,8 @@ it is the other way round: one has one value unless a record makes it many-value
 
 const VOCABULARY_MORE: &str = "\
 Keys with --json: file, verdict (read, refused or unread); for read, classes, roles, features, axioms,
-left_out, which has a count for each kind, and with --fragment also fragment; for refused, line,
-column, refusal and message; for unread, message.
+many_valued, which has names, left_out, which has a count for each kind, and with --fragment also
+fragment; for refused, line, column, refusal and message; for unread, message.
 
 Exit status: 0 it is read, 2 trouble.
 

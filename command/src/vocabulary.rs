@@ -28,7 +28,7 @@ pub fn vocabulary(asked: arguments::Vocabulary) -> Result<Status, Failure> {
     Ok(Status::All)
 }
 
-/// How many classes, roles, features and axioms there are.
+/// How many classes, roles, features and axioms there are, and who may have several values.
 fn sentence(vocabulary: &Vocabulary) -> String {
     let names = vocabulary.names();
     let parts = [
@@ -37,7 +37,11 @@ fn sentence(vocabulary: &Vocabulary) -> String {
         count(names.features.len(), "feature", "features"),
         count(vocabulary.axioms(), "axiom", "axioms"),
     ];
-    parts.join(", ")
+    let counts = parts.join(", ");
+    match vocabulary.many_valued().as_slice() {
+        [] => counts,
+        names => format!("{counts}; many-valued: {}", names.join(" ")),
+    }
 }
 
 /// The same for programs.
@@ -52,6 +56,7 @@ fn held(file: &str, vocabulary: &Vocabulary) -> Object {
         .with("roles", names.roles.len())
         .with("features", names.features.len())
         .with("axioms", vocabulary.axioms())
+        .with("many_valued", vocabulary.many_valued())
         .with_object("left_out", left_out)
 }
 

@@ -37,18 +37,19 @@ fn desk() -> Desk {
 #[test]
 fn what_it_holds() {
     let desk = desk();
-    let told = "vocabulary.txt: 2 classes, 1 role, 1 feature, 2 axioms\n";
+    let told = "vocabulary.txt: 2 classes, 1 role, 1 feature, 2 axioms; many-valued: :uses\n";
     desk.run(&["vocabulary", "vocabulary.txt"]).is(0, told, "");
-    let told = "saved.ofn: 2 classes, 1 role, 1 feature, 2 axioms\n";
+    let told = "saved.ofn: 2 classes, 1 role, 1 feature, 2 axioms; many-valued: :uses\n";
     desk.run(&["vocabulary", "saved.ofn"]).is(0, told, LEFT_OUT);
     let told = "-: 1 class, 0 roles, 0 features, 0 axioms\n";
     desk.run_with(&["vocabulary", "-"], b"Declaration(Class(:A))").is(0, told, "");
     // Of words, what the chain has counts; that a name is many-valued is no axiom.
     desk.put("words", bytes(&[2, 1, 0, 2, 9, 9, 9, 9, 1, 2, 1, 3, 6, 1, 0, 0]));
-    desk.run(&["vocabulary", "words"]).is(0, "words: 2 classes, 1 role, 0 features, 1 axiom\n", "");
+    let told = "words: 2 classes, 1 role, 0 features, 1 axiom; many-valued: :r1\n";
+    desk.run(&["vocabulary", "words"]).is(0, told, "");
     run_in(EXAMPLES, &["vocabulary", "editor.ofn"]).is(
         0,
-        "editor.ofn: 6 classes, 3 roles, 1 feature, 8 axioms\n",
+        "editor.ofn: 6 classes, 3 roles, 1 feature, 8 axioms; many-valued: :uses\n",
         "gimbuka: editor.ofn: left out: 6 prefixes, the ontology's IRI, its version, 16 annotations, \
          1 annotation property\n",
     );
@@ -63,7 +64,7 @@ fn the_fragment_is_read_exactly() {
     desk.run(&["vocabulary", "--fragment", "saved.ofn"]).is(0, fragment, LEFT_OUT);
     desk.put("fragment.ofn", fragment);
     desk.run(&["vocabulary", "--exact", "--fragment", "fragment.ofn"]).is(0, fragment, "");
-    let told = "fragment.ofn: 2 classes, 1 role, 1 feature, 2 axioms\n";
+    let told = "fragment.ofn: 2 classes, 1 role, 1 feature, 2 axioms; many-valued: :uses\n";
     desk.run(&["vocabulary", "--exact", "fragment.ofn"]).is(0, told, "");
     // Names that are numbers have a spelling, too.
     desk.put("words", bytes(&[1, 1, 0, 1, 5, 1, 1, 2, 6, 1, 0, 0]));
@@ -154,7 +155,7 @@ fn objects_for_programs() {
     });
     let mut held = json!({
         "file": "saved.ofn", "verdict": "read", "classes": 2, "roles": 1, "features": 1, "axioms": 2,
-        "left_out": left_out,
+        "many_valued": [":uses"], "left_out": left_out,
     });
     assert_eq!(object(&["saved.ofn"]), (Some(0), held.clone()));
     let printed = desk.run(&["vocabulary", "--fragment", "saved.ofn"]).out;

@@ -1,5 +1,6 @@
 //! A vocabulary: its words, which are the proved operation's, and its names with a quick look-up.
 
+use crate::forms::VALUES;
 use crate::left_out::LeftOut;
 use crate::mistake::{Mistake, Place};
 use crate::names::{Index, Names, Sort};
@@ -97,6 +98,18 @@ impl Vocabulary {
     pub fn axioms(&self) -> usize {
         let records = print::records(&self.words);
         records.iter().filter(|&&[kind, ..]| print::is_axiom(kind)).count()
+    }
+
+    /// The names that may have several values, roles before features, in the order of their numbers.
+    #[must_use]
+    pub fn many_valued(&self) -> Vec<&str> {
+        let records = print::records(&self.words);
+        let of = |&(sort, _, many_valued): &(Sort, u32, u32)| {
+            let names = self.names.of(sort).iter().zip(1..);
+            let named = names.filter(|&(_, number)| records.contains(&[many_valued, number, 0]));
+            named.map(|(name, _)| name.as_str()).collect::<Vec<_>>()
+        };
+        VALUES.iter().flat_map(of).collect()
     }
 
     /// What the text has beside what the words state.
