@@ -384,6 +384,7 @@ fn the_largest_vocabularies_are_read() {
     assert_eq!(found.words()[4 * 800..][..4], [5, 799 % 64 + 1, 799 % 256 + 1, 801]);
     assert_eq!(found.words()[4 * 1_024..], [7, 64, 0, 0]);
     assert_eq!(found.axioms(), 896);
+    assert_eq!(found.many_valued().len(), 64 + 64);
     assert_eq!(found.names().roles[63], name('r', 63));
     let exact = Vocabulary::exact(print_owl(&found).as_bytes()).expect("a vocabulary");
     assert_eq!(exact.words(), found.words());

@@ -55,6 +55,7 @@ fn the_editors_file_has_the_reasoners_words() {
     assert_eq!(found.words(), judge.words()[0]);
     assert_eq!(print_vocabulary(&found), judge.axioms());
     assert_eq!(found.axioms(), 8);
+    assert_eq!(found.many_valued(), [":uses"]);
 }
 
 #[test]
