@@ -1,10 +1,12 @@
 // The functional roles and features of a vocabulary, worked out once a call.
 use meaning::FeatureNo;
 use meaning::RoleNo;
-use vocabulary::NAME_WORDS;
+use vocabulary::axiom_next;
 use vocabulary::feature_count;
-use vocabulary::insert_names;
+use vocabulary::first_axiom;
+use vocabulary::insert_name;
 use vocabulary::role_count;
+use words::NAME_WORDS;
 use words::has;
 use words::insert_others;
 ghost use Prim.Native.Nat.{ℕ};
@@ -12,18 +14,22 @@ ghost use mathlib.Core.List.{List};
 ghost use mathlib.Core.Path.{_≡_};
 ghost use Rattle.functional.specs.FunctionalNames.{FunctionalNames};
 ghost use Rattle.meaning.specs.Stated.{isFunctionalFeature, isFunctionalRole};
-ghost use Rattle.meaning.specs.Vocabulary.{axiomsOf, unnamed, vocabularyOf, vocabularyRefusal};
-ghost use Rattle.vocabulary.specs.Names.{Settable, Walkable};
-ghost use Rattle.words.specs.Sets.{inSet, includingAll};
+ghost use Rattle.meaning.specs.Vocabulary.{vocabularyOf, vocabularyRefusal};
+ghost use Rattle.vocabulary.specs.Names.{Noted};
+ghost use Rattle.words.specs.Sets.{inSet};
 
-// Puts those of the names 1 to n into a set that no record of a kind has.
-fn insert_unnamed(v: &[u32], kind: u32, n: u32, names: &mut [u32])
-    requires { ⌜ Walkable (now v) × Settable (now v) kind ⌝ }
-    ensures { λ _. ⌜ now (names .exit) ≡ includingAll (now (names .entry)) (unnamed kind (axiomsOf (now (v .entry))) n) ⌝ }
+// Puts the names that records let have many values into two sets, by one walk.
+fn insert_many(v: &[u32], roles: &mut [u32], features: &mut [u32])
+    requires { ⌜ vocabularyRefusal (now v) ≡ 0 ⌝ }
+    ensures { λ _. ⌜ Noted (now (v .entry)) 6 (now (roles .entry)) (now (roles .exit)) ⌝ }
+    ensures { λ _. ⌜ Noted (now (v .entry)) 7 (now (features .entry)) (now (features .exit)) ⌝ }
 {
-    let mut named = [0u32; NAME_WORDS];
-    insert_names(v, kind, &mut named[..]);
-    insert_others(names, &named[..], n);
+    let mut k = first_axiom(v);
+    while k != 0 {
+        insert_name(v, k, 6, roles);
+        insert_name(v, k, 7, features);
+        k = axiom_next(v, k);
+    }
 }
 
 // The names of which no individual has two values.
@@ -38,10 +44,13 @@ impl Functional {
         requires { ⌜ vocabularyRefusal (now v) ≡ 0 ⌝ }
         ensures { λ s. ⌜ FunctionalNames (now (v .entry)) s ⌝ }
     {
+        let mut many_roles = [0u32; NAME_WORDS];
+        let mut many_features = [0u32; NAME_WORDS];
+        insert_many(v, &mut many_roles[..], &mut many_features[..]);
         let mut roles = [0u32; NAME_WORDS];
         let mut features = [0u32; NAME_WORDS];
-        insert_unnamed(v, 6, role_count(v), &mut roles[..]);
-        insert_unnamed(v, 7, feature_count(v), &mut features[..]);
+        insert_others(&mut roles[..], &many_roles[..], role_count(v));
+        insert_others(&mut features[..], &many_features[..], feature_count(v));
         Functional { roles, features }
     }
 

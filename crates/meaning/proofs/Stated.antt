@@ -11,14 +11,14 @@ use lib.ListN.{length}
 use Rattle.meaning.proofs.Links.{choose, split, tests}
 use Rattle.meaning.proofs.Rules.{all-any, all-append, all-fst, all-map, all-of, any-cases, any-flatMap, any-in, any-left, any-map}
 use Rattle.meaning.proofs.Rules.{any-mono, any-none, any-out, any-right, any-single, at-any, flatMap-any}
-use Rattle.meaning.specs.Accepted.{AxiomOf}
+use Rattle.meaning.specs.Accepted.{AxiomOf, NamedAxiom}
 use Rattle.meaning.specs.Lists.{All, Any, _∈_, cons, here, nil, there}
 use Rattle.meaning.specs.Records.{Name}
 use Rattle.meaning.specs.Stated.{disjointPair, disjointPairs, isFunctionalFeature, isFunctionalRole, isManyFeature, isManyRole}
 use Rattle.meaning.specs.Stated.{rangePair, rangePairs, ranges, rangesIn, subclass, subclasses}
 use Rattle.meaning.specs.Vocabulary.{Axiom, Vocabulary, axiomAt, axiomFits, axiomKind, axiomLeft, axiomRight, below, classCount}
-use Rattle.meaning.specs.Vocabulary.{defaults, disjoint, featureCount, functionalFeature, functionalRole, isNamed, manyFeature}
-use Rattle.meaning.specs.Vocabulary.{manyRole, nameBy, namesBy, range, roleCount, stated, unnamed}
+use Rattle.meaning.specs.Vocabulary.{defaults, disjoint, functionalFeature, functionalRole, isNamed, manyFeature, manyRole}
+use Rattle.meaning.specs.Vocabulary.{nameBy, namesBy, range, roleCount, stated, unnamed}
 
 -- ---- the classes of a role's ranges
 
@@ -241,7 +241,27 @@ module _ (v : List ℕ) where
   rangePair-named (manyRole r) n = nil
   rangePair-named (manyFeature f) n = nil
 
-  pub many-role-named : (x : Axiom) → AxiomOf v x → All (Name (roleCount v)) (nameBy 6 x)
+-- a role or a feature that an axiom says one value or many of is one of its series
+module _ (N R F : ℕ) where
+  pub functional-role-named : (x : Axiom) → NamedAxiom N R F x → All (Name R) (nameBy 3 x)
+  functional-role-named (below a b) n = nil
+  functional-role-named (disjoint a b) n = nil
+  functional-role-named (functionalRole r) n = cons n nil
+  functional-role-named (functionalFeature f) n = nil
+  functional-role-named (range r c) n = nil
+  functional-role-named (manyRole r) n = nil
+  functional-role-named (manyFeature f) n = nil
+
+  pub functional-feature-named : (x : Axiom) → NamedAxiom N R F x → All (Name F) (nameBy 4 x)
+  functional-feature-named (below a b) n = nil
+  functional-feature-named (disjoint a b) n = nil
+  functional-feature-named (functionalRole r) n = nil
+  functional-feature-named (functionalFeature f) n = cons n nil
+  functional-feature-named (range r c) n = nil
+  functional-feature-named (manyRole r) n = nil
+  functional-feature-named (manyFeature f) n = nil
+
+  pub many-role-named : (x : Axiom) → NamedAxiom N R F x → All (Name R) (nameBy 6 x)
   many-role-named (below a b) n = nil
   many-role-named (disjoint a b) n = nil
   many-role-named (functionalRole r) n = nil
@@ -250,7 +270,7 @@ module _ (v : List ℕ) where
   many-role-named (manyRole r) n = cons n nil
   many-role-named (manyFeature f) n = nil
 
-  pub many-feature-named : (x : Axiom) → AxiomOf v x → All (Name (featureCount v)) (nameBy 7 x)
+  pub many-feature-named : (x : Axiom) → NamedAxiom N R F x → All (Name F) (nameBy 7 x)
   many-feature-named (below a b) n = nil
   many-feature-named (disjoint a b) n = nil
   many-feature-named (functionalRole r) n = nil

@@ -46,6 +46,7 @@ nameBy kind x = let ws = axiomWords x 0 in cond (eqb (getD ws 0 0) kind) (getD w
 unfoldable pub namesBy : ℕ → List Axiom → List ℕ
 namesBy kind l = flatMap (nameBy kind) l
 
+-- x is one of them
 unfoldable pub isNamed : ℕ → List Axiom → ℕ → Bool
 isNamed kind l x = any (eqb x) (namesBy kind l)
 

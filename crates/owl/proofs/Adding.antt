@@ -10,12 +10,12 @@ use Rattle.meaning.proofs.Defaults.{functional-feature, functional-role, in-unn
 use Rattle.meaning.proofs.Links.{bounds}
 use Rattle.meaning.proofs.Rules.{T-and, all-append, all-at, all-flatMap, all-map, all-mono, any-at, any-in, any-mono, any-out, eqb-of, isFalse, isTrue}
 use Rattle.meaning.proofs.Rules.{flatMap-append, notTrue, same-test}
+use Rattle.meaning.proofs.Stated.{functional-feature-named, functional-role-named}
 use Rattle.meaning.specs.Accepted.{NamedAxiom}
-use Rattle.meaning.specs.Lists.{All, _∈_, any, cons, flatMap, nil}
+use Rattle.meaning.specs.Lists.{All, any}
 use Rattle.meaning.specs.Records.{Name, isName}
 use Rattle.meaning.specs.Stated.{isFunctionalFeature, isFunctionalRole, isManyFeature, isManyRole}
-use Rattle.meaning.specs.Vocabulary.{Axiom, below, disjoint, functionalFeature, functionalRole, isNamed, isOpposed, manyFeature}
-use Rattle.meaning.specs.Vocabulary.{manyRole, nameBy, namesBy, range, unnamed}
+use Rattle.meaning.specs.Vocabulary.{Axiom, isNamed, isOpposed, manyFeature, manyRole, nameBy, namesBy, unnamed}
 use Rattle.owl.proofs.Lists.{flatMap-again, flatMap-none}
 
 -- ---- one series: L makes functional what l does, and many-valued all else of its n names
@@ -68,33 +68,14 @@ module _ (one many : ℕ) (l L : List Axiom) (n : ℕ) (ones : namesBy one L ≡
 
 -- ---- both
 
--- the names of an axiom that makes functional are those of its series
-role-name : (N R F : ℕ) (x : Axiom) → NamedAxiom N R F x → All (Name R) (nameBy 3 x)
-role-name N R F (below a b) h = nil
-role-name N R F (disjoint a b) h = nil
-role-name N R F (functionalRole r) h = cons h nil
-role-name N R F (functionalFeature f) h = nil
-role-name N R F (range r c) h = nil
-role-name N R F (manyRole r) h = nil
-role-name N R F (manyFeature f) h = nil
-
-feature-name : (N R F : ℕ) (x : Axiom) → NamedAxiom N R F x → All (Name F) (nameBy 4 x)
-feature-name N R F (below a b) h = nil
-feature-name N R F (disjoint a b) h = nil
-feature-name N R F (functionalRole r) h = nil
-feature-name N R F (functionalFeature f) h = cons h nil
-feature-name N R F (range r c) h = nil
-feature-name N R F (manyRole r) h = nil
-feature-name N R F (manyFeature f) h = nil
-
 module _ {N R F : ℕ} {l : List Axiom} (named : All (NamedAxiom N R F) l) where
   pub roles-named : All (Name R) (namesBy 3 l)
   unfolding namesBy
-  roles-named = all-flatMap (nameBy 3) (all-mono (role-name N R F) named)
+  roles-named = all-flatMap (nameBy 3) (all-mono (functional-role-named N R F) named)
 
   pub features-named : All (Name F) (namesBy 4 l)
   unfolding namesBy
-  features-named = all-flatMap (nameBy 4) (all-mono (feature-name N R F) named)
+  features-named = all-flatMap (nameBy 4) (all-mono (functional-feature-named N R F) named)
 
 module _ (l : List Axiom) (R F : ℕ) where
   abbrev pub added : List Axiom

@@ -20,6 +20,7 @@ use statements::END;
 use statements::Item;
 use statements::next_item;
 use statements::open_ontology;
+use words::NAME_WORDS;
 use words::count;
 use words::insert;
 use words::insert_others;
@@ -204,9 +205,6 @@ fn insert_named(text: &[u8], start: usize, table: &[u32], c: Counts, kind: u32, 
         insert(names, first_number(text, table, c, s));
     }
 }
-
-// A bit for each role that a vocabulary may have; it may have as many features.
-const NAME_WORDS: usize = MOST_ROLES as usize / 32;
 
 // The names 1 to n that no axiom of a kind names first.
 fn find_unnamed(

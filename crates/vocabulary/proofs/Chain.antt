@@ -13,34 +13,25 @@ use Rattle.meaning.specs.Records.{falling, lastOf}
 use Rattle.meaning.specs.Vocabulary.{Axiom, axiomAt, axiomFits, axiomNext, axiomsOf, firstAxiom, soundAxiom, vocabularyOf, vocabularyRefusal}
 use Rattle.records.proofs.Chains.{Walking, read-along, walking-ends, walking-falls, walking-on, walking-sound, walking-starts}
 use Rattle.records.specs.Chains.{Along, Links, listed}
-use Rattle.vocabulary.specs.Names.{Walkable}
 
 unfoldable pub axiomLinks : List ℕ → Links (List Axiom)
 axiomLinks v = listed (lastOf 4 v) (axiomNext v) (axiomAt v) (λ k. axiomFits v k ≡ true)
 
-pub walkable-along : {v : List ℕ} → Walkable v → Along (axiomLinks v) (firstAxiom v) (vocabularyOf v .axioms)
-unfolding vocabularyOf axiomsOf axiomLinks
-walkable-along {v} w =
-    let u = simp tests at (w .headed) in
-    read-along (axiomAt v) 2 (soundAxiom v) (λ k s. simp tests at s) (length v) (firstAxiom v)
-    (u .1 .1 .1, omega (arith, falling-le (lastOf 4 v) (firstAxiom v))) (w .read)
-
-pub accepted-walkable : (v : List ℕ) → vocabularyRefusal v ≡ 0 → Walkable v
-accepted-walkable v h = let s = vocabulary-sound v h in record { headed = s .headed; read = s .chain }
-
 pub axioms-along : (v : List ℕ) → vocabularyRefusal v ≡ 0 → Along (axiomLinks v) (firstAxiom v) (vocabularyOf v .axioms)
-axioms-along v h = walkable-along (accepted-walkable v h)
+unfolding vocabularyOf axiomsOf axiomLinks
+axioms-along v h =
+    let s = vocabulary-sound v h in
+    let u = simp tests at (s .headed) in
+    read-along (axiomAt v) 2 (soundAxiom v) (λ k t. simp tests at t) (length v) (firstAxiom v)
+    (u .1 .1 .1, omega (arith, falling-le (lastOf 4 v) (firstAxiom v))) (s .chain)
 
 -- a loop that does one step for each record: the steps that are left lead where all of them do
 pub record Folding {S : Type 0} (v : List ℕ) (step : S → Axiom → S) (s₀ : S) (k : ℕ) (s : S) : Type 0 where
   pub walk : Walking (axiomLinks v) (λ l. foldl step s l ≡ foldl step s₀ (vocabularyOf v .axioms)) k
 
 module _ {S : Type 0} {v : List ℕ} {step : S → Axiom → S} {s₀ : S} {k : ℕ} where
-  pub folding-walks : Walkable v → k ≡ firstAxiom v → Folding v step s₀ k s₀
-  folding-walks h e = record { walk = walking-starts (walkable-along h) e refl }
-
   pub folding-starts : vocabularyRefusal v ≡ 0 → k ≡ firstAxiom v → Folding v step s₀ k s₀
-  folding-starts h = folding-walks (accepted-walkable v h)
+  folding-starts h e = record { walk = walking-starts (axioms-along v h) e refl }
 
   module _ {s : S} (w : Folding v step s₀ k s) where
     pub folding-ends : k ≡ 0 → s ≡ foldl step s₀ (vocabularyOf v .axioms)

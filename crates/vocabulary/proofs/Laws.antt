@@ -8,15 +8,14 @@ use lib.ListN.{length}
 use native.Mathlib.Omega.{arith}
 use borrow.Author.Tests.{le-leb, lt-leb, ne-eqb, not-false, not-true}
 use Rattle.meaning.proofs.Links.{bounds, falling-le, passed, tests}
-use Rattle.meaning.proofs.Refusals.{orElse-first}
 use Rattle.meaning.specs.Answers.{Answer, ReadingResult, accepted, refused, result}
 use Rattle.meaning.specs.Limits.{mostClasses, mostFeatures, mostRoles, mostVocabularyWords}
 use Rattle.meaning.specs.Operations.{readVocabulary, unless}
 use Rattle.meaning.specs.Records.{Onward, falling, isName, isOnward, isSized, lastOf}
-use Rattle.meaning.specs.Vocabulary.{axiomFits, axiomKind, axiomLeft, axiomNext, axiomRight, axiomsOf, axiomsRefusal, classCount, featureCount}
-use Rattle.meaning.specs.Vocabulary.{firstAxiom, headedVocabulary, isOpposed, roleCount, soundAxiom, vocabularyRefusal}
+use Rattle.meaning.specs.Vocabulary.{axiomFits, axiomKind, axiomLeft, axiomNext, axiomRight, axiomsRefusal, classCount, featureCount}
+use Rattle.meaning.specs.Vocabulary.{firstAxiom, headedVocabulary, roleCount, soundAxiom, vocabularyRefusal}
 use Rattle.records.proofs.Chains.{Reading, reading-ends, reading-falls, reading-on, reading-starts, reading-stops}
-use Rattle.vocabulary.specs.Names.{Walkable}
+use Rattle.vocabulary.specs.Names.{chainRefusal}
 
 -- ---- the header: its four tests in order, each with those before it
 
@@ -118,12 +117,12 @@ module _ {v : List ℕ} {k r : ℕ} (w : ReadingAxioms v k) (n : k ≡ 0 → ⊥
 
 -- ---- the whole
 
-module _ (v : List ℕ) {t : Bool} (e : t ≡ headedVocabulary v) (h : not t ≡ false) where
-  right-header : headedVocabulary v ≡ true
-  right-header = sym e ∙ not-false t h
+pub first : (v : List ℕ) → headedVocabulary v ≡ true → firstAxiom v ≤ lastOf 4 v
+first v h = let u = simp bounds at h in u .1 .1 .1
 
-  pub first : firstAxiom v ≤ lastOf 4 v
-  first = let u = simp bounds at right-header in u .1 .1 .1
+module _ (v : List ℕ) {t : Bool} (e : t ≡ headedVocabulary v) (h : not t ≡ false) where
+  pub right-header : headedVocabulary v ≡ true
+  right-header = sym e ∙ not-false t h
 
 module _ (v : List ℕ) {t : Bool} (e : t ≡ isSized 4 mostVocabularyWords (length v)) where
   pub wrong-size : not t ≡ true → 1 ≡ vocabularyRefusal v
@@ -141,23 +140,9 @@ module _ (v : List ℕ) {t : Bool} (e : t ≡ isSized 4 mostVocabularyWords (len
     unfolding vocabularyRefusal
     wrong-header {s} f g = rw (right-size, sym f ∙ not-true s g)
 
-    module _ {s : Bool} {n : ℕ} (f : s ≡ headedVocabulary v) (g : not s ≡ false) (p : n ≡ axiomsRefusal (length v) v (firstAxiom v)) where
-      pub wrong-chain : (n ≡ 0 → ⊥) → n ≡ vocabularyRefusal v
-      unfolding vocabularyRefusal
-      wrong-chain z = rw (right-size, right-header v f g, ← p) (orElse-first n _ z)
-
-      module _ (z : n ≡ 0) where
-        pub walkable : Walkable v
-        walkable = record { headed = right-header v f g; read = sym p ∙ z }
-
-        module _ {o : Bool} (q : o ≡ isOpposed (axiomsOf v)) where
-          pub opposed : o ≡ true → 44 ≡ vocabularyRefusal v
-          unfolding vocabularyRefusal
-          opposed t = rw (right-size, right-header v f g, sym p ∙ z, sym q ∙ t)
-
-          pub accepts : o ≡ false → 0 ≡ vocabularyRefusal v
-          unfolding vocabularyRefusal
-          accepts t = rw (right-size, right-header v f g, sym p ∙ z, sym q ∙ t)
+    pub chained : {s : Bool} {r : ℕ} → s ≡ headedVocabulary v → not s ≡ false → r ≡ chainRefusal v → r ≡ vocabularyRefusal v
+    unfolding vocabularyRefusal
+    chained f g p = rw (right-size, right-header v f g) p
 
 pub told : (v : List ℕ) {r : ℕ} {a : Answer ReadingResult} → r ≡ vocabularyRefusal v → a ≡ unless refused r (result accepted) → a ≡ readVocabulary v
 unfolding readVocabulary

@@ -1,26 +1,31 @@
--- The walks over the records of a kind: their names put into a set, and found in one.
-use Prim.Native.Nat.{_<_, _≤_, ℕ}
-use mathlib.Core.Bool.{Bool, _||_, false, or-false, true}
-use mathlib.Core.List.{List, [], _++_, _∷_, foldl-append}
-use mathlib.Core.Path.{_∙_, _≡_, ap, fun-ext, refl, sym}
-use lib.Dec.{eqb}
+-- The names that the reader notes on its way along the chain, and what it finds in them.
+use Prim.Native.Nat.{_<_, _≤_, suc, zero, ℕ}
+use mathlib.Core.Bool.{Bool, cond, false, true}
+use mathlib.Core.List.{List, [], _∷_, foldl-append}
+use mathlib.Core.Path.{_∙_, _≡_, ap, refl, subst, sym}
+use lib.Dec.{T, eqb, eqb→eq}
+use lib.Ieee.Bits.{is-true}
 use lib.ListN.{length, replicate}
 use native.Mathlib.Omega.{arith}
 use borrow.Author.Tests.{eq-eqb, ne-eqb}
-use Rattle.meaning.proofs.Links.{tests}
-use Rattle.meaning.proofs.Rules.{all-flatMap, all-mono, any-join}
-use Rattle.meaning.proofs.Stated.{many-feature-named, many-role-named, nameBy-at}
-use Rattle.meaning.proofs.Wellformed.{axioms-named}
+use Rattle.meaning.proofs.Links.{enough-end, falling-le, falls, onward-le, passed, tests}
+use Rattle.meaning.proofs.Refusals.{orElse-first}
+use Rattle.meaning.proofs.Rules.{all-flatMap, all-mono, any-at, any-in, any-mono, any-out, at-any, eqb-of, isTrue, same-test}
+use Rattle.meaning.proofs.Stated.{functional-feature-named, functional-role-named, many-feature-named, many-role-named, nameBy-at}
+use Rattle.meaning.proofs.Wellformed.{axioms-named, vocabulary-sound}
 use Rattle.meaning.specs.Accepted.{AxiomOf}
 use Rattle.meaning.specs.Limits.{mostFeatures, mostRoles}
 use Rattle.meaning.specs.Lists.{All, any}
-use Rattle.meaning.specs.Records.{falling, lastOf}
-use Rattle.meaning.specs.Vocabulary.{Axiom, axiomAt, axiomKind, axiomLeft, axiomNext, axiomsOf, featureCount, firstAxiom, isNamed}
-use Rattle.meaning.specs.Vocabulary.{isOpposed, nameBy, namesBy, roleCount, vocabularyOf}
-use Rattle.records.proofs.Chains.{Walking, walking-ends, walking-falls, walking-found, walking-on, walking-sound, walking-starts}
-use Rattle.vocabulary.proofs.Chain.{axiomLinks, walkable-along}
-use Rattle.vocabulary.specs.Names.{Settable, Walkable, nameAt}
+use Rattle.meaning.specs.Records.{Enough, Name, Onward, falling, lastOf}
+use Rattle.meaning.specs.Vocabulary.{Axiom, axiomAt, axiomFits, axiomKind, axiomLeft, axiomNext, axiomsFrom, axiomsOf, axiomsRefusal}
+use Rattle.meaning.specs.Vocabulary.{featureCount, firstAxiom, headedVocabulary, isNamed, isOpposed, nameBy, namesBy, roleCount}
+use Rattle.meaning.specs.Vocabulary.{soundAxiom, vocabularyOf, vocabularyRefusal}
+use Rattle.records.proofs.Chains.{Walking, walking-ends, walking-falls, walking-on, walking-sound, walking-starts}
+use Rattle.vocabulary.proofs.Chain.{axiomLinks, axioms-along}
+use Rattle.vocabulary.specs.Names.{Noted, chainRefusal, nameAt}
+use Rattle.words.proofs.Laws.{in-listed, listed-in}
 use Rattle.words.proofs.Others.{in-all, length-includingAll}
+use Rattle.words.specs.Members.{members}
 use Rattle.words.specs.Sets.{inSet, including, includingAll}
 
 -- ---- one record
@@ -41,26 +46,63 @@ module _ (v : List ℕ) (k kind : ℕ) {t : ℕ} (e : t ≡ axiomKind v k) (w : 
   unfolding includingAll
   name-put z p q = q ∙ ap (including w) p ∙ ap (includingAll w) (same-kind v k kind e z)
 
-  pub name-missed : (t ≡ kind → ⊥) → false ≡ any (inSet w) (nameAt v kind k)
-  name-missed n = ap (any (inSet w)) (other-kind v k kind e n)
-
-  pub name-found : t ≡ kind → {a : ℕ} {b : Bool} → a ≡ axiomLeft v k → b ≡ inSet w a → b ≡ any (inSet w) (nameAt v kind k)
-  name-found z p q = q ∙ ap (inSet w) p ∙ sym (or-false (inSet w (axiomLeft v k))) ∙ ap (any (inSet w)) (same-kind v k kind e z)
-
 -- ---- along the chain
 
--- a loop that puts names in has come to record k
+-- the reader, which notes the names of a kind, has come to record k: with those of the records that are left it has all
+pub record Noting (v : List ℕ) (kind : ℕ) (w₀ : List ℕ) (k : ℕ) (w : List ℕ) : Type 0 where
+  pub fuel : ℕ
+  pub enough : Enough (lastOf 4 v) fuel k
+  pub long : length w ≡ length w₀
+  pub same : includingAll w (namesBy kind (axiomsFrom fuel v k)) ≡ includingAll w₀ (namesBy kind (axiomsOf v))
+
+pub noting-starts : {v w : List ℕ} {kind k : ℕ} → k ≡ firstAxiom v → firstAxiom v ≤ lastOf 4 v → Noting v kind w k w
+unfolding axiomsOf
+noting-starts {v} e h = record { fuel = length v; enough = rw e (h, omega (arith, falling-le (lastOf 4 v) (firstAxiom v))); long = refl; same = rw e }
+
+module _ {v w₀ w : List ℕ} {kind k : ℕ} (p : Noting v kind w₀ k w) where
+  pub noting-ends : k ≡ 0 → Noted v kind w₀ w
+  unfolding includingAll namesBy
+  noting-ends z = go (p .fuel) (p .same)
+    where
+      go : (f : ℕ) → includingAll w (namesBy kind (axiomsFrom f v k)) ≡ includingAll w₀ (namesBy kind (axiomsOf v)) → w ≡ includingAll w₀ (namesBy kind (axiomsOf v))
+      go zero h = h
+      go (suc f) h = rw z at h
+
+  module _ {r : ℕ} (n : k ≡ 0 → ⊥) (e : r ≡ cond (soundAxiom v k) 0 3) (z : r ≡ 0) where
+    sound : Onward (lastOf 4 v) k (axiomNext v k) × (axiomFits v k ≡ true)
+    sound = let u = simp tests at (passed 2 (soundAxiom v k) 0 .0 (sym e ∙ z) .0) in (u .1, u .0)
+
+    pub noting-on : {x : ℕ} {t : List ℕ} → x ≡ axiomNext v k → t ≡ includingAll w (nameAt v kind k) → Noting v kind w₀ x t
+    unfolding includingAll namesBy
+    noting-on {x} {t} d q = go (p .fuel) (p .enough) (p .same)
+      where
+        go : (f : ℕ) → Enough (lastOf 4 v) f k → includingAll w (namesBy kind (axiomsFrom f v k)) ≡ includingAll w₀ (namesBy kind (axiomsOf v)) → Noting v kind w₀ x t
+        go zero h s = absurd (n (enough-end (lastOf 4 v) k h))
+        go (suc f) h s =
+            let less = falls (lastOf 4 v) k (axiomNext v k) (omega arith, h .0) (sound .0) in
+            record {
+              fuel = f;
+              enough = rw d (onward-le (lastOf 4 v) k (axiomNext v k) (sound .0), omega arith);
+              long = ap length q ∙ length-includingAll (nameAt v kind k) w ∙ p .long;
+              same =
+                  rw (q, d, ← nameBy-at v k (sound .1) kind)
+                  (sym (foldl-append including w (nameBy kind (axiomAt v k)) (namesBy kind (axiomsFrom f v (axiomNext v k)))) ∙ (rw (ne-eqb k 0 n) at s));
+            }
+
+-- ---- the same along the chain of an accepted vocabulary
+
+-- a loop that puts the names of a kind in has come to record k: with those of the records that are left it has all
 pub record Putting (v : List ℕ) (kind : ℕ) (w₀ : List ℕ) (k : ℕ) (w : List ℕ) : Type 0 where
   pub long : length w ≡ length w₀
   pub walk : Walking (axiomLinks v) (λ l. includingAll w (namesBy kind l) ≡ includingAll w₀ (namesBy kind (axiomsOf v))) k
 
 module _ {v w₀ : List ℕ} {kind k : ℕ} where
-  pub putting-starts : Walkable v → k ≡ firstAxiom v → Putting v kind w₀ k w₀
+  pub putting-starts : vocabularyRefusal v ≡ 0 → k ≡ firstAxiom v → Putting v kind w₀ k w₀
   unfolding vocabularyOf
-  putting-starts h e = record { long = refl; walk = walking-starts (walkable-along h) e refl }
+  putting-starts h e = record { long = refl; walk = walking-starts (axioms-along v h) e refl }
 
   module _ {w : List ℕ} (p : Putting v kind w₀ k w) where
-    pub putting-ends : k ≡ 0 → w ≡ includingAll w₀ (namesBy kind (axiomsOf v))
+    pub putting-ends : k ≡ 0 → Noted v kind w₀ w
     unfolding axiomLinks includingAll namesBy
     putting-ends z = walking-ends (p .walk) z
 
@@ -78,74 +120,89 @@ module _ {v w₀ : List ℕ} {kind k : ℕ} where
                 rw (q, ← nameBy-at v k (walking-sound (p .walk) n) kind) (sym (foldl-append including w (nameBy kind (axiomAt v k)) (namesBy kind l)) ∙ h));
           }
 
--- a loop that looks for one in a set has come to record k
-pub record Seeking (v : List ℕ) (kind : ℕ) (names : List ℕ) (k : ℕ) : Type 0 where
-  pub walk : Walking (axiomLinks v) (λ l. any (inSet names) (namesBy kind (axiomsOf v)) ≡ any (inSet names) (namesBy kind l)) k
+-- ---- the sets
 
-module _ {v names : List ℕ} {kind k : ℕ} where
-  pub seeking-starts : Walkable v → k ≡ firstAxiom v → Seeking v kind names k
-  unfolding vocabularyOf
-  seeking-starts h e = record { walk = walking-starts (walkable-along h) e refl }
+-- neither 2 nor 3 is told
+pub record Walkable (v : List ℕ) : Type 0 where
+  pub headed : headedVocabulary v ≡ true
+  pub read : axiomsRefusal (length v) v (firstAxiom v) ≡ 0
 
-  module _ (p : Seeking v kind names k) where
-    pub seeking-ends : k ≡ 0 → false ≡ any (inSet names) (namesBy kind (axiomsOf v))
-    unfolding axiomLinks namesBy
-    seeking-ends z = sym (walking-ends (p .walk) z)
+pub accepted-walkable : (v : List ℕ) → vocabularyRefusal v ≡ 0 → Walkable v
+accepted-walkable v h = let s = vocabulary-sound v h in record { headed = s .headed; read = s .chain }
 
-    module _ (n : k ≡ 0 → ⊥) {b : Bool} (q : b ≡ any (inSet names) (nameAt v kind k)) where
-      left : (l : List Axiom) → any (inSet names) (namesBy kind (axiomAt v k ∷ l)) ≡ b || any (inSet names) (namesBy kind l)
-      unfolding axiomLinks namesBy
-      left l =
-          any-join (inSet names) (nameBy kind (axiomAt v k)) (namesBy kind l)
-          ∙ ap (λ (c : Bool). c || any (inSet names) (namesBy kind l)) (ap (any (inSet names)) (nameBy-at v k (walking-sound (p .walk) n) kind) ∙ sym q)
+-- a set of 64 has a bit for the names of a kind
+abbrev pub Settable : List ℕ → ℕ → Type 0
+Settable v kind = All (Name mostRoles) (namesBy kind (axiomsOf v))
 
-      pub seeking-found : b ≡ true → true ≡ any (inSet names) (namesBy kind (axiomsOf v))
-      unfolding axiomLinks
-      seeking-found t = walking-found (p .walk) n (λ l h. sym (h ∙ left l ∙ rw t))
-
-      module _ {x : ℕ} (e : x ≡ axiomNext v k) where
-        pub seeking-on : b ≡ false → Seeking v kind names x
-        unfolding axiomLinks
-        seeking-on t = record { walk = walking-on (p .walk) n e (λ l h. h ∙ left l ∙ rw t) }
-
-        pub seeking-falls : falling (lastOf 4 v) x < falling (lastOf 4 v) k
-        unfolding axiomLinks
-        seeking-falls = walking-falls (p .walk) n e
-
--- ---- both ways
-
--- the names of a kind, put into an empty set
-pub names-in : (v : List ℕ) (kind : ℕ) {names : List ℕ} → Settable v kind → names ≡ includingAll (replicate 2 0) (namesBy kind (axiomsOf v)) →
-    (d : ℕ) → inSet names d ≡ isNamed kind (axiomsOf v) d
-unfolding isNamed
-names-in v kind h e d = ap (λ (ws : List ℕ). inSet ws d) e ∙ in-all 2 (namesBy kind (axiomsOf v)) h d
-
-pub both-named : (v : List ℕ) (kind other : ℕ) {names : List ℕ} {r : Bool} → Settable v other → names ≡ includingAll (replicate 2 0) (namesBy other (axiomsOf v)) →
-    r ≡ any (inSet names) (namesBy kind (axiomsOf v)) → r ≡ any (isNamed other (axiomsOf v)) (namesBy kind (axiomsOf v))
-both-named v kind other h e f = f ∙ ap (λ (p : ℕ → Bool). any p (namesBy kind (axiomsOf v))) (fun-ext (names-in v other h e))
-
--- the many-valued names have a bit in a set
 module _ {v : List ℕ} (w : Walkable v) where
-  axioms-of : All (AxiomOf v) (axiomsOf v)
-  unfolding axiomsOf
-  axioms-of = axioms-named v (length v) (firstAxiom v) (w .read)
+  settable : (kind n : ℕ) → n ≤ mostRoles → ((x : Axiom) → AxiomOf v x → All (Name n) (nameBy kind x)) → Settable v kind
+  unfolding namesBy axiomsOf
+  settable kind n few h =
+      all-flatMap (nameBy kind) (all-mono (λ x a. all-mono (λ d m. (m .0, omega (arith, m .1))) (h x a)) (axioms-named v (length v) (firstAxiom v) (w .read)))
 
   counts : (roleCount v ≤ mostRoles) × (featureCount v ≤ mostFeatures)
   counts = let u = simp tests at (w .headed) in (u .1 .0, u .1 .1 .0)
 
+  pub functional-roles : Settable v 3
+  functional-roles = settable 3 (roleCount v) (counts .0) (functional-role-named _ _ _)
+
+  pub functional-features : Settable v 4
+  functional-features = settable 4 (featureCount v) (counts .1) (functional-feature-named _ _ _)
+
   pub many-roles : Settable v 6
-  unfolding namesBy
-  many-roles = all-flatMap (nameBy 6) (all-mono (λ x n. all-mono (λ r h. (h .0, omega (arith, counts .0))) (many-role-named v x n)) axioms-of)
+  many-roles = settable 6 (roleCount v) (counts .0) (many-role-named _ _ _)
 
   pub many-features : Settable v 7
-  unfolding namesBy
-  many-features = all-flatMap (nameBy 7) (all-mono (λ x n. all-mono (λ r h. (h .0, omega (arith, counts .1))) (many-feature-named v x n)) axioms-of)
+  many-features = settable 7 (featureCount v) (counts .1) (many-feature-named _ _ _)
 
-module _ (v : List ℕ) {a : Bool} (f : a ≡ any (isNamed 6 (axiomsOf v)) (namesBy 3 (axiomsOf v))) where
-  pub roles-opposed : a ≡ true → true ≡ isOpposed (axiomsOf v)
-  unfolding isOpposed
-  roles-opposed t = rw (sym f ∙ t)
+-- the names of a kind, put into an empty set
+pub names-in : (v : List ℕ) (kind : ℕ) {names : List ℕ} → Settable v kind → Noted v kind (replicate 2 0) names → (d : ℕ) → inSet names d ≡ isNamed kind (axiomsOf v) d
+unfolding isNamed
+names-in v kind h e d = ap (λ (ws : List ℕ). inSet ws d) e ∙ in-all 2 (namesBy kind (axiomsOf v)) h d
 
-  pub features-opposed : a ≡ false → {b : Bool} → b ≡ any (isNamed 7 (axiomsOf v)) (namesBy 4 (axiomsOf v)) → b ≡ isOpposed (axiomsOf v)
-  unfolding isOpposed
-  features-opposed t g = rw (sym f ∙ t) g
+-- ---- both ways
+
+module _ (v : List ℕ) (one many : ℕ) {a b : List ℕ} (s : Settable v one) (t : Settable v many) (p : Noted v one (replicate 2 0) a)
+    (q : Noted v many (replicate 2 0) b) where
+  pub both-named : any (inSet b) (members a) ≡ any (isNamed many (axiomsOf v)) (namesBy one (axiomsOf v))
+  unfolding isNamed
+  both-named =
+      same-test (any (inSet b) (members a)) (any (isNamed many (axiomsOf v)) (namesBy one (axiomsOf v)))
+      (λ h.
+      let f = any-at (any-out (inSet b) (members a) h) in
+      let named = any-out (eqb (f .0)) (namesBy one (axiomsOf v)) (isTrue (sym (names-in v one s p (f .0)) ∙ listed-in a (f .0) (f .1))) in
+      any-in (isNamed many (axiomsOf v)) (at-any (any-mono (λ x e. eqb→eq (f .0) x e) named) (subst T (names-in v many t q (f .0)) (f .2))))
+      (λ h.
+      let f = any-at (any-out (isNamed many (axiomsOf v)) (namesBy one (axiomsOf v)) h) in
+      let named = any-in (eqb (f .0)) (any-mono (λ x e. eqb-of (f .0) x e) (f .1)) in
+      any-in (inSet b) (at-any (in-listed a (f .0) (names-in v one s p (f .0) ∙ is-true _ named)) (subst T (sym (names-in v many t q (f .0))) (f .2))))
+
+-- ---- 3, then 44
+
+module _ (v : List ℕ) {r : ℕ} (e : r ≡ axiomsRefusal (length v) v (firstAxiom v)) where
+  pub chain-first : (r ≡ 0 → ⊥) → r ≡ chainRefusal v
+  chain-first n = rw (← e) (orElse-first r _ n)
+
+  module _ (headed : headedVocabulary v ≡ true) (z : r ≡ 0) {a b : List ℕ} (p : r ≡ 0 → Noted v 3 (replicate 2 0) a) (q : r ≡ 0 → Noted v 6 (replicate 2 0) b)
+      {roles : Bool} (f : roles ≡ any (inSet b) (members a)) where
+    walkable : Walkable v
+    walkable = record { headed = headed; read = sym e ∙ z }
+
+    roles-both : any (isNamed 6 (axiomsOf v)) (namesBy 3 (axiomsOf v)) ≡ roles
+    roles-both = sym (f ∙ both-named v 3 6 (functional-roles walkable) (many-roles walkable) (p z) (q z))
+
+    pub roles-opposed : roles ≡ true → 44 ≡ chainRefusal v
+    unfolding isOpposed
+    roles-opposed t = rw (sym e ∙ z, roles-both ∙ t)
+
+    module _ (t : roles ≡ false) {c d : List ℕ} (x : r ≡ 0 → Noted v 4 (replicate 2 0) c) (y : r ≡ 0 → Noted v 7 (replicate 2 0) d) {features : Bool} (g : features ≡ any (inSet d) (members c)) where
+      features-both : any (isNamed 7 (axiomsOf v)) (namesBy 4 (axiomsOf v)) ≡ features
+      features-both = sym (g ∙ both-named v 4 7 (functional-features walkable) (many-features walkable) (x z) (y z))
+
+      pub features-opposed : features ≡ true → 44 ≡ chainRefusal v
+      unfolding isOpposed
+      features-opposed u = rw (sym e ∙ z, roles-both ∙ t, features-both ∙ u)
+
+      pub none-opposed : features ≡ false → 0 ≡ chainRefusal v
+      unfolding isOpposed
+      none-opposed u = rw (sym e ∙ z, roles-both ∙ t, features-both ∙ u)

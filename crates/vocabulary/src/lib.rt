@@ -10,21 +10,20 @@ use meaning::limits::MOST_VOCABULARY_WORDS;
 use records::is_name;
 use records::is_onward;
 use records::word;
-use words::has;
+use words::NAME_WORDS;
+use words::do_meet;
 use words::insert;
 ghost use mathlib.Core.Path.{_≡_};
-ghost use mathlib.Core.Bool.{_&&_, cond};
+ghost use mathlib.Core.Bool.{_&&_, cond, true};
 ghost use Prim.Native.Nat.{_≤_};
 ghost use lib.ListN.{length};
 ghost use Rattle.meaning.specs.Answers.{readingAnswer};
 ghost use Rattle.meaning.specs.Operations.{readVocabulary};
 ghost use Rattle.meaning.specs.Records.{isName, lastOf};
-ghost use Rattle.meaning.specs.Lists.{any};
-ghost use Rattle.meaning.specs.Vocabulary.{axiomKind, axiomLeft, axiomNext, axiomRight, axiomsOf, axiomsRefusal, classCount, featureCount};
-ghost use Rattle.meaning.specs.Vocabulary.{firstAxiom, headedVocabulary, isNamed, isOpposed, namesBy, roleCount, soundAxiom};
-ghost use Rattle.meaning.specs.Vocabulary.{vocabularyRefusal};
-ghost use Rattle.vocabulary.specs.Names.{Settable, Walkable, nameAt};
-ghost use Rattle.words.specs.Sets.{inSet, includingAll};
+ghost use Rattle.meaning.specs.Vocabulary.{axiomKind, axiomLeft, axiomNext, axiomRight, axiomsRefusal, classCount, featureCount};
+ghost use Rattle.meaning.specs.Vocabulary.{firstAxiom, headedVocabulary, roleCount, soundAxiom, vocabularyRefusal};
+ghost use Rattle.vocabulary.specs.Names.{Noted, chainRefusal, nameAt};
+ghost use Rattle.words.specs.Sets.{includingAll};
 
 pub fn class_count(v: &[u32]) -> u32
     ensures { λ r. ⌜ r ≡ classCount (now (v .entry)) ⌝ }
@@ -139,29 +138,8 @@ fn axiom_refusal(v: &[u32], k: u32) -> u32
     }
 }
 
-// The first refusal along the chain, which ends: a link that does not rise is refused before it is followed.
-fn axioms_refusal(v: &[u32]) -> u32
-    requires { ⌜ (4 ≤ length (now v)) × (firstAxiom (now v) ≤ lastOf 4 (now v)) ⌝ }
-    ensures { λ r. ⌜ r ≡ axiomsRefusal (length (now (v .entry))) (now (v .entry)) (firstAxiom (now (v .entry))) ⌝ }
-{
-    let mut k = first_axiom(v);
-    while k != 0 {
-        let refusal = axiom_refusal(v, k);
-        if refusal != 0 {
-            return refusal;
-        }
-        k = axiom_next(v, k);
-    }
-    0
-}
-
-// ---- one value or many
-
-// A set of roles or of features: a bit for each of the 64 that a vocabulary may count.
-pub const NAME_WORDS: usize = MOST_ROLES as usize / 32;
-
 // Puts the name of record k into a set, where the record is of a kind.
-fn insert_name(v: &[u32], k: u32, kind: u32, names: &mut [u32])
+pub fn insert_name(v: &[u32], k: u32, kind: u32, names: &mut [u32])
     ensures { λ _. ⌜ now (names .exit) ≡ includingAll (now (names .entry)) (nameAt (now (v .entry)) kind k) ⌝ }
 {
     if axiom_kind(v, k) != kind {
@@ -170,65 +148,81 @@ fn insert_name(v: &[u32], k: u32, kind: u32, names: &mut [u32])
     insert(names, axiom_left(v, k));
 }
 
-// Puts the names of all records of a kind into a set.
-pub fn insert_names(v: &[u32], kind: u32, names: &mut [u32])
-    requires { ⌜ Walkable (now v) ⌝ }
-    ensures { λ _. ⌜ now (names .exit) ≡ includingAll (now (names .entry)) (namesBy kind (axiomsOf (now (v .entry)))) ⌝ }
+// Puts the name of record k into the set of its kind: 3 or 6, of roles, 4 or 7, of features.
+fn note(
+    v: &[u32],
+    k: u32,
+    threes: &mut [u32],
+    fours: &mut [u32],
+    sixes: &mut [u32],
+    sevens: &mut [u32],
+)
+    ensures { λ _. ⌜ now (threes .exit) ≡ includingAll (now (threes .entry)) (nameAt (now (v .entry)) 3 k) ⌝ }
+    ensures { λ _. ⌜ now (fours .exit) ≡ includingAll (now (fours .entry)) (nameAt (now (v .entry)) 4 k) ⌝ }
+    ensures { λ _. ⌜ now (sixes .exit) ≡ includingAll (now (sixes .entry)) (nameAt (now (v .entry)) 6 k) ⌝ }
+    ensures { λ _. ⌜ now (sevens .exit) ≡ includingAll (now (sevens .entry)) (nameAt (now (v .entry)) 7 k) ⌝ }
+{
+    insert_name(v, k, 3, threes);
+    insert_name(v, k, 4, fours);
+    insert_name(v, k, 6, sixes);
+    insert_name(v, k, 7, sevens);
+}
+
+// The first refusal along the chain, which ends: a link that does not rise is refused before it is followed. On the way the names that
+// may stand both ways are noted, so that the chain is walked once.
+fn axioms_refusal(
+    v: &[u32],
+    threes: &mut [u32],
+    fours: &mut [u32],
+    sixes: &mut [u32],
+    sevens: &mut [u32],
+) -> u32
+    requires { ⌜ (4 ≤ length (now v)) × (firstAxiom (now v) ≤ lastOf 4 (now v)) ⌝ }
+    ensures { λ r. ⌜ r ≡ axiomsRefusal (length (now (v .entry))) (now (v .entry)) (firstAxiom (now (v .entry))) ⌝ }
+    ensures { λ r. ⌜ (r ≡ 0 → Noted (now (v .entry)) 3 (now (threes .entry)) (now (threes .exit))) ⌝ }
+    ensures { λ r. ⌜ (r ≡ 0 → Noted (now (v .entry)) 4 (now (fours .entry)) (now (fours .exit))) ⌝ }
+    ensures { λ r. ⌜ (r ≡ 0 → Noted (now (v .entry)) 6 (now (sixes .entry)) (now (sixes .exit))) ⌝ }
+    ensures { λ r. ⌜ (r ≡ 0 → Noted (now (v .entry)) 7 (now (sevens .entry)) (now (sevens .exit))) ⌝ }
 {
     let mut k = first_axiom(v);
     while k != 0 {
-        insert_name(v, k, kind, names);
-        k = axiom_next(v, k);
-    }
-}
-
-// Whether record k is of a kind, and its name in a set.
-fn is_in(v: &[u32], k: u32, kind: u32, names: &[u32]) -> bool
-    ensures { λ r. ⌜ r ≡ any (inSet (now (names .entry))) (nameAt (now (v .entry)) kind k) ⌝ }
-{
-    if axiom_kind(v, k) != kind {
-        return false;
-    }
-    has(names, axiom_left(v, k))
-}
-
-// Whether some record of a kind has its name in a set.
-fn is_any_in(v: &[u32], kind: u32, names: &[u32]) -> bool
-    requires { ⌜ Walkable (now v) ⌝ }
-    ensures { λ r. ⌜ r ≡ any (inSet (now (names .entry))) (namesBy kind (axiomsOf (now (v .entry)))) ⌝ }
-{
-    let mut k = first_axiom(v);
-    while k != 0 {
-        if is_in(v, k, kind, names) {
-            return true;
+        let refusal = axiom_refusal(v, k);
+        if refusal != 0 {
+            return refusal;
         }
+        note(v, k, threes, fours, sixes, sevens);
         k = axiom_next(v, k);
     }
-    false
+    0
 }
 
-// Whether a name stands in records of both kinds.
-fn are_both(v: &[u32], kind: u32, other: u32) -> bool
-    requires { ⌜ Walkable (now v) × Settable (now v) other ⌝ }
-    ensures { λ r. ⌜ r ≡ any (isNamed other (axiomsOf (now (v .entry)))) (namesBy kind (axiomsOf (now (v .entry)))) ⌝ }
+// 3, then 44: a role or a feature is said to be functional and many-valued.
+fn chain_refusal(v: &[u32]) -> u32
+    requires { ⌜ (4 ≤ length (now v)) × (headedVocabulary (now v) ≡ true) ⌝ }
+    ensures { λ r. ⌜ r ≡ chainRefusal (now (v .entry)) ⌝ }
 {
-    let mut names = [0u32; NAME_WORDS];
-    insert_names(v, other, &mut names[..]);
-    is_any_in(v, kind, &names[..])
-}
-
-// Whether a role or a feature is said to be functional and many-valued.
-fn is_opposed(v: &[u32]) -> bool
-    requires { ⌜ Walkable (now v) ⌝ }
-    ensures { λ r. ⌜ r ≡ isOpposed (axiomsOf (now (v .entry))) ⌝ }
-{
-    if are_both(v, 3, 6) {
-        return true;
+    let mut threes = [0u32; NAME_WORDS];
+    let mut fours = [0u32; NAME_WORDS];
+    let mut sixes = [0u32; NAME_WORDS];
+    let mut sevens = [0u32; NAME_WORDS];
+    let refusal = axioms_refusal(
+        v,
+        &mut threes[..],
+        &mut fours[..],
+        &mut sixes[..],
+        &mut sevens[..],
+    );
+    if refusal != 0 {
+        return refusal;
     }
-    are_both(v, 4, 7)
+    if do_meet(&threes[..], &sixes[..]) {
+        return 44;
+    }
+    if do_meet(&fours[..], &sevens[..]) {
+        return 44;
+    }
+    0
 }
-
-// ---- the reader
 
 // The number of the first refusal, 0 for none: the operations that read a vocabulary first pass it on.
 pub fn vocabulary_refusal(v: &[u32]) -> u32
@@ -240,11 +234,7 @@ pub fn vocabulary_refusal(v: &[u32]) -> u32
     if !is_headed(v) {
         return 2;
     }
-    let chain = axioms_refusal(v);
-    if chain != 0 {
-        return chain;
-    }
-    if is_opposed(v) { 44 } else { 0 }
+    chain_refusal(v)
 }
 
 pub fn read_vocabulary(v: &[u32]) -> Reading

@@ -1,4 +1,4 @@
--- Numbers of a list put into a set, and those of 1 to n that a set lacks.
+-- Numbers of a list put into a set, those of 1 to n that a set lacks, and whether two sets share one.
 use Prim.Native.Nat.{_*_, _+_, _-_, _<_, _≤_, suc, ℕ}
 use lib.Dec.{eqb, eqb→eq}
 use lib.Ieee.Bits.{is-true}
@@ -15,7 +15,8 @@ use Rattle.meaning.specs.Lists.{All, any, counting, filter}
 use Rattle.meaning.specs.Records.{Name, isName}
 use Rattle.words.proofs.Laws.{in-including, in-zeros, length-including, members-are, named-within}
 use Rattle.words.proofs.Lists.{filter-from, filter-in, in-filter}
-use Rattle.words.specs.Members.{members, othersOf}
+use Rattle.words.proofs.Listing.{from-end, from-more, from-start}
+use Rattle.words.specs.Members.{members, membersFrom, nextMember, othersOf}
 use Rattle.words.specs.Sets.{capacity, inSet, including, includingAll}
 
 -- a number that the words have a bit for
@@ -45,6 +46,29 @@ length-includingAll (c ∷ l) ws = length-includingAll l (including ws c) ∙ le
 -- into an empty set
 pub in-all : (n : ℕ) (l : List ℕ) → All (Name (32 * n)) l → (d : ℕ) → inSet (includingAll (replicate n 0) l) d ≡ any (eqb d) l
 in-all n l h d = in-includingAll n l (replicate n 0) (length-replicate n 0) h d ∙ rw (in-zeros n d)
+
+-- ---- a loop over the members that looks for one in another set has come to x
+
+pub record Meeting (words others : List ℕ) (x : ℕ) : Type 0 where
+  pub same : any (inSet others) (members words) ≡ any (inSet others) (membersFrom words x)
+
+pub meeting-starts : {words others : List ℕ} {x : ℕ} → x ≡ nextMember words 0 → Meeting words others x
+meeting-starts {words} {others} e = record { same = ap (any (inSet others)) (sym (ap (membersFrom words) e ∙ from-start words)) }
+
+module _ {words others : List ℕ} {x : ℕ} (m : Meeting words others x) where
+  pub meeting-ends : x ≡ 0 → false ≡ any (inSet others) (members words)
+  meeting-ends z = sym (m .same ∙ ap (any (inSet others)) (from-end words x z))
+
+  module _ (n : x ≡ 0 → ⊥) where
+    pub meeting-found : {b : Bool} → b ≡ inSet others x → b ≡ true → true ≡ any (inSet others) (members words)
+    meeting-found e t = sym (m .same ∙ ap (any (inSet others)) (from-more words x n) ∙ rw (sym e ∙ t))
+
+    module _ {y : ℕ} (p : y ≡ nextMember words x) where
+      pub meeting-on : {b : Bool} → b ≡ inSet others x → b ≡ false → Meeting words others y
+      meeting-on e t = record { same = m .same ∙ ap (any (inSet others)) (from-more words x n) ∙ rw (sym e ∙ t, p) }
+
+      pub meeting-falls : length (membersFrom words y) < length (membersFrom words x)
+      meeting-falls = rw (from-more words x n, p) (omega arith)
 
 -- ---- a loop that puts the others in has come to i
 

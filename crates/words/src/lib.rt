@@ -2,12 +2,14 @@
 // First sets in a slice of any number of words, then sets of classes.
 use meaning::ClassNo;
 use meaning::limits::MOST_CLASSES;
+use meaning::limits::MOST_ROLES;
 ghost use mathlib.Core.Path.{_≡_};
 ghost use mathlib.Core.Bool.{_||_, false, true};
 ghost use mathlib.Core.Logic.{_↔_};
 ghost use Prim.Native.Nat.{_+_, _<_, _^_, _≤_, ℕ};
 ghost use lib.ListN.{length, replicate};
 ghost use Rattle.frames.specs.Rows.{putAt, rowAt};
+ghost use Rattle.meaning.specs.Lists.{any};
 ghost use Rattle.words.specs.Members.{members, nextMember, othersOf};
 ghost use Rattle.words.specs.Rows.{ContainsAlso, classWords};
 ghost use Rattle.words.specs.Sets.{capacity, inSet, including, includingAll, unionOf};
@@ -86,6 +88,24 @@ pub fn next(words: &[u32], x: u32) -> u32
     }
     0
 }
+
+// Whether two sets share a number.
+pub fn do_meet(words: &[u32], others: &[u32]) -> bool
+    requires { ⌜ capacity (now words) < 2 ^ 32 ⌝ }
+    ensures { λ r. ⌜ r ≡ any (inSet (now (others .entry))) (members (now (words .entry))) ⌝ }
+{
+    let mut x = next(words, 0);
+    while x != 0 {
+        if has(others, x) {
+            return true;
+        }
+        x = next(words, x);
+    }
+    false
+}
+
+// How many words a set of roles or of features takes: a bit for each of the 64 that a vocabulary may count.
+pub const NAME_WORDS: usize = MOST_ROLES as usize / 32;
 
 // A set of classes.
 pub struct ClassSet {
