@@ -1,7 +1,7 @@
 -- Records written one after another into the output. Assumes nothing.
 use Prim.Native.Nat.{_*_, _+_, _≤_, suc, ℕ}
-use mathlib.Core.List.{List, [], _++_, _∷_, append-assoc, append-nil}
-use mathlib.Core.Path.{_∙_, _≡_, ap, refl, sym}
+use mathlib.Core.List.{List, [], _∷_, append-assoc}
+use mathlib.Core.Path.{_∙_, _≡_, ap, refl}
 use native.Mathlib.Omega.{arith}
 use lib.ListN.{length, length-set, set, take}
 use lib.Seq.{sets-eq}
@@ -10,8 +10,8 @@ use Rattle.frames.specs.Rows.{putAt}
 use Rattle.meaning.proofs.ModelWords.{fact-length}
 use Rattle.meaning.specs.Model.{Fact, modelWords}
 use Rattle.meaning.specs.Operations.{outputAfter}
-use Rattle.records.proofs.Writing.{headed-written, left-end, left-more, left-start, link-last, recorded-length}
-use Rattle.records.specs.Written.{RoomFor, Written, linkAt, recorded}
+use Rattle.records.proofs.Writing.{headed-written, link-last, recorded-length}
+use Rattle.records.specs.Written.{linkAt, recorded}
 
 -- ---- five words, one after another
 
@@ -23,15 +23,6 @@ put-five o at a b c d e h =
     let fourth : at + 3 ≡ suc (suc (suc at)) = omega arith in
     let fifth : at + 4 ≡ suc (suc (suc (suc at))) = omega arith in
     rw (second, third, fourth, fifth) (sets-eq (a ∷ (b ∷ (c ∷ (d ∷ (e ∷ []))))) o at h ∙ append-assoc (take at o) _ _)
-
--- ---- three lists of facts, one after another
-
-pub three-written : {last k k₁ k₂ k₃ : ℕ} {A B C F : List Fact} {o o₁ o₂ o₃ : List ℕ} → F ≡ A ++ (B ++ C) → RoomFor 5 last k F o →
-    Written facts last k A o o₁ k₁ → Written facts last k₁ B o₁ o₂ k₂ → Written facts last k₂ C o₂ o₃ k₃ → Written facts last k F o o₃ k₃
-three-written {last} {k} {k₁} {k₂} {k₃} {A} {B} {C} {F} {o} {o₁} {o₂} {o₃} e room a b c =
-    let first = left-more fact-length A (B ++ C) F o₁ k₁ (left-start last k F o F refl) e room a in
-    let second = left-more fact-length B C (B ++ C) o₂ k₂ first refl room b in
-    left-end [] (left-more fact-length C [] C o₃ k₃ second (sym (append-nil C)) room c) refl
 
 -- ---- header and records
 

@@ -12,7 +12,7 @@ use Rattle.meaning.proofs.Rules.{T-and, all-append, all-at, all-flatMap, all-ma
 use Rattle.meaning.proofs.Rules.{flatMap-append, notTrue, same-test}
 use Rattle.meaning.proofs.Stated.{functional-feature-named, functional-role-named}
 use Rattle.meaning.specs.Accepted.{NamedAxiom}
-use Rattle.meaning.specs.Lists.{All, any}
+use Rattle.meaning.specs.Lists.{All, _∈_, any}
 use Rattle.meaning.specs.Records.{Name, isName}
 use Rattle.meaning.specs.Stated.{isFunctionalFeature, isFunctionalRole, isManyFeature, isManyRole}
 use Rattle.meaning.specs.Vocabulary.{Axiom, isNamed, isOpposed, manyFeature, manyRole, nameBy, namesBy, unnamed}

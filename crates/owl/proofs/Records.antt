@@ -1,7 +1,7 @@
 -- The header, and three runs of records behind it: the axioms, the roles and the features that have many values.
 use Prim.Native.Nat.{_+_, _<_, _^_, suc, ℕ}
-use mathlib.Core.List.{List, [], _++_, _∷_, append-nil, map}
-use mathlib.Core.Path.{_∙_, _≡_, ap, refl, sym}
+use mathlib.Core.List.{List, [], _++_, _∷_, map}
+use mathlib.Core.Path.{_∙_, _≡_, ap, refl}
 use lib.ListN.{length, length-append, length-map}
 use native.Mathlib.Omega.{arith}
 use Rattle.declarations.specs.declared.Counts.{Counts}
@@ -12,7 +12,7 @@ use Rattle.meaning.specs.Vocabulary.{Axiom, axiomWords, manyFeature, manyRole, 
 use Rattle.owl.proofs.Looking.{class-size, feature-size, role-size}
 use Rattle.owl.specs.Owl.{axiomsIn, manyIn, vocabularyIn}
 use Rattle.owl.specs.Passes.{Many, Ready, axioms, naming, statementsOf}
-use Rattle.records.proofs.Writing.{headed-written, left-end, left-more, left-start, link-last, room-same}
+use Rattle.records.proofs.Writing.{headed-written, link-last, room-same, three-written}
 use Rattle.records.specs.Written.{RoomFor, Written, linkAt, linkedWords, recorded}
 use Rattle.words.specs.Members.{members}
 use Rattle.words.specs.Sets.{capacity}
@@ -69,15 +69,9 @@ module _ {text roles features : List ℕ} (m : Many text roles features) where
           (d : Written (naming 7) last n (members features) o₃ o₄ r) where
         all-recorded : o₄ ≡ recorded axioms last 1 (vocabularyIn (statementsOf text) .axioms) o₁
         all-recorded =
-            let A = axiomsIn (statementsOf text) in
-            let B = map manyRole (members roles) in
-            let C = map manyFeature (members features) in
-            let F = vocabularyIn (statementsOf text) .axioms in
-            let here : RoomFor 4 last 1 F o₁ = record { room = room-same long (room .room); within = room .within } in
-            let first = left-more axiom-length A (B ++ C) F o₂ k (left-start last 1 F o₁ F refl) parts here a in
-            let second = left-more axiom-length B C (B ++ C) o₃ n first refl here (names-written 6 manyRole (λ x next. refl) (members roles) b) in
-            let third = left-more axiom-length C [] C o₄ r second (sym (append-nil C)) here (names-written 7 manyFeature (λ x next. refl) (members features) d) in
-            left-end [] third refl .words
+            let here : RoomFor 4 last 1 (vocabularyIn (statementsOf text) .axioms) o₁ = record { room = room-same long (room .room); within = room .within } in
+            three-written axiom-length parts here a (names-written 6 manyRole (λ x next. refl) (members roles) b)
+            (names-written 7 manyFeature (λ x next. refl) (members features) d) .words
 
         pub all-words : {table : List ℕ} {c : Counts} → Ready text table c → last ≡ length (vocabularyIn (statementsOf text) .axioms) →
             o₁ ≡ putAt o 0 (c .classes ∷ (c .roles ∷ (c .features ∷ (linkAt last 0 ∷ [])))) → o₄ ≡ outputAfter (vocabularyWords (vocabularyIn (statementsOf text))) o

@@ -95,6 +95,14 @@ module _ {A : Type 0} {f : Format A} {last k₀ : ℕ} {l : List A} {o₀ : List
         same = w .long;
       }
 
+-- three lists, one after another
+pub three-written : {A : Type 0} {f : Format A} → Wide f → {last k k₁ k₂ k₃ : ℕ} {xs ys zs l : List A} {o o₁ o₂ o₃ : List ℕ} → l ≡ xs ++ (ys ++ zs) →
+    RoomFor (f .width) last k l o → Written f last k xs o o₁ k₁ → Written f last k₁ ys o₁ o₂ k₂ → Written f last k₂ zs o₂ o₃ k₃ → Written f last k l o o₃ k₃
+three-written wide {last} {k} {k₁} {k₂} {k₃} {xs} {ys} {zs} {l} {o} {o₁} {o₂} {o₃} e room a b c =
+    let first = left-more wide xs (ys ++ zs) l o₁ k₁ (left-start last k l o l refl) e room a in
+    let second = left-more wide ys zs (ys ++ zs) o₂ k₂ first refl room b in
+    left-end [] (left-more wide zs [] zs o₃ k₃ second (sym (append-nil zs)) room c) refl
+
 -- one record is one item
 pub one-written : {A : Type 0} {f : Format A} → Wide f → (last k : ℕ) (x : A) (o o′ : List ℕ) → f .width * (k + 1) ≤ length o →
     o′ ≡ putAt o (f .width * k) (f .words x (linkAt last k)) → Written f last k (x ∷ []) o o′ (k + 1)

@@ -1,7 +1,8 @@
 use borrow.Author.Needs.{needs}
 use mathlib.Core.Path.{_∙_, refl}
 use native.Mathlib.Omega.{arith}
-use Rattle.countermodel.proofs.Output.{three-written}
+use Rattle.meaning.proofs.ModelWords.{fact-length}
+use Rattle.records.proofs.Writing.{three-written}
 use Rattle.records.proofs.Writing.{room-same}
 use Rattle.countermodel.proofs.Sizes.{row-length}
 use Rattle.countermodel.proofs.write_row.Statement.{statement}
@@ -43,7 +44,7 @@ returns : tie.Need-returns
 unfolding factsAt
 returns c =
     let s = c .before .before .before .before .before .before .before .before .before .before .before .before .before .before .before in
-    three-written refl (s .pre .2) (c .before .before .before .before .before .before .before .before .before .before .before .write-classes .ensures) (c .before .before .before .before .before .before .before .write-values .ensures)
+    three-written fact-length refl (s .pre .2) (c .before .before .before .before .before .before .before .before .before .before .before .write-classes .ensures) (c .before .before .before .before .before .before .before .write-values .ensures)
     (rw (c .before .before .before .before .place .ensures) at (c .before .before .write-edges .ensures))
 
 pub write-row-spec : {M : Type 1} → statement M
