@@ -7,12 +7,12 @@ use mathlib.Core.Path.{_∙_, _≡_, ap, sym}
 use native.Mathlib.Omega.{arith}
 use Rattle.functional.specs.FunctionalNames.{FunctionalNames}
 use Rattle.meaning.proofs.Defaults.{accepted-feature, accepted-role}
-use Rattle.meaning.proofs.Wellformed.{accepted-counts}
+use Rattle.meaning.proofs.Wellformed.{accepted-counts, vocabulary-sound}
 use Rattle.meaning.specs.Limits.{mostRoles}
 use Rattle.meaning.specs.Records.{isName}
 use Rattle.meaning.specs.Stated.{isManyFeature, isManyRole}
 use Rattle.meaning.specs.Vocabulary.{axiomsOf, featureCount, isNamed, roleCount, vocabularyOf, vocabularyRefusal}
-use Rattle.vocabulary.proofs.Names.{Settable, accepted-walkable, many-features, many-roles, names-in}
+use Rattle.vocabulary.proofs.Names.{Settable, many-features, many-roles, names-in}
 use Rattle.vocabulary.specs.Names.{Noted}
 use Rattle.words.proofs.Others.{in-others}
 use Rattle.words.specs.Members.{othersOf}
@@ -30,9 +30,9 @@ module _ (v : List ℕ) (h : vocabularyRefusal v ≡ 0) where
       r ≡ includingAll (replicate 2 0) (othersOf a R) → f ≡ includingAll (replicate 2 0) (othersOf b F) → FunctionalNames v (record { roles = r; features = f })
   unfolding isManyRole isManyFeature vocabularyOf
   functional-names {R = R} {F = F} eR eF a b r f =
-      let w = accepted-walkable v h in
+      let s = vocabulary-sound v h in
       let c = accepted-counts v h in
       record {
-        role = λ d. in-unnamed v 6 R (many-roles w) (omega arith) a r d ∙ rw eR (sym (accepted-role v h d));
-        feature = λ d. in-unnamed v 7 F (many-features w) (omega arith) b f d ∙ rw eF (sym (accepted-feature v h d));
+        role = λ d. in-unnamed v 6 R (many-roles v (s .headed) (s .chain)) (omega arith) a r d ∙ rw eR (sym (accepted-role v h d));
+        feature = λ d. in-unnamed v 7 F (many-features v (s .headed) (s .chain)) (omega arith) b f d ∙ rw eF (sym (accepted-feature v h d));
       }

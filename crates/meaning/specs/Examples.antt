@@ -26,9 +26,9 @@ five a b c d e rest = a ∷ four b c d e rest
 abbrev six : ℕ → ℕ → ℕ → ℕ → ℕ → ℕ → List ℕ → List ℕ
 six a b c d e f rest = a ∷ five b c d e f rest
 
--- SPECIFICATION 11.1: the desk's vocabulary, whose record 7 says how many values feature 1 has, and whose last record lets role 3 have many
-abbrev deskWith : ℕ → List ℕ
-deskWith kind =
+-- SPECIFICATION 11.1: the desk's vocabulary: its record 7, of a kind, says how many values feature 1 has, and others follow it
+abbrev deskWith : ℕ → List ℕ → List ℕ
+deskWith kind rest =
     four 4 3 1 1
     (four 1 2 1 2
     (four 1 4 1 3
@@ -36,29 +36,22 @@ deskWith kind =
     (four 2 1 3 5
     (four 3 1 0 6
     (four 3 2 0 7
-    (four kind 1 0 8
-    (four 5 3 1 9
-    (four 6 3 0 0 [])))))))))
+    (four kind 1 0 8 rest)))))))
+
+-- role 3 has range 1, and many values
+abbrev rangedMany : List ℕ
+rangedMany = four 5 3 1 9 (four 6 3 0 0 [])
 
 abbrev pub desk : List ℕ
-desk = deskWith 4
+desk = deskWith 4 rangedMany
 
 -- the same, with a feature that is not functional
 abbrev pub loose : List ℕ
-loose = deskWith 7
+loose = deskWith 7 rangedMany
 
 -- the desk's vocabulary before kind 6: role 3, of which it says nothing more, is functional
 abbrev pub former : List ℕ
-former =
-    four 4 3 1 1
-    (four 1 2 1 2
-    (four 1 4 1 3
-    (four 1 4 3 4
-    (four 2 1 3 5
-    (four 3 1 0 6
-    (four 3 2 0 7
-    (four 4 1 0 8
-    (four 5 3 1 0 []))))))))
+former = deskWith 4 (four 5 3 1 0 [])
 
 -- role r reaching class c; R1.2 is `reaching 1 2`
 abbrev reaching : ℕ → ℕ → List ℕ

@@ -1,7 +1,7 @@
 -- The names that the reader notes on its way along the chain, and what it finds in them.
-use Prim.Native.Nat.{_<_, _≤_, suc, zero, ℕ}
+use Prim.Native.Nat.{_≤_, suc, zero, ℕ}
 use mathlib.Core.Bool.{Bool, cond, false, true}
-use mathlib.Core.List.{List, [], _∷_, foldl-append}
+use mathlib.Core.List.{List, [], _∷_, foldl, foldl-append}
 use mathlib.Core.Path.{_∙_, _≡_, ap, refl, subst, sym}
 use lib.Dec.{T, eqb, eqb→eq}
 use lib.Ieee.Bits.{is-true}
@@ -12,16 +12,15 @@ use Rattle.meaning.proofs.Links.{enough-end, falling-le, falls, onward-le, pass
 use Rattle.meaning.proofs.Refusals.{orElse-first}
 use Rattle.meaning.proofs.Rules.{all-flatMap, all-mono, any-at, any-in, any-mono, any-out, at-any, eqb-of, isTrue, same-test}
 use Rattle.meaning.proofs.Stated.{functional-feature-named, functional-role-named, many-feature-named, many-role-named, nameBy-at}
-use Rattle.meaning.proofs.Wellformed.{axioms-named, vocabulary-sound}
+use Rattle.meaning.proofs.Wellformed.{axioms-named}
 use Rattle.meaning.specs.Accepted.{AxiomOf}
 use Rattle.meaning.specs.Limits.{mostFeatures, mostRoles}
 use Rattle.meaning.specs.Lists.{All, any}
-use Rattle.meaning.specs.Records.{Enough, Name, Onward, falling, lastOf}
+use Rattle.meaning.specs.Records.{Enough, Name, Onward, lastOf}
 use Rattle.meaning.specs.Vocabulary.{Axiom, axiomAt, axiomFits, axiomKind, axiomLeft, axiomNext, axiomsFrom, axiomsOf, axiomsRefusal}
 use Rattle.meaning.specs.Vocabulary.{featureCount, firstAxiom, headedVocabulary, isNamed, isOpposed, nameBy, namesBy, roleCount}
-use Rattle.meaning.specs.Vocabulary.{soundAxiom, vocabularyOf, vocabularyRefusal}
-use Rattle.records.proofs.Chains.{Walking, walking-ends, walking-falls, walking-on, walking-sound, walking-starts}
-use Rattle.vocabulary.proofs.Chain.{axiomLinks, axioms-along}
+use Rattle.meaning.specs.Vocabulary.{soundAxiom, vocabularyOf}
+use Rattle.vocabulary.proofs.Chain.{foldl-flatMap}
 use Rattle.vocabulary.specs.Names.{Noted, chainRefusal, nameAt}
 use Rattle.words.proofs.Laws.{in-listed, listed-in}
 use Rattle.words.proofs.Others.{in-all, length-includingAll}
@@ -89,59 +88,35 @@ module _ {v w₀ w : List ℕ} {kind k : ℕ} (p : Noting v kind w₀ k w) where
                   (sym (foldl-append including w (nameBy kind (axiomAt v k)) (namesBy kind (axiomsFrom f v (axiomNext v k)))) ∙ (rw (ne-eqb k 0 n) at s));
             }
 
--- ---- the same along the chain of an accepted vocabulary
+-- ---- the same along the chain of an accepted vocabulary, where the loop is a fold
 
--- a loop that puts the names of a kind in has come to record k: with those of the records that are left it has all
-pub record Putting (v : List ℕ) (kind : ℕ) (w₀ : List ℕ) (k : ℕ) (w : List ℕ) : Type 0 where
-  pub long : length w ≡ length w₀
-  pub walk : Walking (axiomLinks v) (λ l. includingAll w (namesBy kind l) ≡ includingAll w₀ (namesBy kind (axiomsOf v))) k
+abbrev pub withName : ℕ → List ℕ → Axiom → List ℕ
+withName kind w x = includingAll w (nameBy kind x)
 
-module _ {v w₀ : List ℕ} {kind k : ℕ} where
-  pub putting-starts : vocabularyRefusal v ≡ 0 → k ≡ firstAxiom v → Putting v kind w₀ k w₀
-  unfolding vocabularyOf
-  putting-starts h e = record { long = refl; walk = walking-starts (axioms-along v h) e refl }
+pub name-step : (v : List ℕ) (kind k : ℕ) (w : List ℕ) {t : List ℕ} → axiomFits v k ≡ true → t ≡ includingAll w (nameAt v kind k) → t ≡ withName kind w (axiomAt v k)
+name-step v kind k w f e = e ∙ ap (includingAll w) (sym (nameBy-at v k f kind))
 
-  module _ {w : List ℕ} (p : Putting v kind w₀ k w) where
-    pub putting-ends : k ≡ 0 → Noted v kind w₀ w
-    unfolding axiomLinks includingAll namesBy
-    putting-ends z = walking-ends (p .walk) z
+pub names-noted : (v : List ℕ) (kind : ℕ) (w₀ : List ℕ) {w : List ℕ} → w ≡ foldl (withName kind) w₀ (vocabularyOf v .axioms) → Noted v kind w₀ w
+unfolding includingAll namesBy vocabularyOf
+names-noted v kind w₀ e = e ∙ foldl-flatMap including (nameBy kind) w₀ (axiomsOf v)
 
-    module _ (n : k ≡ 0 → ⊥) {x : ℕ} (e : x ≡ axiomNext v k) where
-      pub putting-falls : falling (lastOf 4 v) x < falling (lastOf 4 v) k
-      unfolding axiomLinks
-      putting-falls = walking-falls (p .walk) n e
-
-      pub putting-on : {t : List ℕ} → t ≡ includingAll w (nameAt v kind k) → Putting v kind w₀ x t
-      unfolding axiomLinks includingAll namesBy
-      putting-on q =
-          record {
-            long = ap length q ∙ length-includingAll (nameAt v kind k) w ∙ p .long;
-            walk = walking-on (p .walk) n e (λ l h.
-                rw (q, ← nameBy-at v k (walking-sound (p .walk) n) kind) (sym (foldl-append including w (nameBy kind (axiomAt v k)) (namesBy kind l)) ∙ h));
-          }
+pub noted-length : (v : List ℕ) (kind : ℕ) (w₀ : List ℕ) {w : List ℕ} → Noted v kind w₀ w → length w ≡ length w₀
+noted-length v kind w₀ e = ap length e ∙ length-includingAll (namesBy kind (axiomsOf v)) w₀
 
 -- ---- the sets
-
--- neither 2 nor 3 is told
-pub record Walkable (v : List ℕ) : Type 0 where
-  pub headed : headedVocabulary v ≡ true
-  pub read : axiomsRefusal (length v) v (firstAxiom v) ≡ 0
-
-pub accepted-walkable : (v : List ℕ) → vocabularyRefusal v ≡ 0 → Walkable v
-accepted-walkable v h = let s = vocabulary-sound v h in record { headed = s .headed; read = s .chain }
 
 -- a set of 64 has a bit for the names of a kind
 abbrev pub Settable : List ℕ → ℕ → Type 0
 Settable v kind = All (Name mostRoles) (namesBy kind (axiomsOf v))
 
-module _ {v : List ℕ} (w : Walkable v) where
+module _ (v : List ℕ) (headed : headedVocabulary v ≡ true) (read : axiomsRefusal (length v) v (firstAxiom v) ≡ 0) where
   settable : (kind n : ℕ) → n ≤ mostRoles → ((x : Axiom) → AxiomOf v x → All (Name n) (nameBy kind x)) → Settable v kind
   unfolding namesBy axiomsOf
   settable kind n few h =
-      all-flatMap (nameBy kind) (all-mono (λ x a. all-mono (λ d m. (m .0, omega (arith, m .1))) (h x a)) (axioms-named v (length v) (firstAxiom v) (w .read)))
+      all-flatMap (nameBy kind) (all-mono (λ x a. all-mono (λ d m. (m .0, omega (arith, m .1))) (h x a)) (axioms-named v (length v) (firstAxiom v) read))
 
   counts : (roleCount v ≤ mostRoles) × (featureCount v ≤ mostFeatures)
-  counts = let u = simp tests at (w .headed) in (u .1 .0, u .1 .1 .0)
+  counts = let u = simp tests at headed in (u .1 .0, u .1 .1 .0)
 
   pub functional-roles : Settable v 3
   functional-roles = settable 3 (roleCount v) (counts .0) (functional-role-named _ _ _)
@@ -185,11 +160,8 @@ module _ (v : List ℕ) {r : ℕ} (e : r ≡ axiomsRefusal (length v) v (firstAx
 
   module _ (headed : headedVocabulary v ≡ true) (z : r ≡ 0) {a b : List ℕ} (p : r ≡ 0 → Noted v 3 (replicate 2 0) a) (q : r ≡ 0 → Noted v 6 (replicate 2 0) b)
       {roles : Bool} (f : roles ≡ any (inSet b) (members a)) where
-    walkable : Walkable v
-    walkable = record { headed = headed; read = sym e ∙ z }
-
     roles-both : any (isNamed 6 (axiomsOf v)) (namesBy 3 (axiomsOf v)) ≡ roles
-    roles-both = sym (f ∙ both-named v 3 6 (functional-roles walkable) (many-roles walkable) (p z) (q z))
+    roles-both = sym (f ∙ both-named v 3 6 (functional-roles v headed (sym e ∙ z)) (many-roles v headed (sym e ∙ z)) (p z) (q z))
 
     pub roles-opposed : roles ≡ true → 44 ≡ chainRefusal v
     unfolding isOpposed
@@ -197,7 +169,7 @@ module _ (v : List ℕ) {r : ℕ} (e : r ≡ axiomsRefusal (length v) v (firstAx
 
     module _ (t : roles ≡ false) {c d : List ℕ} (x : r ≡ 0 → Noted v 4 (replicate 2 0) c) (y : r ≡ 0 → Noted v 7 (replicate 2 0) d) {features : Bool} (g : features ≡ any (inSet d) (members c)) where
       features-both : any (isNamed 7 (axiomsOf v)) (namesBy 4 (axiomsOf v)) ≡ features
-      features-both = sym (g ∙ both-named v 4 7 (functional-features walkable) (many-features walkable) (x z) (y z))
+      features-both = sym (g ∙ both-named v 4 7 (functional-features v headed (sym e ∙ z)) (many-features v headed (sym e ∙ z)) (x z) (y z))
 
       pub features-opposed : features ≡ true → 44 ≡ chainRefusal v
       unfolding isOpposed
