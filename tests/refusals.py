@@ -80,21 +80,23 @@ def definitions():
 
 
 class Numbers:
-    """The numbers that definitions give, in the order in which they are looked for; one may come more than once."""
+    """The numbers that definitions give, in the order in which they are looked for."""
 
     def __init__(self):
         self.bodies = definitions()
-        self.within = []
+        self.within, self.known = [], {}
         # a second policy's numbers are so many more
         (self.more,) = [int(clause[0]) for clause in self.bodies['secondRefusal'] if clause[1:] == ['+', 'suc', 'n']]
 
     def given(self, name):
         if name not in self.bodies or name in self.within:
             return []
-        self.within.append(name)
-        numbers = [n for clause in self.bodies[name] for n in self.arm(clause, {})]
-        self.within.pop()
-        return numbers
+        if name not in self.known:
+            # a definition names itself or earlier ones alone, so that what it gives does not depend on who asks
+            self.within.append(name)
+            self.known[name] = list(dict.fromkeys(n for clause in self.bodies[name] for n in self.arm(clause, {})))
+            self.within.pop()
+        return self.known[name]
 
     def arm(self, items, lets):
         """What a clause or an arm of `cond` gives: in a refusal it may be the number itself, and 0 is none."""
