@@ -6,7 +6,7 @@ A line of two dots alone stands for lines that are left out; in a block of `text
 The tables of crates have every crate once, in the order of crates.txt. A name in ARCHITECTURE's is declared in the row's crate, and a name
 in the tables of PLACING is declared, where a module or a crate stands behind it in brackets, there. No line of NARROW has over
 120 characters. In every page a link leads to a file that is there, and to a heading of it. The version at the head of docs/CHANGES.md
-is every package's.
+is every package's. README and the newest landing in docs/CHANGES.md say how many must-fail edits there are.
 """
 import os
 import re
@@ -18,6 +18,7 @@ from names import PLACED, QUOTED, declarations, words  # noqa: E402
 from picture import listed  # noqa: E402
 
 HOUSE, GUIDE, CHANGES = 'docs/ARCHITECTURE.md', 'CONTRIBUTING.md', 'docs/CHANGES.md'
+EDITS = [('README.md', r'(\d+) wrong edits'), (CHANGES, r'\*\*Must-fail edits\*\*: (\d+)')]
 CRATES = '## The crates in order'
 QUOTING = [HOUSE, GUIDE]
 TABLES = [(HOUSE, CRATES), (GUIDE, '## How long each crate takes')]
@@ -144,7 +145,15 @@ def wrong_versions():
                 yield '%s: version %s, where %s says %s' % (package, version, CHANGES, ', '.join(said))
 
 
-CHECKS = [wrong_quotes, wrong_tables, wrong_names, wrong_links, wrong_lines, wrong_versions]
+def wrong_counts():
+    edits = len(glob('crates/*/must-fail/*.edit'))
+    for page, form in EDITS:
+        said = re.search(form, read(page))
+        if not said or int(said[1]) != edits:
+            yield '%s: it does not say that there are %d must-fail edits' % (page, edits)
+
+
+CHECKS = [wrong_quotes, wrong_tables, wrong_names, wrong_links, wrong_lines, wrong_versions, wrong_counts]
 
 
 def main():

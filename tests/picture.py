@@ -11,13 +11,14 @@ from html import escape
 from textwrap import wrap
 
 LIST, PICTURE = 'crates.txt', 'docs/crates.svg'
-SHARED = {'meaning', 'intervals', 'frames', 'words', 'records', 'keys', 'layout', 'spelling'}
+SHARED = {'meaning', 'theory', 'intervals', 'frames', 'words', 'records', 'keys', 'layout', 'spelling'}
 PLACES, CALLERS = 'layout', 'exports'
 
 # Each stage has a title, a colour, and its crates: the column and the row that each stands in, and what it is for.
 STAGES = [
     ('The shelf, used in many places: no arrows are drawn from these', '#f1f1ee', {
-        'meaning': (3, 0, 'the definitions and the theorems about them; the names, the answers, the limits'),
+        'meaning': (1.25, 0, 'the definitions, with their examples; the names, the answers, the limits'),
+        'theory': (4.75, 0, 'the theorems about the definitions'),
         'intervals': (0, 1, 'lo..hi: inside, empty, touching'),
         'frames': (1, 1, 'what a call may change; 21; clearing'),
         'words': (2, 1, 'sets of numbers in words'),
@@ -27,7 +28,7 @@ STAGES = [
         'spelling': (6, 1, 'one spelling: definitions, theorems'),
     }),
     ('1  Tables read', '#fdf3dc', {
-        'vocabulary': (1, 2, 'what is refused of it: 1 to 3'),
+        'vocabulary': (1, 2, 'what is refused of it: 1 to 3, 44'),
         'policy': (4, 2, 'what is refused of it: 4 to 8, 14 to 18'),
         'readers': (5, 2, 'a program that tries the readers'),
         'model': (6, 2, 'what is refused of it: 31 to 33'),
@@ -93,6 +94,7 @@ PLACE = {name: place for _, _, crates in STAGES for name, place in crates.items(
 # The points, in columns and rows, by which an arrow goes around what is in its way; it starts and ends at the sides named.
 WAYS = {
     ('vocabulary', 'model'): ('top', [(1.3, 1.54), (6, 1.54)], 'top'),
+    ('functional', 'satisfaction'): ('top', [(2.3, 2.47), (5.8, 2.47)], 'top'),
     ('preparation', 'normal_form'): ('right', [(2.24, 4)], 'top'),
     ('policy', 'normal_form'): ('bottom', [(3.7, 2.4), (2.5, 2.4), (2.5, 4.45), (2.37, 4.45)], 'top'),
     ('policy', 'spans'): ('bottom', [(4.3, 2.4), (5.5, 2.4), (5.5, 4)], 'left'),
@@ -137,10 +139,10 @@ def pixel(column, row):
 
 
 def box(name):
-    """Left, top, width and height; the crate that all are built on is as wide as the sheet."""
+    """Left, top, width and height; the two crates that all are built on are half as wide as the sheet."""
     column, row, _ = PLACE[name]
     x, y = pixel(column, row)
-    width = WIDTH + 6 * STEP if row == 0 else WIDTH
+    width = round(WIDTH + 2.5 * STEP) if row == 0 else WIDTH
     return x - width // 2, y - HEIGHT // 2, width, HEIGHT
 
 

@@ -9,7 +9,7 @@ use Rattle.arrangement.proofs.Inserting.{Low, insert-item, runs-low}
 use Rattle.arrangement.specs.Insertion.{arranged, insertItem}
 use Rattle.arrangement.specs.Runs.{Fronted, chainItems, classKey, classesOf, itemsBelow, listedItem, roleItem, runOf, runsOf}
 use Rattle.entries.specs.Entries.{Item}
-use Rattle.meaning.proofs.Rules.{all-append, all-at, all-of, head, tail}
+use Rattle.theory.proofs.Rules.{all-append, all-at, all-of, head, tail}
 use Rattle.meaning.specs.Intervals.{Constraint}
 use Rattle.meaning.specs.Lists.{All, cons, nil}
 use Rattle.meaning.specs.NormalForm.{Node, Successors, none, successor}

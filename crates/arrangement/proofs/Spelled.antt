@@ -5,7 +5,7 @@ use Rattle.arrangement.proofs.Arranging.{arranged-roles, roles-have-run
 use Rattle.arrangement.proofs.Comparing.{HasRun}
 use Rattle.arrangement.specs.Insertion.{arranged}
 use Rattle.arrangement.specs.Runs.{Fronted, itemsBelow, policyItems, runsOf}
-use Rattle.meaning.proofs.Rules.{map-all}
+use Rattle.theory.proofs.Rules.{map-all}
 use Rattle.meaning.specs.Lists.{All, filter}
 use Rattle.meaning.specs.NormalForm.{possible}
 use Rattle.meaning.specs.Policy.{Policy}

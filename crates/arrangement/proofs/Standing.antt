@@ -15,7 +15,7 @@ use Rattle.entries.specs.Entries.{Item, classesAt, depthAt, fieldsAt, itemAt, o
 use Rattle.layout.proofs.Filling.{held-range, own-held, parts}
 use Rattle.layout.specs.Tables.{ConstraintsStand, Held, RowStands, RowsStand, constraintAt, heldAt, heldBelow, heldBy, holderAt, parentAt, setAt}
 use Rattle.layout.specs.declared.Tables.{Tables}
-use Rattle.meaning.proofs.Rules.{any-in, any-mono, any-out, eqb-of, isTrue, or-left, order, same-test}
+use Rattle.theory.proofs.Rules.{any-in, any-mono, any-out, eqb-of, isTrue, or-left, order, same-test}
 use Rattle.meaning.specs.Countermodel.{size}
 use Rattle.meaning.specs.Intervals.{Constraint}
 use Rattle.meaning.specs.Limits.{mostRecords}

@@ -12,7 +12,7 @@ use Rattle.carriers.specs.Carriers.{Carrier, HasCarrier, Listed, Unliste
 use Rattle.layout.specs.Nesting.{Nested}
 use Rattle.layout.specs.Tables.{Standing, parentAt}
 use Rattle.layout.specs.declared.Tables.{Tables}
-use Rattle.meaning.proofs.Rules.{order}
+use Rattle.theory.proofs.Rules.{order}
 use Rattle.meaning.specs.Limits.{mostRecords}
 
 -- the rows from k on are listed, and no other

@@ -11,9 +11,9 @@ use Rattle.closure.proofs.Steps.{lifted-length}
 use Rattle.closure.specs.Index.{Entry, Heads, Met, Nexts, Raisable, Raised, Rises, raised-more, raised-none, records}
 use Rattle.closure.specs.Rows.{Closed, Grown, begun, lifted}
 use Rattle.frames.proofs.Frames.{only-none, only-then}
-use Rattle.meaning.proofs.Rules.{all-at, head}
-use Rattle.meaning.proofs.Stated.{subclass-at, subclass-named}
-use Rattle.meaning.proofs.Wellformed.{accepted-axioms, accepted-counts, accepted-size, axiom-named}
+use Rattle.theory.proofs.Rules.{all-at, head}
+use Rattle.theory.proofs.Stated.{subclass-at, subclass-named}
+use Rattle.theory.proofs.Wellformed.{accepted-axioms, accepted-counts, accepted-size, axiom-named}
 use Rattle.meaning.specs.Limits.{mostAxioms, mostClasses}
 use Rattle.meaning.specs.Lists.{All, _∈_, here, there}
 use Rattle.meaning.specs.Records.{Name, Onward, falling, lastOf}

@@ -12,9 +12,9 @@ use Rattle.closure.specs.Rows.{ClosedRows, RangeRows, Ranged, RolePlaces
 use Rattle.frames.proofs.Frames.{only-span, only-then, row-before}
 use Rattle.frames.specs.Frames.{Only, Span}
 use Rattle.layout.specs.Places.{roleRow, rowPlace}
-use Rattle.meaning.proofs.Bounds.{rangePairs-named}
-use Rattle.meaning.proofs.Rules.{head, tail}
-use Rattle.meaning.proofs.Wellformed.{accepted-counts}
+use Rattle.theory.proofs.Bounds.{rangePairs-named}
+use Rattle.theory.proofs.Rules.{head, tail}
+use Rattle.theory.proofs.Wellformed.{accepted-counts}
 use Rattle.meaning.specs.Limits.{mostClasses}
 use Rattle.meaning.specs.Lists.{All, any}
 use Rattle.meaning.specs.Records.{Name}

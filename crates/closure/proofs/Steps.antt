@@ -11,9 +11,9 @@ use Rattle.closure.proofs.Rows.{Fits, fillRows-only, joined-only, joine
 use Rattle.closure.specs.Rows.{Grown, RoleRoom, emptied, empty, extend, fillRows, joined, lift, lifted, rowOf, widened}
 use Rattle.frames.specs.Rows.{putAt}
 use Rattle.layout.specs.Places.{roleRow, rowPlace}
-use Rattle.meaning.proofs.Rules.{head}
-use Rattle.meaning.proofs.Stated.{rangePair-at, rangePair-named, rangePair-other, subclass-at, subclass-named, subclass-other}
-use Rattle.meaning.proofs.Wellformed.{axiom-named}
+use Rattle.theory.proofs.Rules.{head}
+use Rattle.theory.proofs.Stated.{rangePair-at, rangePair-named, rangePair-other, subclass-at, subclass-named, subclass-other}
+use Rattle.theory.proofs.Wellformed.{axiom-named}
 use Rattle.meaning.specs.Accepted.{AxiomOf}
 use Rattle.meaning.specs.Limits.{mostClasses, mostRoles}
 use Rattle.meaning.specs.Lists.{All, cons, nil}

@@ -13,8 +13,8 @@ use Rattle.frames.proofs.Work.{Done}
 use Rattle.frames.specs.Frames.{Only, Span}
 use Rattle.functional.specs.declared.Functional.{Functional}
 use Rattle.layout.specs.Places.{pairsEnd}
-use Rattle.meaning.proofs.Compliance.{compliance-told, no-escape}
-use Rattle.meaning.proofs.Interpretations.{tested-finite}
+use Rattle.theory.proofs.Compliance.{compliance-told, no-escape}
+use Rattle.theory.proofs.Interpretations.{tested-finite}
 use Rattle.meaning.specs.Answers.{VerdictResult, compliant, outside, result, verdictAnswer}
 use Rattle.meaning.specs.Containment.{Decision, Refutes, contained, crowded, escapes, resolve}
 use Rattle.meaning.specs.Countermodel.{countermodel}

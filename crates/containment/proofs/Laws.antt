@@ -8,7 +8,7 @@ use lib.ListN.{length}
 use Rattle.containment.specs.Verdicts.{PossiblePost}
 use Rattle.frames.proofs.Work.{Done}
 use Rattle.functional.specs.declared.Functional.{Functional}
-use Rattle.meaning.proofs.Refusals.{orElse-assoc, orElse-zero, says-unless}
+use Rattle.theory.proofs.Refusals.{orElse-assoc, orElse-zero, says-unless}
 use Rattle.meaning.specs.Answers.{PossibilityResult, firstPossible, possibilityAnswer, refused, result}
 use Rattle.meaning.specs.NormalForm.{possible}
 use Rattle.meaning.specs.Operations.{Outcome, possibility, possibleFrom, says, unless, workRefusal}

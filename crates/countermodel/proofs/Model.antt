@@ -12,8 +12,8 @@ use Rattle.layout.specs.Combination.{Combined, Individual, Kin}
 use Rattle.layout.specs.Places.{individualPlace}
 use Rattle.layout.specs.Tables.{Above, Standing, pieceAt, setAt}
 use Rattle.layout.specs.declared.Tables.{Tables}
-use Rattle.meaning.proofs.Closure.{below-bounded}
-use Rattle.meaning.proofs.Rules.{all-any, any-out, isTrue}
+use Rattle.theory.proofs.Closure.{below-bounded}
+use Rattle.theory.proofs.Rules.{all-any, any-out, isTrue}
 use Rattle.meaning.specs.Countermodel.{canonicalModel, classesAbove, countermodel, recordsBelow, recordsOf, size}
 use Rattle.meaning.specs.Limits.{mostClasses}
 use Rattle.meaning.specs.Lists.{All, any}

@@ -16,13 +16,13 @@ use Rattle.layout.specs.Combination.{Combined}
 use Rattle.layout.specs.Places.{InTables}
 use Rattle.layout.specs.Tables.{Standing}
 use Rattle.layout.specs.declared.Tables.{Tables}
-use Rattle.meaning.proofs.Bounds.{bounded, chain-bounded}
-use Rattle.meaning.proofs.Containment.{witness}
-use Rattle.meaning.proofs.ModelWords.{model-length}
-use Rattle.meaning.proofs.Normal.{BoundedChain}
-use Rattle.meaning.proofs.Rules.{isTrue}
-use Rattle.meaning.proofs.ShortWay.{decide-behind, resolve-decide, short-agrees, short-uncrowded, split-crowded}
-use Rattle.meaning.proofs.Wellformed.{accepted-counts}
+use Rattle.theory.proofs.Bounds.{bounded, chain-bounded}
+use Rattle.theory.proofs.Containment.{witness}
+use Rattle.theory.proofs.ModelWords.{model-length}
+use Rattle.theory.proofs.Normal.{BoundedChain}
+use Rattle.theory.proofs.Rules.{isTrue}
+use Rattle.theory.proofs.ShortWay.{decide-behind, resolve-decide, short-agrees, short-uncrowded, split-crowded}
+use Rattle.theory.proofs.Wellformed.{accepted-counts}
 use Rattle.meaning.specs.Accepted.{ChainOf}
 use Rattle.meaning.specs.Answers.{VerdictResult, outside, result}
 use Rattle.meaning.specs.Containment.{contained, crowded, decide, decideFrom, escapes, firstFailure, orEscape, passes, resolve, tooMany}

@@ -15,8 +15,8 @@ use Rattle.layout.proofs.Nesting.{tabled-nested}
 use Rattle.layout.specs.Places.{InTables}
 use Rattle.layout.specs.Tables.{Pieces}
 use Rattle.layout.specs.declared.Tables.{Tables}
-use Rattle.meaning.proofs.Rules.{order}
-use Rattle.meaning.proofs.Sizes.{normal-intervals}
+use Rattle.theory.proofs.Rules.{order}
+use Rattle.theory.proofs.Sizes.{normal-intervals}
 use Rattle.meaning.specs.Accepted.{ChainOf, intervalCount}
 use Rattle.meaning.specs.Containment.{firstFailure, tooMany}
 use Rattle.meaning.specs.Limits.{mostCombinations, mostRecords}

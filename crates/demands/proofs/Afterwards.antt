@@ -11,8 +11,8 @@ use borrow.Author.Tests.{ltb-false}
 use Rattle.demands.proofs.Orders.{Follows, answering, refusing}
 use Rattle.demands.specs.Refusals.{FirstRefusal, here, inputOrder, later, modelCheckOrder, possibleOrder}
 use Rattle.demands.specs.Slices.{WorkCleared, WritesFirst}
-use Rattle.meaning.proofs.Refusals.{model-early, policy-early, second-early, vocabulary-early, work-early}
-use Rattle.meaning.proofs.Rules.{all-at}
+use Rattle.theory.proofs.Refusals.{model-early, policy-early, second-early, vocabulary-early, work-early}
+use Rattle.theory.proofs.Rules.{all-at}
 use Rattle.meaning.specs.Answers.{Answer, ComparisonResult, VerdictResult, differs, outside, refused, result}
 use Rattle.meaning.specs.Limits.{workSize}
 use Rattle.meaning.specs.Lists.{All, _∈_, cons, nil}

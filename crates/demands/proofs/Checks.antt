@@ -9,10 +9,10 @@ use Rattle.containment.specs.Verdicts.{CompliancePost}
 use Rattle.decision.proofs.Policies.{taken}
 use Rattle.demands.proofs.Afterwards.{comparison-written, verdict-written}
 use Rattle.equality.specs.Comparisons.{EqualityPost}
-use Rattle.meaning.proofs.Checking.{check-right}
-use Rattle.meaning.proofs.Compliance.{compliance-told}
-use Rattle.meaning.proofs.Equality.{equality-compared}
-use Rattle.meaning.proofs.Written.{first-checked, second-checked, written-checked}
+use Rattle.theory.proofs.Checking.{check-right}
+use Rattle.theory.proofs.Compliance.{compliance-told}
+use Rattle.theory.proofs.Equality.{equality-compared}
+use Rattle.theory.proofs.Written.{first-checked, second-checked, written-checked}
 use Rattle.meaning.specs.Answers.{checkedAnswer, result, yes}
 use Rattle.meaning.specs.Limits.{workSize}
 use Rattle.meaning.specs.Operations.{compliance, equality, modelCheck}

@@ -15,8 +15,8 @@ use Rattle.demands.proofs.Verdicts.{compliant-only, compliant-where}
 use Rattle.demands.specs.Enough.{Answers, BothUncrowded, BothWithinLimits, Comparable, Compares, Long, LongEither}
 use Rattle.demands.specs.Sides.{NamesASide}
 use Rattle.equality.specs.Comparisons.{EqualityPost}
-use Rattle.meaning.proofs.Apart.{indistinct-not-told-apart, refutes-apart, uncrowded-equal-iff}
-use Rattle.meaning.proofs.Equality.{equal-right, indistinct-right}
+use Rattle.theory.proofs.Apart.{indistinct-not-told-apart, refutes-apart, uncrowded-equal-iff}
+use Rattle.theory.proofs.Equality.{equal-right, indistinct-right}
 use Rattle.meaning.specs.Answers.{ComparisonResult, comparisonAnswer, differs, equal, refused, result}
 use Rattle.meaning.specs.Containment.{Decision, Indistinct, ToldApart, contained, escapes, resolve}
 use Rattle.meaning.specs.Countermodel.{countermodel}

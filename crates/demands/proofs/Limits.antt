@@ -2,7 +2,7 @@
 use Prim.Native.Nat.{ℕ}
 use mathlib.Core.List.{List}
 use Rattle.demands.specs.Enough.{BothUncrowded, BothWithinLimits, Uncrowded, WithinLimits}
-use Rattle.meaning.proofs.ShortWay.{few-uncrowded}
+use Rattle.theory.proofs.ShortWay.{few-uncrowded}
 use Rattle.meaning.specs.Policy.{policyOf}
 use Rattle.meaning.specs.Vocabulary.{vocabularyOf}
 

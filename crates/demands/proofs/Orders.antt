@@ -9,7 +9,7 @@ use lib.ListN.{length}
 use native.Mathlib.Omega.{arith}
 use Rattle.demands.specs.Refusals.{FirstRefusal, complianceOrder, equalityOrder, here, inputOrder, later, manyRefusal, modelCheckOrder, policyOrder, possibleOrder}
 use Rattle.demands.specs.Refusals.{secondPolicyOrder, shortRefusal, vocabularyOrder}
-use Rattle.meaning.proofs.Refusals.{cond-all}
+use Rattle.theory.proofs.Refusals.{cond-all}
 use Rattle.meaning.specs.Answers.{Answer, CheckResult, accepted, compliant, differs, equal, no, outside, refused, result, yes}
 use Rattle.meaning.specs.Containment.{Decision, contained, crowded, escapes, resolve}
 use Rattle.meaning.specs.Countermodel.{countermodel}

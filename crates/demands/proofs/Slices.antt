@@ -14,8 +14,8 @@ use Rattle.demands.proofs.Refusals.{compliance-refused-iff, equality-re
 use Rattle.demands.specs.Enough.{Answers, Compares}
 use Rattle.demands.specs.Slices.{WorkCleared, WritesFirst}
 use Rattle.equality.specs.Comparisons.{EqualityPost}
-use Rattle.meaning.proofs.Compliance.{compliance-told}
-use Rattle.meaning.proofs.Equality.{equality-compared}
+use Rattle.theory.proofs.Compliance.{compliance-told}
+use Rattle.theory.proofs.Equality.{equality-compared}
 use Rattle.meaning.specs.Answers.{checkedAnswer, comparisonAnswer, differs, outside, possibilityAnswer, refused, result, verdictAnswer}
 use Rattle.meaning.specs.Operations.{Early, compliance, equality, isLate, outputAfter}
 use Rattle.meaning.specs.Promises.{IsRefusal}

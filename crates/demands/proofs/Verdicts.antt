@@ -11,8 +11,8 @@ use borrow.Author.Tests.{le-leb, le-ltb}
 use Rattle.containment.specs.Verdicts.{CompliancePost}
 use Rattle.demands.proofs.Limits.{limits-uncrowded}
 use Rattle.demands.specs.Enough.{Answerable, Answers, Long, Uncrowded, WithinLimits}
-use Rattle.meaning.proofs.Apart.{compliant-iff-not-apart, uncrowded-compliant-iff}
-use Rattle.meaning.proofs.Compliance.{compliant-right, contained-right}
+use Rattle.theory.proofs.Apart.{compliant-iff-not-apart, uncrowded-compliant-iff}
+use Rattle.theory.proofs.Compliance.{compliant-right, contained-right}
 use Rattle.meaning.specs.Answers.{compliant, outside, refused, result, verdictAnswer}
 use Rattle.meaning.specs.Containment.{Apart, Contained, Decision, contained, escapes, resolve}
 use Rattle.meaning.specs.Countermodel.{countermodel}

@@ -16,10 +16,10 @@ use Rattle.frames.proofs.Work.{Done, outputs-none}
 use Rattle.frames.specs.Frames.{Only}
 use Rattle.functional.specs.declared.Functional.{Functional}
 use Rattle.layout.specs.Places.{InTables}
-use Rattle.meaning.proofs.Compliance.{no-escape}
-use Rattle.meaning.proofs.Equality.{equality-compared}
-use Rattle.meaning.proofs.Interpretations.{tested-finite}
-use Rattle.meaning.proofs.ShortWay.{resolve-decide, short-agrees, short-uncrowded}
+use Rattle.theory.proofs.Compliance.{no-escape}
+use Rattle.theory.proofs.Equality.{equality-compared}
+use Rattle.theory.proofs.Interpretations.{tested-finite}
+use Rattle.theory.proofs.ShortWay.{resolve-decide, short-agrees, short-uncrowded}
 use Rattle.meaning.specs.Answers.{ComparisonResult, comparisonAnswer, compliant, differs, equal, outside, refused, result, verdictAnswer}
 use Rattle.meaning.specs.Containment.{Decision, Refutes, contained, crowded, escapes, resolve, tooMany}
 use Rattle.meaning.specs.Countermodel.{countermodel}

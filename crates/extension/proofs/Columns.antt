@@ -16,8 +16,8 @@ use Rattle.extension.specs.Depths.{Known, Passes, isDue, rank}
 use Rattle.extension.specs.Sets.{Charted, Linked, onward}
 use Rattle.frames.proofs.Frames.{only-none, row-before, row-behind}
 use Rattle.frames.specs.Frames.{Cleared, Only, Span}
-use Rattle.meaning.proofs.Links.{onward-le, tests}
-use Rattle.meaning.proofs.Refusals.{cond-all}
+use Rattle.theory.proofs.Links.{onward-le, tests}
+use Rattle.theory.proofs.Refusals.{cond-all}
 use Rattle.meaning.specs.Accepted.{depth}
 use Rattle.meaning.specs.Limits.{mostIndividuals, mostRecords, mostRoles}
 use Rattle.meaning.specs.Lists.{any, counting}

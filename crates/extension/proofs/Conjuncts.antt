@@ -6,7 +6,7 @@ use mathlib.Core.Path.{_≡_, refl, sym}
 use native.Mathlib.Omega.{arith}
 use lib.Dec.{eqb}
 use Rattle.extension.specs.Sets.{Charted, edgeInto, own, reached}
-use Rattle.meaning.proofs.Terms.{chain-at}
+use Rattle.theory.proofs.Terms.{chain-at}
 use Rattle.meaning.specs.Accepted.{ChainOf, Here, Reads, depth, reads-class, reads-end, reads-impossible, reads-interval, reads-some}
 use Rattle.meaning.specs.Limits.{mostDepth, mostRoles}
 use Rattle.meaning.specs.Lists.{any}

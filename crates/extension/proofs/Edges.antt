@@ -8,7 +8,7 @@ use lib.ListN.{length}
 use native.Mathlib.Omega.{arith}
 use borrow.Author.Tests.{not-false, not-true}
 use Rattle.extension.specs.Columns.{EdgeMarked, columnOf, columnPlace, columnsEnd, hands, maskOf, maskPlace}
-use Rattle.meaning.proofs.Links.{tests}
+use Rattle.theory.proofs.Links.{tests}
 use Rattle.meaning.specs.Limits.{mostIndividuals, mostRoles, workSize}
 use Rattle.meaning.specs.Model.{factAt, factKind, factName, factOther, factOwner}
 use Rattle.meaning.specs.Records.{Name, isName}

@@ -10,9 +10,9 @@ use borrow.Author.Tests.{eq-eqb, eqb-false, eqb-true, le-leb, lt-ltb, ne-eqb}
 use Rattle.extension.specs.Sets.{ClassMarked, MarkedTo, MembersMarked, Sized, early, inClass, marked, markedMember}
 use Rattle.frames.proofs.Frames.{only-none, only-span}
 use Rattle.frames.specs.Frames.{Cleared, Only, Span}
-use Rattle.meaning.proofs.Counting.{in-counting}
-use Rattle.meaning.proofs.Refusals.{cond-all}
-use Rattle.meaning.proofs.Rules.{T-and, and-T, any-at, any-in, any-out, at-any, same-test}
+use Rattle.theory.proofs.Counting.{in-counting}
+use Rattle.theory.proofs.Refusals.{cond-all}
+use Rattle.theory.proofs.Rules.{T-and, and-T, any-at, any-in, any-out, at-any, same-test}
 use Rattle.meaning.specs.Limits.{mostIndividuals, mostRecords}
 use Rattle.meaning.specs.Lists.{any, counting}
 use Rattle.meaning.specs.Model.{individualCount}

@@ -10,7 +10,7 @@ use Rattle.extension.proofs.Conjuncts.{Cut, cut, no-more}
 use Rattle.extension.proofs.Links.{link-same, onward-goes}
 use Rattle.extension.specs.Depths.{Known, Passes, rank}
 use Rattle.extension.specs.Sets.{Charted, Linked}
-use Rattle.meaning.proofs.Links.{falls, onward-le}
+use Rattle.theory.proofs.Links.{falls, onward-le}
 use Rattle.meaning.specs.Accepted.{depth}
 use Rattle.meaning.specs.Model.{factsOf, individualCount}
 use Rattle.meaning.specs.ModelCheck.{holds}

@@ -11,9 +11,9 @@ use Rattle.extension.specs.Depths.{AllMeasured, Passes, Settled, Topped}
 use Rattle.extension.specs.Sets.{AllMarked, Charted, Extended, Sized, Taken}
 use Rattle.frames.proofs.Frames.{only-span, only-then}
 use Rattle.frames.specs.Frames.{Only, Span}
-use Rattle.meaning.proofs.Links.{passed, tests}
-use Rattle.meaning.proofs.Rules.{order}
-use Rattle.meaning.proofs.Wellformed.{accepted, accepted-counts}
+use Rattle.theory.proofs.Links.{passed, tests}
+use Rattle.theory.proofs.Rules.{order}
+use Rattle.theory.proofs.Wellformed.{accepted, accepted-counts}
 use Rattle.meaning.specs.Accepted.{depth}
 use Rattle.meaning.specs.Limits.{mostRoles}
 use Rattle.meaning.specs.Model.{factsOf}

@@ -16,8 +16,8 @@ use Rattle.extension.specs.Columns.{AllFilled, EdgesMarked, below, colum
 use Rattle.extension.specs.Depths.{AllMeasured, Measured, NoneDueTo, Settled, heightOf, isDue, rank}
 use Rattle.extension.specs.Sets.{AllMarked, Charted, Sized, early, edgeInto, onward, own, reached}
 use Rattle.frames.proofs.Frames.{only-behind, row-before}
-use Rattle.meaning.proofs.Links.{tests}
-use Rattle.meaning.proofs.Rules.{order}
+use Rattle.theory.proofs.Links.{tests}
+use Rattle.theory.proofs.Rules.{order}
 use Rattle.meaning.specs.Accepted.{depth}
 use Rattle.meaning.specs.Limits.{mostRoles}
 use Rattle.meaning.specs.Lists.{any}

@@ -10,8 +10,8 @@ use native.Mathlib.Omega.{arith}
 use borrow.Author.Tests.{eq-eqb, le-leb}
 use Rattle.flattening.proofs.Steps.{word-beside, word-early}
 use Rattle.flattening.specs.Flat.{flatWordAt, flatWords}
-use Rattle.meaning.proofs.Wellformed.{accepted-size}
-use Rattle.meaning.proofs.Rules.{order}
+use Rattle.theory.proofs.Wellformed.{accepted-size}
+use Rattle.theory.proofs.Rules.{order}
 use Rattle.meaning.specs.Accepted.{ChainOf}
 use Rattle.meaning.specs.Lists.{counting}
 use Rattle.meaning.specs.NormalForm.{normalForm}

@@ -6,8 +6,8 @@ use mathlib.Core.List.{List}
 use mathlib.Core.Path.{_∙_, _≡_, ap, sym}
 use native.Mathlib.Omega.{arith}
 use Rattle.functional.specs.FunctionalNames.{FunctionalNames}
-use Rattle.meaning.proofs.Defaults.{accepted-feature, accepted-role}
-use Rattle.meaning.proofs.Wellformed.{accepted-counts, vocabulary-sound}
+use Rattle.theory.proofs.Defaults.{accepted-feature, accepted-role}
+use Rattle.theory.proofs.Wellformed.{accepted-counts, vocabulary-sound}
 use Rattle.meaning.specs.Limits.{mostRoles}
 use Rattle.meaning.specs.Records.{isName}
 use Rattle.meaning.specs.Stated.{isManyFeature, isManyRole}

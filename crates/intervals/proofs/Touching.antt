@@ -3,7 +3,7 @@ use Prim.Native.Nat.{ℕ}
 use lib.Dec.{T, leb, leb→le, le→leb}
 use native.Mathlib.Omega.{arith}
 use Rattle.intervals.specs.Touching.{touches}
-use Rattle.meaning.proofs.Rules.{T-and, and-T}
+use Rattle.theory.proofs.Rules.{T-and, and-T}
 use Rattle.meaning.specs.Intervals.{NonEmpty, isInside}
 
 pub part-touches : (lo hi low high from to : ℕ) → NonEmpty from to → T (isInside low high from to) → T (isInside lo hi from to) → T (touches lo hi low high)

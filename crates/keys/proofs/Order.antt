@@ -6,8 +6,8 @@ use mathlib.Core.Path.{_≡_, refl, sym}
 use native.Mathlib.Omega.{arith}
 use lib.Dec.{eqb}
 use Rattle.keys.specs.Keys.{keyOf, valueCount}
-use Rattle.meaning.proofs.Links.{tests}
-use Rattle.meaning.proofs.Rules.{order}
+use Rattle.theory.proofs.Links.{tests}
+use Rattle.theory.proofs.Rules.{order}
 use Rattle.meaning.specs.Intervals.{isWithin}
 
 pub same-key : (f x g y : ℕ) → x < valueCount → y < valueCount → keyOf f x ≡ keyOf g y → (f ≡ g) × (x ≡ y)

@@ -13,8 +13,8 @@ use Rattle.layout.proofs.Entries.{held-below-length, held-length}
 use Rattle.layout.specs.Combination.{BelowBy, Combined, CombinedBy, chosenFrom}
 use Rattle.layout.specs.Tables.{ConstraintsStand, Held, RowsStand, Tabled, heldBelow, heldBy, holderAt, pieceAt}
 use Rattle.layout.specs.declared.Tables.{Tables}
-use Rattle.meaning.proofs.Digits.{fill, fillConstraints, fillSuccessors}
-use Rattle.meaning.proofs.Rules.{order}
+use Rattle.theory.proofs.Digits.{fill, fillConstraints, fillSuccessors}
+use Rattle.theory.proofs.Rules.{order}
 use Rattle.meaning.specs.Countermodel.{size}
 use Rattle.meaning.specs.Intervals.{Constraint}
 use Rattle.meaning.specs.NormalForm.{Form, Successors, none, successor}

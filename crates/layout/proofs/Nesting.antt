@@ -11,7 +11,7 @@ use Rattle.layout.specs.Nesting.{Nested}
 use Rattle.layout.specs.Places.{constraintPlace, individualPlace}
 use Rattle.layout.specs.Tables.{ConstraintsStand, Pieces, RowsStand, Tabled, heldBelow, holderAt, parentAt}
 use Rattle.layout.specs.declared.Tables.{Tables}
-use Rattle.meaning.proofs.Rules.{order}
+use Rattle.theory.proofs.Rules.{order}
 use Rattle.meaning.specs.Countermodel.{size}
 use Rattle.meaning.specs.Limits.{mostRecords}
 use Rattle.meaning.specs.NormalForm.{Form, Successors, none, successor}

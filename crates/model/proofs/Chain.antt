@@ -8,8 +8,8 @@ use lib.Dec.{eqb}
 use lib.ListN.{length}
 use native.Mathlib.Omega.{arith}
 use borrow.Author.Tests.{eqb-true}
-use Rattle.meaning.proofs.Links.{falling-le, passed, tests}
-use Rattle.meaning.proofs.Wellformed.{accepted-counts}
+use Rattle.theory.proofs.Links.{falling-le, passed, tests}
+use Rattle.theory.proofs.Wellformed.{accepted-counts}
 use Rattle.meaning.specs.Limits.{mostClasses}
 use Rattle.meaning.specs.Model.{Fact, factAt, factFits, factKind, factName, factNext, factOther, factsOf, firstFact, individualCount}
 use Rattle.meaning.specs.Model.{modelRefusal, soundFact}

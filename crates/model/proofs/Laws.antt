@@ -7,7 +7,7 @@ use lib.Dec.{eqb, leb}
 use lib.ListN.{getD, length}
 use native.Mathlib.Omega.{arith}
 use borrow.Author.Tests.{ne-eqb, not-false, not-true}
-use Rattle.meaning.proofs.Links.{bounds, falling-le, tests}
+use Rattle.theory.proofs.Links.{bounds, falling-le, tests}
 use Rattle.meaning.specs.Limits.{mostIndividuals, mostModelWords}
 use Rattle.meaning.specs.Model.{factFits, factKind, factName, factNext, factOther, factOwner, factsRefusal, firstFact, headedModel}
 use Rattle.meaning.specs.Model.{individualCount, modelRefusal, soundFact}

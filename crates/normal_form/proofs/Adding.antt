@@ -13,7 +13,7 @@ use Rattle.frames.proofs.Frames.{only-none, only-set, only-then, only-wider}
 use Rattle.layout.proofs.Entries.{constraints-kept}
 use Rattle.layout.specs.Places.{individualsAt, pendingAt, rowPlace, tablesEnd}
 use Rattle.layout.specs.Tables.{heldBy, intervalOf}
-use Rattle.meaning.proofs.Rules.{all-append}
+use Rattle.theory.proofs.Rules.{all-append}
 use Rattle.meaning.specs.Intervals.{Constraint}
 use Rattle.meaning.specs.Limits.{mostClasses, mostRecords}
 use Rattle.meaning.specs.Lists.{any, cons, nil}

@@ -5,7 +5,7 @@ use mathlib.Core.Path.{_≡_}
 use lib.ListN.{length}
 use native.Mathlib.Omega.{arith}
 use Rattle.layout.specs.Places.{tablesEnd}
-use Rattle.meaning.proofs.Wellformed.{accepted-counts}
+use Rattle.theory.proofs.Wellformed.{accepted-counts}
 use Rattle.meaning.specs.Accepted.{NamedChain}
 use Rattle.meaning.specs.Policy.{Chain, class, end, impossible, interval, some, termAt}
 use Rattle.meaning.specs.Vocabulary.{vocabularyRefusal}

@@ -12,9 +12,9 @@ use Rattle.closure.specs.Rows.{rowOf}
 use Rattle.functional.specs.declared.Functional.{Functional}
 use Rattle.layout.specs.Places.{roleRow, rowPlace, tablesEnd}
 use Rattle.layout.specs.Tables.{Above}
-use Rattle.meaning.proofs.Bounds.{rangePairs-named}
-use Rattle.meaning.proofs.Rules.{all-append, any-join, head, tail}
-use Rattle.meaning.proofs.Wellformed.{accepted-counts}
+use Rattle.theory.proofs.Bounds.{rangePairs-named}
+use Rattle.theory.proofs.Rules.{all-append, any-join, head, tail}
+use Rattle.theory.proofs.Wellformed.{accepted-counts}
 use Rattle.meaning.specs.Accepted.{ChainOf, count}
 use Rattle.meaning.specs.Intervals.{Constraint}
 use Rattle.meaning.specs.Limits.{mostClasses, mostFeatures, mostRoles}

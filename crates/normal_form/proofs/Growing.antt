@@ -11,7 +11,7 @@ use Rattle.functional.specs.declared.Functional.{Functional}
 use Rattle.layout.proofs.Entries.{constraints-append, constraints-kept, held-below-length, held-length, row-stays, rows-kept}
 use Rattle.layout.specs.Tables.{ConstraintsStand, RowStands, RowsStand, heldBelow, heldBy}
 use Rattle.layout.specs.declared.Tables.{Tables}
-use Rattle.meaning.proofs.Rules.{head, tail}
+use Rattle.theory.proofs.Rules.{head, tail}
 use Rattle.meaning.specs.Countermodel.{size}
 use Rattle.meaning.specs.Limits.{mostRecords}
 use Rattle.meaning.specs.Lists.{All, cons, filter}

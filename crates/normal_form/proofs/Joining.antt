@@ -14,7 +14,7 @@ use Rattle.frames.specs.Frames.{Only, Span}
 use Rattle.functional.specs.declared.Functional.{Functional}
 use Rattle.layout.proofs.Entries.{constraints-kept}
 use Rattle.layout.specs.Tables.{ConstraintsStand, heldBy}
-use Rattle.meaning.proofs.Rules.{head, tail}
+use Rattle.theory.proofs.Rules.{head, tail}
 use Rattle.meaning.specs.Intervals.{Constraint}
 use Rattle.meaning.specs.Lists.{cons, filter}
 use Rattle.meaning.specs.Policy.{Chain, childOf}

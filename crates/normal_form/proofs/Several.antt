@@ -15,7 +15,7 @@ use Rattle.frames.specs.Rows.{putAt, rowAt}
 use Rattle.functional.specs.declared.Functional.{Functional}
 use Rattle.layout.specs.Places.{InTables, pendingAt}
 use Rattle.layout.specs.declared.Tables.{Tables}
-use Rattle.meaning.proofs.Rules.{head, tail}
+use Rattle.theory.proofs.Rules.{head, tail}
 use Rattle.meaning.specs.Lists.{All, cons, nil}
 use Rattle.normal_form.proofs.Laws.{in-tables}
 use Rattle.normal_form.specs.Parts.{Arm, armAt, live, weigh, wordsAt}

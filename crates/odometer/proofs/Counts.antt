@@ -8,8 +8,8 @@ use native.Mathlib.Omega.{arith}
 use lib.ListN.{getD, length, length-set, set}
 use lib.Seq.{getD-set-other, getD-set-same}
 use Rattle.layout.specs.Tables.{HasEntry, constraintAt, intervalOf}
-use Rattle.meaning.proofs.Count.{pieces-some, product-some}
-use Rattle.meaning.proofs.Rules.{order}
+use Rattle.theory.proofs.Count.{pieces-some, product-some}
+use Rattle.theory.proofs.Rules.{order}
 use Rattle.meaning.specs.Intervals.{NonEmpty}
 use Rattle.meaning.specs.Limits.{mostCombinations}
 use Rattle.meaning.specs.Lists.{counting}

@@ -10,9 +10,9 @@ use borrow.Author.Tests.{ltb-true}
 use lib.Dec.{leb, leb→le, ltb}
 use lib.ListN.{length}
 use lib.Pow.{pow-mono}
-use Rattle.meaning.proofs.Count.{count-pieces, pieces-some}
-use Rattle.meaning.proofs.Points.{insert-all, insert-here, inserts-all, inserts-there, lo-point, points-sorted}
-use Rattle.meaning.proofs.Rules.{T-and, all-filter, all-mono, any-cases, any-none, head, order, tail}
+use Rattle.theory.proofs.Count.{count-pieces, pieces-some}
+use Rattle.theory.proofs.Points.{insert-all, insert-here, inserts-all, inserts-there, lo-point, points-sorted}
+use Rattle.theory.proofs.Rules.{T-and, all-filter, all-mono, any-cases, any-none, head, order, tail}
 use Rattle.meaning.specs.Limits.{mostCombinations}
 use Rattle.meaning.specs.Splitting.{wideNeighbours}
 use Rattle.meaning.specs.Intervals.{Constraint, Within}

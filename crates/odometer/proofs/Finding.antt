@@ -11,8 +11,8 @@ use lib.Dec.{ltb}
 use lib.ListN.{List·getD-append, getD, length, length-append, length-set, set, take}
 use lib.Seq.{getD-append-add, take-suc-set}
 use Rattle.layout.specs.Tables.{constraintAt}
-use Rattle.meaning.proofs.Counting.{counted-more, counting-append}
-use Rattle.meaning.proofs.Rules.{order}
+use Rattle.theory.proofs.Counting.{counted-more, counting-append}
+use Rattle.theory.proofs.Rules.{order}
 use Rattle.meaning.specs.Intervals.{Constraint}
 use Rattle.meaning.specs.Lists.{counting}
 use Rattle.odometer.proofs.Dials.{dialCount, dials-few}

@@ -11,8 +11,8 @@ use lib.ListN.{getD, length}
 use Rattle.frames.proofs.Frames.{only-none}
 use Rattle.frames.specs.Frames.{Only}
 use Rattle.layout.specs.Tables.{Pieces, constraintAt}
-use Rattle.meaning.proofs.Odometer.{at-lt}
-use Rattle.meaning.proofs.Rules.{order}
+use Rattle.theory.proofs.Odometer.{at-lt}
+use Rattle.theory.proofs.Rules.{order}
 use Rattle.meaning.specs.Limits.{mostCombinations}
 use Rattle.meaning.specs.Policy.{Policy}
 use Rattle.meaning.specs.Splitting.{pieces}

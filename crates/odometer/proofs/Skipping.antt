@@ -15,8 +15,8 @@ use Rattle.frames.proofs.Frames.{only-then, only-wider}
 use Rattle.frames.specs.Frames.{Only}
 use Rattle.layout.proofs.Entries.{piece-same}
 use Rattle.layout.specs.Tables.{Pieces, constraintAt, pieceAt}
-use Rattle.meaning.proofs.Odometer.{at-lt}
-use Rattle.meaning.proofs.Rules.{order}
+use Rattle.theory.proofs.Odometer.{at-lt}
+use Rattle.theory.proofs.Rules.{order}
 use Rattle.meaning.specs.Limits.{mostCombinations}
 use Rattle.meaning.specs.Lists.{At}
 use Rattle.meaning.specs.Policy.{Policy}

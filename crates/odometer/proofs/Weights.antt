@@ -5,7 +5,7 @@ use mathlib.Core.Path.{_∙_, _≡_, ap, refl, sym}
 use native.Mathlib.Nat.{add-suc, add-zero, mul-assoc, mul-comm, mul-le-mul-right, mul-pos, one-mul}
 use native.Mathlib.Omega.{arith}
 use Rattle.layout.specs.Tables.{constraintAt}
-use Rattle.meaning.proofs.Count.{pieces-some}
+use Rattle.theory.proofs.Count.{pieces-some}
 use Rattle.meaning.specs.Lists.{counting}
 use Rattle.meaning.specs.Policy.{Policy}
 use Rattle.meaning.specs.Splitting.{product}

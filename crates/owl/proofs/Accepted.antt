@@ -8,7 +8,7 @@ use lib.ListN.{getD, length}
 use native.Mathlib.Omega.{arith}
 use borrow.Author.Tests.{eqb-false, not-true}
 use Rattle.declarations.specs.Names.{declared, isKnown, numberIn, soundNames}
-use Rattle.meaning.proofs.Links.{bounds}
+use Rattle.theory.proofs.Links.{bounds}
 use Rattle.meaning.specs.Accepted.{NamedAxiom}
 use Rattle.meaning.specs.Lists.{All, all, cons, flatMap, nil}
 use Rattle.meaning.specs.Program.{bytes}

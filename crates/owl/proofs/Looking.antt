@@ -11,7 +11,7 @@ use Rattle.declarations.proofs.Passing.{by-axiom, by-declaration}
 use Rattle.declarations.specs.Names.{declared, isKnown, needed, numberIn}
 use Rattle.declarations.specs.Passes.{Sorted, baseOf}
 use Rattle.declarations.specs.declared.Counts.{Counts}
-use Rattle.meaning.proofs.Links.{bounds}
+use Rattle.theory.proofs.Links.{bounds}
 use Rattle.meaning.specs.Limits.{mostClasses, mostFeatures, mostRoles}
 use Rattle.name_table.proofs.Numbers.{number-of-range}
 use Rattle.name_table.specs.Numbers.{numberOf}

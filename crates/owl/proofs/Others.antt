@@ -8,7 +8,7 @@ use lib.ListN.{length, replicate}
 use native.Mathlib.Omega.{arith}
 use Rattle.declarations.specs.Names.{soundNames}
 use Rattle.declarations.specs.declared.Counts.{Counts}
-use Rattle.meaning.proofs.Rules.{all-mono}
+use Rattle.theory.proofs.Rules.{all-mono}
 use Rattle.meaning.specs.Lists.{any, counting, filter}
 use Rattle.meaning.specs.Vocabulary.{isNamed, namesBy, unnamed}
 use Rattle.owl.proofs.Accepted.{axioms-named}

@@ -12,12 +12,12 @@ use Rattle.declarations.specs.Names.{isKnown}
 use Rattle.declarations.specs.Passes.{Parses, listOf, statementsAt}
 use Rattle.declarations.specs.declared.Counts.{Counts}
 use Rattle.frames.specs.Rows.{putAt}
-use Rattle.meaning.proofs.VocabularyWords.{axiom-length}
+use Rattle.theory.proofs.VocabularyWords.{axiom-length}
 use Rattle.meaning.specs.Lists.{all, flatMap}
 use Rattle.meaning.specs.Vocabulary.{Axiom, axiomWords, nameBy, namesBy}
 use Rattle.owl.specs.Owl.{axiomsBy, axiomsIn}
 use Rattle.owl.specs.Passes.{Begins, Here, Ready, axioms, firstNumber, secondNumber, statementsOf}
-use Rattle.meaning.proofs.Rules.{flatMap-append}
+use Rattle.theory.proofs.Rules.{flatMap-append}
 use Rattle.owl.proofs.Looking.{firstOf, secondOf}
 use Rattle.records.proofs.Writing.{Left, left-end, left-start, turn-more, turn-room}
 use Rattle.records.specs.Written.{Room, RoomFor, Written, linkAt}

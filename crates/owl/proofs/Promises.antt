@@ -9,9 +9,9 @@ use native.Mathlib.Omega.{arith}
 use borrow.Author.Tests.{le-leb, not-true}
 use Rattle.declarations.specs.Names.{counted, declared, declaredWell, numberIn, soundNames}
 use Rattle.declarations.specs.Passes.{listOf}
-use Rattle.meaning.proofs.Links.{bounds, passed}
-use Rattle.meaning.proofs.Refusals.{orElse-zero}
-use Rattle.meaning.proofs.VocabularyWords.{vocabulary-words-accepted, vocabulary-words-read}
+use Rattle.theory.proofs.Links.{bounds, passed}
+use Rattle.theory.proofs.Refusals.{orElse-zero}
+use Rattle.theory.proofs.VocabularyWords.{vocabulary-words-accepted, vocabulary-words-read}
 use Rattle.meaning.specs.Answers.{accepted, result, wrote}
 use Rattle.meaning.specs.Limits.{mostAxioms, mostText}
 use Rattle.meaning.specs.Accepted.{NamedAxiom}

@@ -6,7 +6,7 @@ use lib.ListN.{length, length-append, length-map}
 use native.Mathlib.Omega.{arith}
 use Rattle.declarations.specs.declared.Counts.{Counts}
 use Rattle.frames.specs.Rows.{putAt}
-use Rattle.meaning.proofs.VocabularyWords.{axiom-length}
+use Rattle.theory.proofs.VocabularyWords.{axiom-length}
 use Rattle.meaning.specs.Operations.{outputAfter}
 use Rattle.meaning.specs.Vocabulary.{Axiom, axiomWords, manyFeature, manyRole, vocabularyWords}
 use Rattle.owl.proofs.Looking.{class-size, feature-size, role-size}

@@ -10,8 +10,8 @@ use borrow.Author.Tests.{le-leb, lt-leb, not-false, not-true}
 use Rattle.declarations.specs.Names.{counted, declared, declaredWell, isKnown, soundNames}
 use Rattle.declarations.specs.Passes.{Fits, Tabled, axiomCount, countsOf, listOf, parsedAt, statementsAt, tableSize}
 use Rattle.declarations.specs.declared.Counts.{Counts}
-use Rattle.meaning.proofs.Links.{bounds}
-use Rattle.meaning.proofs.VocabularyWords.{vocabulary-length}
+use Rattle.theory.proofs.Links.{bounds}
+use Rattle.theory.proofs.VocabularyWords.{vocabulary-length}
 use Rattle.meaning.specs.Answers.{result, wrote}
 use Rattle.meaning.specs.Limits.{mostAxioms, mostClasses, mostFeatures, mostRoles, mostText}
 use Rattle.meaning.specs.Lists.{all, flatMap}

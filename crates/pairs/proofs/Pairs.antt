@@ -10,10 +10,10 @@ use native.Mathlib.Omega.{arith}
 use Rattle.frames.proofs.Frames.{only-before, only-none, only-set, only-then, only-wider}
 use Rattle.frames.specs.Frames.{Only, Span}
 use Rattle.layout.specs.Places.{mostPairs, pairPlace, pairsAt, pairsEnd}
-use Rattle.meaning.proofs.Counting.{counted-more, counted-same}
-use Rattle.meaning.proofs.Links.{falling-le}
-use Rattle.meaning.proofs.Wellformed.{accepted-size}
-use Rattle.meaning.proofs.Stated.{disjointPair-at, disjointPair-one, disjointPair-other}
+use Rattle.theory.proofs.Counting.{counted-more, counted-same}
+use Rattle.theory.proofs.Links.{falling-le}
+use Rattle.theory.proofs.Wellformed.{accepted-size}
+use Rattle.theory.proofs.Stated.{disjointPair-at, disjointPair-one, disjointPair-other}
 use Rattle.meaning.specs.Lists.{counting, flatMap}
 use Rattle.meaning.specs.Records.{falling, lastOf}
 use Rattle.meaning.specs.Stated.{disjointPair, disjointPairs}

@@ -6,7 +6,7 @@ use mathlib.Core.List.{List}
 use mathlib.Core.Path.{_≡_, refl, subst}
 use lib.Dec.{eqb}
 use native.Mathlib.Omega.{arith}
-use Rattle.meaning.proofs.Terms.{chain-at}
+use Rattle.theory.proofs.Terms.{chain-at}
 use Rattle.meaning.specs.Accepted.{Reads, depth, reads-class, reads-end, reads-impossible, reads-interval, reads-some}
 use Rattle.meaning.specs.Policy.{Chain, childOf, class, conjunctAt, end, hiOf, impossible, interval, kindOf, loOf, nameOf, nextOf, some}
 use Rattle.meaning.specs.Records.{falling, lastOf}

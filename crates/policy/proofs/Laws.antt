@@ -7,8 +7,8 @@ use lib.Dec.{eqb, leb}
 use lib.ListN.{getD, length, replicate}
 use native.Mathlib.Omega.{arith}
 use borrow.Author.Tests.{eqb-true, ne-eqb, not-false, not-true}
-use Rattle.meaning.proofs.Links.{falling-le, tests}
-use Rattle.meaning.proofs.Refusals.{orElse-assoc, orElse-first, policyRefusal-≤}
+use Rattle.theory.proofs.Links.{falling-le, tests}
+use Rattle.theory.proofs.Refusals.{orElse-assoc, orElse-first, policyRefusal-≤}
 use Rattle.meaning.specs.Answers.{Answer, ReadingResult, accepted, refused, result}
 use Rattle.meaning.specs.Limits.{mostPolicyWords, mostRecords}
 use Rattle.meaning.specs.Operations.{inputRefusal, readPolicy, readSecondPolicy, unless}

@@ -5,9 +5,9 @@ use mathlib.Core.List.{List, [], _∷_}
 use mathlib.Core.Path.{_≡_, subst}
 use lib.ListN.{length}
 use native.Mathlib.Omega.{arith}
-use Rattle.meaning.proofs.Rules.{head, tail}
-use Rattle.meaning.proofs.Terms.{chain-at}
-use Rattle.meaning.proofs.Wellformed.{accepted}
+use Rattle.theory.proofs.Rules.{head, tail}
+use Rattle.theory.proofs.Terms.{chain-at}
+use Rattle.theory.proofs.Wellformed.{accepted}
 use Rattle.meaning.specs.Accepted.{ChainOf, ReadsTerms, depth, reads-none, reads-term, total}
 use Rattle.meaning.specs.Limits.{mostDepth, mostRecords}
 use Rattle.meaning.specs.Lists.{All}

@@ -6,9 +6,9 @@ use mathlib.Core.Path.{_∙_, _≡_, refl, sym}
 use lib.Dec.{eqb}
 use native.Mathlib.Omega.{arith}
 use borrow.Author.Tests.{eq-eqb, eqb-false, ne-eqb, not-false, not-true}
-use Rattle.meaning.proofs.Links.{enough-end, falls, onward-le, tests}
-use Rattle.meaning.proofs.Refusals.{unless-some}
-use Rattle.meaning.proofs.Terms.{child-enough, next-enough}
+use Rattle.theory.proofs.Links.{enough-end, falls, onward-le, tests}
+use Rattle.theory.proofs.Refusals.{unless-some}
+use Rattle.theory.proofs.Terms.{child-enough, next-enough}
 use Rattle.meaning.specs.Accepted.{Here}
 use Rattle.meaning.specs.Limits.{mostRecords}
 use Rattle.meaning.specs.Operations.{unless}

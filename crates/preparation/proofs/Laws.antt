@@ -11,7 +11,7 @@ use Rattle.frames.specs.Frames.{Only, Span}
 use Rattle.functional.specs.FunctionalNames.{FunctionalNames}
 use Rattle.functional.specs.declared.Functional.{Functional}
 use Rattle.layout.specs.Places.{InTables, pairsEnd, roleRow}
-use Rattle.meaning.proofs.Wellformed.{accepted-counts}
+use Rattle.theory.proofs.Wellformed.{accepted-counts}
 use Rattle.meaning.specs.Limits.{workSize}
 use Rattle.meaning.specs.Vocabulary.{classCount, roleCount, vocabularyRefusal}
 use Rattle.pairs.proofs.Pairs.{pairs-kept}

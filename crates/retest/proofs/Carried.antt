@@ -11,9 +11,9 @@ use lib.Dec.{eqb, eqb→eq}
 use Rattle.carriers.specs.Carriers.{Carrier, besideOf, slotOf, underOf}
 use Rattle.layout.specs.Tables.{parentAt, roleAt}
 use Rattle.layout.specs.declared.Tables.{Tables}
-use Rattle.meaning.proofs.Counting.{none-below, some-below}
-use Rattle.meaning.proofs.Links.{falls}
-use Rattle.meaning.proofs.Rules.{isTrue, order}
+use Rattle.theory.proofs.Counting.{none-below, some-below}
+use Rattle.theory.proofs.Links.{falls}
+use Rattle.theory.proofs.Rules.{isTrue, order}
 use Rattle.meaning.specs.Intervals.{Constraint}
 use Rattle.meaning.specs.Records.{falling}
 use Rattle.policy.specs.Terms.{conjunctsAt}

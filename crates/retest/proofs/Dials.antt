@@ -14,9 +14,9 @@ use lib.ListN.{getD, length}
 use Rattle.intervals.specs.Touching.{touches}
 use Rattle.layout.specs.Tables.{HasEntry, constraintAt, holderAt, pieceAt}
 use Rattle.layout.specs.declared.Tables.{Tables}
-use Rattle.meaning.proofs.Counting.{none-below, some-below}
-use Rattle.meaning.proofs.Intervals.{inside-of}
-use Rattle.meaning.proofs.Rules.{T-and, and-T, eqb-of, isTrue, order, same-test}
+use Rattle.theory.proofs.Counting.{none-below, some-below}
+use Rattle.theory.proofs.Intervals.{inside-of}
+use Rattle.theory.proofs.Rules.{T-and, and-T, eqb-of, isTrue, order, same-test}
 use Rattle.meaning.specs.Intervals.{Constraint, isInside}
 use Rattle.meaning.specs.Subsumption.{includes}
 use Rattle.retest.proofs.Spans.{chosen-may}

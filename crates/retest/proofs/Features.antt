@@ -8,9 +8,9 @@ use borrow.Author.Tests.{ne-eqb}
 use lib.Dec.{T, eqb, eqb→eq}
 use Rattle.layout.specs.Tables.{constraintAt, holderAt}
 use Rattle.layout.specs.declared.Tables.{Tables}
-use Rattle.meaning.proofs.Counting.{below-some, some-below}
-use Rattle.meaning.proofs.Intervals.{isInside-trans}
-use Rattle.meaning.proofs.Rules.{T-and, and-T, eqb-of, isTrue, same-test}
+use Rattle.theory.proofs.Counting.{below-some, some-below}
+use Rattle.theory.proofs.Intervals.{isInside-trans}
+use Rattle.theory.proofs.Rules.{T-and, and-T, eqb-of, isTrue, same-test}
 use Rattle.meaning.specs.Intervals.{Constraint, isInside}
 use Rattle.meaning.specs.Policy.{hiOf, kindOf, loOf, nameOf}
 use Rattle.meaning.specs.Subsumption.{includes}

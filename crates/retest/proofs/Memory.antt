@@ -10,7 +10,7 @@ use lib.Dec.{T, eqb}
 use lib.ListN.{getD, length, set}
 use lib.Seq.{getD-set-other, getD-set-same}
 use Rattle.layout.specs.declared.Tables.{Tables}
-use Rattle.meaning.proofs.Rules.{order}
+use Rattle.theory.proofs.Rules.{order}
 use Rattle.meaning.specs.Intervals.{Constraint}
 use Rattle.policy.specs.Terms.{conjunctOf}
 use Rattle.retest.specs.Memory.{State, Sure, entryOf, memoryPlace, recalled, remembered}

@@ -12,8 +12,8 @@ use Rattle.intervals.specs.Touching.{touches}
 use Rattle.layout.specs.Nesting.{Nested}
 use Rattle.layout.specs.Tables.{constraintAt, holderAt}
 use Rattle.layout.specs.declared.Tables.{Tables}
-use Rattle.meaning.proofs.Counting.{none-below, some-below}
-use Rattle.meaning.proofs.Rules.{T-and, and-T, eqb-of, isTrue, order, same-test}
+use Rattle.theory.proofs.Counting.{none-below, some-below}
+use Rattle.theory.proofs.Rules.{T-and, and-T, eqb-of, isTrue, order, same-test}
 use Rattle.meaning.specs.Intervals.{Constraint}
 use Rattle.meaning.specs.Subsumption.{includes}
 use Rattle.retest.specs.Reasons.{Choice, Spanned, SpannedBy, mayPass}

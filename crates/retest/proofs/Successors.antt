@@ -12,8 +12,8 @@ use Rattle.carriers.specs.Carriers.{slotOf}
 use Rattle.layout.specs.Combination.{nextSuccessor}
 use Rattle.layout.specs.Tables.{parentAt, roleAt}
 use Rattle.layout.specs.declared.Tables.{Tables}
-use Rattle.meaning.proofs.Counting.{none-below, some-below}
-use Rattle.meaning.proofs.Rules.{order}
+use Rattle.theory.proofs.Counting.{none-below, some-below}
+use Rattle.theory.proofs.Rules.{order}
 use Rattle.meaning.specs.Intervals.{Constraint}
 use Rattle.policy.specs.Terms.{conjunctsAt}
 use Rattle.retest.proofs.Masks.{agrees-left, agrees-right}

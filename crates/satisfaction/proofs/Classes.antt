@@ -10,7 +10,7 @@ use native.Mathlib.Omega.{arith}
 use borrow.Author.Tests.{eqb-false, eqb-true}
 use Rattle.frames.proofs.Frames.{only-none, only-span, only-then, row-before, row-behind}
 use Rattle.frames.specs.Frames.{Cleared, Only, Span}
-use Rattle.meaning.proofs.Rules.{order}
+use Rattle.theory.proofs.Rules.{order}
 use Rattle.meaning.specs.Limits.{mostClasses, mostIndividuals, workSize}
 use Rattle.meaning.specs.Lists.{any}
 use Rattle.meaning.specs.Model.{Fact, edge, factAt, factsOf, individualCount, member, value}

@@ -6,7 +6,7 @@ use mathlib.Core.Path.{_∙_, _≡_, refl, subst, sym}
 use native.Mathlib.Omega.{arith}
 use borrow.Author.Tests.{eq-eqb, eqb-false, eqb-true, ne-eqb, not-false, not-true}
 use lib.Dec.{eqb}
-use Rattle.meaning.proofs.Links.{split, tests}
+use Rattle.theory.proofs.Links.{split, tests}
 use Rattle.meaning.specs.Limits.{mostFeatures, mostIndividuals, mostRoles}
 use Rattle.meaning.specs.Lists.{All, cons, nil}
 use Rattle.meaning.specs.Model.{Fact, edge, factAt, factKind, factName, factOther, factOwner, factsOf, individualCount}

@@ -9,11 +9,11 @@ use native.Mathlib.Omega.{arith}
 use borrow.Author.Tests.{eqb-false, eqb-true, le-leb, leb-false, leb-true, lt-leb, not-false, not-true}
 use Rattle.frames.proofs.Frames.{only-none, only-span, only-then}
 use Rattle.frames.specs.Frames.{Cleared, Only, Span}
-use Rattle.meaning.proofs.Defaults.{accepted-feature, accepted-role}
-use Rattle.meaning.proofs.Links.{tests}
-use Rattle.meaning.proofs.Rules.{T-and, all-fst, all-in, all-out, isFalse, isTrue, notTrue, same-test}
-use Rattle.meaning.proofs.Stated.{AllStated, all-stated, stated-more}
-use Rattle.meaning.proofs.Wellformed.{accepted-counts}
+use Rattle.theory.proofs.Defaults.{accepted-feature, accepted-role}
+use Rattle.theory.proofs.Links.{tests}
+use Rattle.theory.proofs.Rules.{T-and, all-fst, all-in, all-out, isFalse, isTrue, notTrue, same-test}
+use Rattle.theory.proofs.Stated.{AllStated, all-stated, stated-more}
+use Rattle.theory.proofs.Wellformed.{accepted-counts}
 use Rattle.meaning.specs.Limits.{mostFeatures, mostRoles}
 use Rattle.meaning.specs.Lists.{All, all}
 use Rattle.meaning.specs.Model.{Fact, factsOf}

@@ -15,8 +15,8 @@ use borrow.Author.Tests.{eqb-false, eqb-true, not-false, not-true}
 use Rattle.frames.proofs.Frames.{only-none, only-set, only-span, only-then, row-before, row-behind, row-word}
 use Rattle.frames.specs.Frames.{Only, Span}
 use Rattle.frames.specs.Rows.{rowAt}
-use Rattle.meaning.proofs.Links.{tests}
-use Rattle.meaning.proofs.Rules.{order}
+use Rattle.theory.proofs.Links.{tests}
+use Rattle.theory.proofs.Rules.{order}
 use Rattle.meaning.specs.Limits.{mostClasses, mostIndividuals, mostRoles, workSize}
 use Rattle.meaning.specs.Lists.{all}
 use Rattle.meaning.specs.Model.{Fact, factAt, factKind, factName, factOther, factsOf}

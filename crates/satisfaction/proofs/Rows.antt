@@ -13,7 +13,7 @@ use Rattle.frames.proofs.Frames.{only-none, only-put, row-word}
 use Rattle.frames.proofs.Rows.{length-row, put-row}
 use Rattle.frames.specs.Frames.{Only, Span}
 use Rattle.frames.specs.Rows.{rowAt}
-use Rattle.meaning.proofs.Rules.{order}
+use Rattle.theory.proofs.Rules.{order}
 use Rattle.meaning.specs.Records.{Name, isName}
 use Rattle.satisfaction.specs.Places.{putIn}
 use Rattle.words.proofs.Bits.{bit-none}

@@ -7,9 +7,9 @@ use mathlib.Core.Path.{_∙_, _≡_, ap, refl, sym}
 use lib.Dec.{T, eqb, eqb→eq}
 use native.Mathlib.Omega.{arith}
 use borrow.Author.Tests.{eq-eqb}
-use Rattle.meaning.proofs.Links.{tests}
-use Rattle.meaning.proofs.ModelCheck.{obeys-iff}
-use Rattle.meaning.proofs.Rules.{any-mono, same-test}
+use Rattle.theory.proofs.Links.{tests}
+use Rattle.theory.proofs.ModelCheck.{obeys-iff}
+use Rattle.theory.proofs.Rules.{any-mono, same-test}
 use Rattle.meaning.specs.Limits.{mostFeatures, mostRoles}
 use Rattle.meaning.specs.Lists.{_∈_}
 use Rattle.meaning.specs.Model.{Fact, edge, factsOf, member, value}

@@ -12,7 +12,7 @@ use native.Mathlib.Omega.{arith}
 use borrow.Author.Tests.{eq-eqb, eqb-false, eqb-true, ne-eqb}
 use Rattle.frames.proofs.Frames.{only-none, only-span, row-behind}
 use Rattle.frames.specs.Frames.{Cleared, Only, Span}
-use Rattle.meaning.proofs.Links.{split}
+use Rattle.theory.proofs.Links.{split}
 use Rattle.meaning.specs.Limits.{mostRoles}
 use Rattle.meaning.specs.Model.{factsOf}
 use Rattle.meaning.specs.Records.{Name}

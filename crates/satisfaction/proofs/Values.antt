@@ -11,7 +11,7 @@ use native.Mathlib.Omega.{arith}
 use borrow.Author.Tests.{eq-eqb, eqb-false, eqb-true, ne-eqb}
 use Rattle.frames.proofs.Frames.{only-behind, only-none, only-set, only-span, only-then, row-before}
 use Rattle.frames.specs.Frames.{Cleared, Only, Span}
-use Rattle.meaning.proofs.Rules.{all-any}
+use Rattle.theory.proofs.Rules.{all-any}
 use Rattle.meaning.specs.Limits.{mostIndividuals, workSize}
 use Rattle.meaning.specs.Model.{Fact, factAt, factOther, factOwner, factsOf, individualCount}
 use Rattle.meaning.specs.Records.{Name}

@@ -12,9 +12,9 @@ use Rattle.keys.proofs.Adding.{gathered-none, gathered-two}
 use Rattle.keys.proofs.Order.{same-truth}
 use Rattle.keys.proofs.Ranking.{nearest}
 use Rattle.keys.specs.Keys.{Gathered, Holds, Ranked}
-use Rattle.meaning.proofs.Links.{tests}
-use Rattle.meaning.proofs.Points.{inserts-here, inserts-sorted}
-use Rattle.meaning.proofs.Rules.{any-left, any-right, order}
+use Rattle.theory.proofs.Links.{tests}
+use Rattle.theory.proofs.Points.{inserts-here, inserts-sorted}
+use Rattle.theory.proofs.Rules.{any-left, any-right, order}
 use Rattle.meaning.specs.Intervals.{isWithin}
 use Rattle.meaning.specs.Lists.{_∈_, here, there}
 use Rattle.meaning.specs.Policy.{kindOf}

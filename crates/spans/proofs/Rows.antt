@@ -11,7 +11,7 @@ use borrow.Author.Tests.{eqb-false, eqb-true}
 use Rattle.frames.proofs.Frames.{row-before, row-behind}
 use Rattle.frames.specs.Frames.{Only, Span}
 use Rattle.frames.specs.Rows.{rowAt}
-use Rattle.meaning.proofs.Rules.{order}
+use Rattle.theory.proofs.Rules.{order}
 use Rattle.meaning.specs.Limits.{mostRecords}
 use Rattle.meaning.specs.Records.{Name}
 use Rattle.satisfaction.proofs.Rows.{put-in, put-inside, put-only}

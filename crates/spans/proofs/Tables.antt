@@ -10,8 +10,8 @@ use native.Mathlib.Omega.{arith}
 use borrow.Author.Tests.{eq-eqb, eqb-false, eqb-true, le-leb, le-ltb, lt-leb, lt-ltb, ltb-true, ne-eqb}
 use Rattle.frames.specs.Frames.{Cleared}
 use Rattle.keys.specs.Keys.{Ranked}
-use Rattle.meaning.proofs.Links.{tests}
-use Rattle.meaning.proofs.Rules.{order}
+use Rattle.theory.proofs.Links.{tests}
+use Rattle.theory.proofs.Rules.{order}
 use Rattle.meaning.specs.Intervals.{isWithin}
 use Rattle.meaning.specs.Policy.{kindOf}
 use Rattle.satisfaction.proofs.Rows.{none-in, put-size}

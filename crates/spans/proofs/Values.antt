@@ -11,7 +11,7 @@ use borrow.Author.Tests.{le-leb, le-ltb, lt-ltb}
 use Rattle.frames.proofs.Frames.{only-none, only-then}
 use Rattle.keys.proofs.Order.{key-within}
 use Rattle.keys.specs.Keys.{Ranked, keyOf, valueCount}
-use Rattle.meaning.proofs.Rules.{order}
+use Rattle.theory.proofs.Rules.{order}
 use Rattle.meaning.specs.Limits.{mostIndividuals}
 use Rattle.meaning.specs.Lists.{any}
 use Rattle.meaning.specs.Model.{factAt, factKind, factName, factOther, factOwner, factsOf}

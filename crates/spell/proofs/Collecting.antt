@@ -8,8 +8,8 @@ use lib.ListN.{length, length-set, set, take}
 use lib.Seq.{getD-set-same, take-set-le, take-suc}
 use native.Mathlib.Numerals.{add-one}
 use native.Mathlib.Omega.{arith}
-use Rattle.meaning.proofs.Rules.{all-append}
-use Rattle.meaning.proofs.Wellformed.{accepted}
+use Rattle.theory.proofs.Rules.{all-append}
+use Rattle.theory.proofs.Wellformed.{accepted}
 use Rattle.meaning.specs.Limits.{mostRecords}
 use Rattle.meaning.specs.Lists.{All, cons, filter, nil}
 use Rattle.meaning.specs.NormalForm.{possible}

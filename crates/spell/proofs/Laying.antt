@@ -14,9 +14,9 @@ use Rattle.functional.specs.declared.Functional.{Functional}
 use Rattle.layout.proofs.Nesting.{rows-from}
 use Rattle.layout.specs.Places.{tablesEnd}
 use Rattle.layout.specs.declared.Tables.{Tables}
-use Rattle.meaning.proofs.Rules.{head, tail}
-use Rattle.meaning.proofs.Sizes.{normal-weight, weight}
-use Rattle.meaning.proofs.Wellformed.{accepted}
+use Rattle.theory.proofs.Rules.{head, tail}
+use Rattle.theory.proofs.Sizes.{normal-weight, weight}
+use Rattle.theory.proofs.Wellformed.{accepted}
 use Rattle.meaning.specs.Accepted.{count, total}
 use Rattle.meaning.specs.Countermodel.{size}
 use Rattle.meaning.specs.Limits.{mostRecords}

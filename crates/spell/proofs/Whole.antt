@@ -6,7 +6,7 @@ use mathlib.Core.Path.{_∙_, _≡_, ap, refl, sym}
 use lib.Dec.{leb}
 use lib.ListN.{length}
 use Rattle.frames.proofs.Work.{Done}
-use Rattle.meaning.proofs.Refusals.{orElse-assoc}
+use Rattle.theory.proofs.Refusals.{orElse-assoc}
 use Rattle.meaning.specs.Answers.{FillingResult, fillingAnswer, result, wrote}
 use Rattle.meaning.specs.Operations.{Outcome, comesLate, outputAfter, refuses, unless, workRefusal}
 use Rattle.meaning.specs.Policy.{Policy, policyOf, policyRefusal}

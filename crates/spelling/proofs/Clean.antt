@@ -6,8 +6,8 @@ use mathlib.Core.Logic.{_↔_, ⊎-elim}
 use mathlib.Core.Path.{subst, sym}
 use lib.Dec.{T}
 use native.Mathlib.Omega.{arith}
-use Rattle.meaning.proofs.Rules.{T-and, all-append, all-at, all-fst, all-in, all-of, all-out, all-snd, and-T, and-not, any-append, any-left}
-use Rattle.meaning.proofs.Rules.{head, map-all, tail}
+use Rattle.theory.proofs.Rules.{T-and, all-append, all-at, all-fst, all-in, all-of, all-out, all-snd, and-T, and-not, any-append, any-left}
+use Rattle.theory.proofs.Rules.{head, map-all, tail}
 use Rattle.meaning.specs.Intervals.{Constraint, isNonEmpty}
 use Rattle.meaning.specs.Lists.{All, _∈_, all, cons, nil}
 use Rattle.meaning.specs.NormalForm.{Form, Node, Successors, areNonEmpty, clash, cleanNode, cleanSuccessors, compatible, hasBottom, none}

@@ -6,7 +6,7 @@ use mathlib.Core.Logic.{inl, inr, ⊎-elim}
 use mathlib.Core.Path.{_∙_, _≡_, ap, refl, subst, sym}
 use lib.Dec.{T, eqb, eqb→eq}
 use native.Mathlib.Omega.{arith}
-use Rattle.meaning.proofs.Rules.{T-and, and-T, eqb-of, isFalse, isTrue, notTrue}
+use Rattle.theory.proofs.Rules.{T-and, and-T, eqb-of, isFalse, isTrue, notTrue}
 use Rattle.meaning.specs.Intervals.{Constraint, meet}
 use Rattle.meaning.specs.Lists.{_∈_}
 use Rattle.meaning.specs.NormalForm.{Form, Successors, add, bare, graft, none, placeConstraint, placeSuccessor, successor}

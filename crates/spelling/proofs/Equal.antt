@@ -3,9 +3,9 @@ use Prim.Native.Nat.{ℕ}
 use mathlib.Core.List.{List, [], _++_, _∷_, map}
 use mathlib.Core.Path.{_≡_, subst}
 use lib.Dec.{T}
-use Rattle.meaning.proofs.Forms.{HoldsForm, HoldsNode, HoldsSuccessors}
-use Rattle.meaning.proofs.Rewriting.{holds-possible, normal-in, normal-out}
-use Rattle.meaning.proofs.Rules.{all-append, all-at, all-fst, all-map, all-of, all-snd, any-at, at-any, head, in-filter, map-all, tail}
+use Rattle.theory.proofs.Forms.{HoldsForm, HoldsNode, HoldsSuccessors}
+use Rattle.theory.proofs.Rewriting.{holds-possible, normal-in, normal-out}
+use Rattle.theory.proofs.Rules.{all-append, all-at, all-fst, all-map, all-of, all-snd, any-at, at-any, head, in-filter, map-all, tail}
 use Rattle.meaning.specs.Containment.{Indistinct}
 use Rattle.meaning.specs.Interpretation.{Holds, Interpretation, Satisfies}
 use Rattle.meaning.specs.Intervals.{Within}

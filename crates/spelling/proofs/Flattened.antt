@@ -8,8 +8,8 @@ use lib.ListN.{getD, length}
 use native.Mathlib.Omega.{arith}
 use borrow.Author.Tests.{eqb-false}
 use mathlib.Core.Logic.{⊎-elim}
-use Rattle.meaning.proofs.Rules.{T-and, T-or, and-T, eqb-of, flatMap-append, or-left, same-test}
-use Rattle.meaning.proofs.Wellformed.{sound-vocabulary, vocabulary-sound}
+use Rattle.theory.proofs.Rules.{T-and, T-or, and-T, eqb-of, flatMap-append, or-left, same-test}
+use Rattle.theory.proofs.Wellformed.{sound-vocabulary, vocabulary-sound}
 use Rattle.meaning.specs.Intervals.{Constraint}
 use Rattle.meaning.specs.Lists.{any, counting, filter, flatMap}
 use Rattle.meaning.specs.NormalForm.{Form, add, bare, normalForm, placeConstraint, placeSuccessor, withClass, withConstraint, withSuccessor}

@@ -2,7 +2,7 @@
 use mathlib.Core.List.{List, [], _∷_, map}
 use mathlib.Core.Path.{subst, sym}
 use Prim.Native.Nat.{ℕ}
-use Rattle.meaning.proofs.Rules.{all-append, all-at, all-of, head, tail}
+use Rattle.theory.proofs.Rules.{all-append, all-at, all-of, head, tail}
 use Rattle.meaning.specs.Intervals.{Constraint}
 use Rattle.meaning.specs.Lists.{All, cons, nil}
 use Rattle.meaning.specs.NormalForm.{Form, Node, Successors, none, normalForm, successor}

@@ -4,7 +4,7 @@ use mathlib.Core.List.{List, [], _∷_, map}
 use mathlib.Core.Logic.{⊎-elim}
 use mathlib.Core.Path.{_≡_, ap, refl, subst, sym}
 use lib.Dec.{T}
-use Rattle.meaning.proofs.Rules.{any-cases, any-none, isTrue}
+use Rattle.theory.proofs.Rules.{any-cases, any-none, isTrue}
 use Rattle.meaning.specs.Lists.{_∈_, filter, here, there}
 
 pub in-map : {A B : Type 0} (f : A → B) {x : A} {l : List A} → x ∈ l → f x ∈ map f l

@@ -4,10 +4,10 @@ use mathlib.Core.Bool.{Bool, _&&_, cond, false, true}
 use mathlib.Core.List.{List, [], _∷_}
 use mathlib.Core.Path.{_≡_, subst, sym}
 use lib.Dec.{eqb}
-use Rattle.meaning.proofs.Rules.{all-append, all-at, all-map, all-of, head, tail}
-use Rattle.meaning.proofs.Defaults.{accepted-stated}
-use Rattle.meaning.proofs.Stated.{all-stated}
-use Rattle.meaning.proofs.Wellformed.{accepted-terms}
+use Rattle.theory.proofs.Rules.{all-append, all-at, all-map, all-of, head, tail}
+use Rattle.theory.proofs.Defaults.{accepted-stated}
+use Rattle.theory.proofs.Stated.{all-stated}
+use Rattle.theory.proofs.Wellformed.{accepted-terms}
 use Rattle.meaning.specs.Accepted.{ChainOf, NamedChain}
 use Rattle.meaning.specs.Intervals.{Constraint, meet}
 use Rattle.meaning.specs.Lists.{All, _∈_, cons, nil}

@@ -6,8 +6,8 @@ use mathlib.Core.Logic.{_↔_, _⊎_, inl, inr, ⊎-elim}
 use mathlib.Core.Path.{_∙_, _≡_, ap, refl, subst, sym}
 use lib.Dec.{T, eqb, eqb→eq}
 use native.Mathlib.Omega.{arith}
-use Rattle.meaning.proofs.Normal.{add-normal, unbounded}
-use Rattle.meaning.proofs.Rules.{T-and, all-at, all-of, and-T, any-append, any-cases, any-left, any-none, any-right, eqb-of, notTrue}
+use Rattle.theory.proofs.Normal.{add-normal, unbounded}
+use Rattle.theory.proofs.Rules.{T-and, all-at, all-of, and-T, any-append, any-cases, any-left, any-none, any-right, eqb-of, notTrue}
 use Rattle.meaning.specs.Intervals.{Constraint, meet}
 use Rattle.meaning.specs.Lists.{All, _∈_, cons, here, nil, there}
 use Rattle.meaning.specs.Normal.{Distinct, Fresh, Normal, NormalSuccessors}

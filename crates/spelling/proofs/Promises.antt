@@ -7,9 +7,9 @@ use lib.Dec.{T, leb, ltb}
 use lib.ListN.{length}
 use native.Mathlib.Omega.{arith}
 use borrow.Author.Tests.{leb-true, ltb-false}
-use Rattle.meaning.proofs.Equality.{indistinct-right}
-use Rattle.meaning.proofs.Links.{split}
-use Rattle.meaning.proofs.Refusals.{orElse-zero, unless-all}
+use Rattle.theory.proofs.Equality.{indistinct-right}
+use Rattle.theory.proofs.Links.{split}
+use Rattle.theory.proofs.Refusals.{orElse-zero, unless-all}
 use Rattle.meaning.specs.Accepted.{depth, total}
 use Rattle.meaning.specs.Answers.{FillingResult, accepted, equal, result, wrote}
 use Rattle.meaning.specs.Containment.{Indistinct}

@@ -9,10 +9,10 @@ use lib.ListN.{drop, length}
 use native.Mathlib.Nat.{add-zero}
 use native.Mathlib.Omega.{arith}
 use borrow.Author.Tests.{ne-eqb}
-use Rattle.meaning.proofs.Chained.{record-after, word-at}
-use Rattle.meaning.proofs.Links.{falling-le, onward-le, tests}
-use Rattle.meaning.proofs.Rules.{all-mono, head, tail}
-use Rattle.meaning.proofs.Terms.{terms-are}
+use Rattle.theory.proofs.Chained.{record-after, word-at}
+use Rattle.theory.proofs.Links.{falling-le, onward-le, tests}
+use Rattle.theory.proofs.Rules.{all-mono, head, tail}
+use Rattle.theory.proofs.Terms.{terms-are}
 use Rattle.meaning.specs.Accepted.{ChainOf, Here, Reads, ReadsTerms, count, depth, reads-class, reads-end, reads-impossible, reads-interval}
 use Rattle.meaning.specs.Accepted.{reads-none, reads-some, reads-term, total}
 use Rattle.meaning.specs.Limits.{mostDepth, mostPolicyWords, mostRecords}

@@ -4,7 +4,7 @@ use mathlib.Core.List.{[], _∷_, map}
 use mathlib.Core.Logic.{_↔_, ⊎-elim}
 use mathlib.Core.Path.{_∙_, _≡_, ap, ap₂, refl, subst, sym}
 use lib.Dec.{T}
-use Rattle.meaning.proofs.Rules.{any-cases, same-test}
+use Rattle.theory.proofs.Rules.{any-cases, same-test}
 use Rattle.meaning.specs.Lists.{_∈_, filter, here, there}
 use Rattle.meaning.specs.NormalForm.{Form, add, bare, hasBottom, normalForm, possible}
 use Rattle.meaning.specs.Policy.{Chain, Policy, impossible}

@@ -5,7 +5,7 @@ use mathlib.Core.Logic.{inl, inr, ⊎-elim}
 use mathlib.Core.Path.{_∙_, _≡_, ap, refl, sym}
 use lib.Dec.{T, eqb}
 use native.Mathlib.Omega.{arith}
-use Rattle.meaning.proofs.Rules.{isTrue, notTrue}
+use Rattle.theory.proofs.Rules.{isTrue, notTrue}
 use Rattle.meaning.specs.Intervals.{Constraint, meet}
 use Rattle.meaning.specs.NormalForm.{Form, add, bare, normalForm}
 use Rattle.meaning.specs.Policy.{Chain, class, end, impossible, interval, some}

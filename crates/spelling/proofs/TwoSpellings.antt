@@ -4,7 +4,7 @@ use mathlib.Core.List.{[], _∷_}
 use mathlib.Core.Logic.{⊎-elim}
 use mathlib.Core.Path.{_≡_}
 use native.Mathlib.Omega.{arith}
-use Rattle.meaning.proofs.Rules.{any-cases, any-none, order}
+use Rattle.theory.proofs.Rules.{any-cases, any-none, order}
 use Rattle.meaning.specs.Containment.{Indistinct}
 use Rattle.meaning.specs.Lists.{here, there}
 use Rattle.meaning.specs.NormalForm.{normalForm, possible}

@@ -11,9 +11,9 @@ use Rattle.frames.specs.Frames.{Only}
 use Rattle.layout.proofs.Entries.{held-constraints, held-in, tabled-kept}
 use Rattle.layout.specs.Tables.{ConstraintsStand, Held, Pieces, Tabled, constraintAt, heldIn}
 use Rattle.layout.specs.declared.Tables.{Tables}
-use Rattle.meaning.proofs.Intervals.{isNonEmpty-iff}
-use Rattle.meaning.proofs.Picks.{AllNonEmpty, clean-nonEmpty-form}
-use Rattle.meaning.proofs.Rules.{T-and, all-map, all-mono, all-out, head, isTrue, tail}
+use Rattle.theory.proofs.Intervals.{isNonEmpty-iff}
+use Rattle.theory.proofs.Picks.{AllNonEmpty, clean-nonEmpty-form}
+use Rattle.theory.proofs.Rules.{T-and, all-map, all-mono, all-out, head, isTrue, tail}
 use Rattle.meaning.specs.Intervals.{NonEmpty, isNonEmpty}
 use Rattle.meaning.specs.Limits.{mostRecords}
 use Rattle.meaning.specs.Lists.{all, counting}

@@ -10,9 +10,9 @@ use lib.Dec.{eqb, leb, ltb}
 use lib.ListN.{length}
 use Rattle.keys.proofs.Ranking.{rising-tail}
 use Rattle.keys.specs.Keys.{keyOf}
-use Rattle.meaning.proofs.Count.{count-pieces}
-use Rattle.meaning.proofs.Points.{above, insert-all, insert-here, insert-sorted, insert-there, inserts-all, points-sorted}
-use Rattle.meaning.proofs.Rules.{all-at, all-mono, all-of, any-cases, any-none}
+use Rattle.theory.proofs.Count.{count-pieces}
+use Rattle.theory.proofs.Points.{above, insert-all, insert-here, insert-sorted, insert-there, inserts-all, points-sorted}
+use Rattle.theory.proofs.Rules.{all-at, all-mono, all-of, any-cases, any-none}
 use Rattle.meaning.specs.Intervals.{Constraint, isWithin}
 use Rattle.meaning.specs.Limits.{mostCombinations}
 use Rattle.meaning.specs.Lists.{_∈_, cons, filter, here, nil, there}

@@ -11,7 +11,7 @@ use lib.Seq.{take-length}
 use borrow.Author.Tests.{eq-eqb, ltb-false, ltb-true, ne-eqb}
 use Rattle.keys.proofs.Ranking.{getD-in, nearest}
 use Rattle.keys.specs.Keys.{Ranked, keyOf, valueCount}
-use Rattle.meaning.proofs.Rules.{all-of, any-none, head, tail}
+use Rattle.theory.proofs.Rules.{all-of, any-none, head, tail}
 use Rattle.meaning.specs.Lists.{All, _∈_, here, there}
 use Rattle.meaning.specs.Policy.{Policy}
 use Rattle.meaning.specs.Splitting.{Sorted}

@@ -6,7 +6,7 @@ use native.Mathlib.Omega.{arith}
 use lib.ListN.{getD, length}
 use Rattle.keys.proofs.Adding.{gathered-none, gathered-then}
 use Rattle.keys.specs.Keys.{Gathered, valueCount}
-use Rattle.meaning.proofs.Wellformed.{accepted}
+use Rattle.theory.proofs.Wellformed.{accepted}
 use Rattle.meaning.specs.Accepted.{count, total}
 use Rattle.meaning.specs.Limits.{mostDepth}
 use Rattle.meaning.specs.Policy.{Policy, childOf, firstTerm, nextOf, policyOf, policyRefusal}

@@ -5,7 +5,7 @@ use mathlib.Core.Path.{_∙_, _≡_, refl, sym}
 use native.Mathlib.Omega.{arith}
 use lib.Dec.{eqb}
 use borrow.Author.Tests.{eqb-false}
-use Rattle.meaning.proofs.Links.{split}
+use Rattle.theory.proofs.Links.{split}
 use Rattle.meaning.specs.Accepted.{count, depth, intervalCount}
 use Rattle.meaning.specs.Limits.{mostDepth, mostRecords}
 use Rattle.meaning.specs.Policy.{Chain, childOf, class, conjunctAt, end, impossible, interval, kindOf, nextOf, some}

@@ -7,8 +7,8 @@ use native.Mathlib.Numerals.{add-one}
 use native.Mathlib.Omega.{arith}
 use lib.ListN.{length}
 use Rattle.layout.specs.Tables.{constraintAt, intervalOf}
-use Rattle.meaning.proofs.Count.{pieces-some, product-append}
-use Rattle.meaning.proofs.Counting.{counted-more}
+use Rattle.theory.proofs.Count.{pieces-some, product-append}
+use Rattle.theory.proofs.Counting.{counted-more}
 use Rattle.meaning.specs.Intervals.{Constraint, NonEmpty}
 use Rattle.meaning.specs.Limits.{mostCombinations}
 use Rattle.meaning.specs.Policy.{Policy}

@@ -5,7 +5,7 @@ use mathlib.Core.Path.{_≡_, ap, ap₂, refl, subst, sym}
 use native.Mathlib.Omega.{arith}
 use lib.ListN.{length}
 use Rattle.layout.specs.Tables.{constraintAt}
-use Rattle.meaning.proofs.Digits.{fill, fillConstraints, fillNode, fillSuccessors}
+use Rattle.theory.proofs.Digits.{fill, fillConstraints, fillNode, fillSuccessors}
 use Rattle.meaning.specs.Intervals.{Constraint}
 use Rattle.meaning.specs.Lists.{counting}
 use Rattle.meaning.specs.NormalForm.{Form, Node, Successors, none, successor}

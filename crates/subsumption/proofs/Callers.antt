@@ -13,9 +13,9 @@ use Rattle.layout.specs.Combination.{IndividualBy, Kin, chosenFrom}
 use Rattle.layout.specs.Nesting.{Nested}
 use Rattle.layout.specs.Tables.{Tabled, holderAt, parentAt, roleAt}
 use Rattle.layout.specs.declared.Tables.{Tables}
-use Rattle.meaning.proofs.Counting.{below-some, some-below}
-use Rattle.meaning.proofs.Digits.{fill}
-use Rattle.meaning.proofs.Rules.{T-and, T-or, and-T, eqb-of, isTrue, or-left, or-right, order, same-test}
+use Rattle.theory.proofs.Counting.{below-some, some-below}
+use Rattle.theory.proofs.Digits.{fill}
+use Rattle.theory.proofs.Rules.{T-and, T-or, and-T, eqb-of, isTrue, or-left, or-right, order, same-test}
 use Rattle.meaning.specs.Countermodel.{size}
 use Rattle.meaning.specs.Intervals.{Constraint}
 use Rattle.meaning.specs.Lists.{any, counting}

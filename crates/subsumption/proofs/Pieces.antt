@@ -9,8 +9,8 @@ use borrow.Author.Tests.{eq-eqb, ne-eqb}
 use Rattle.layout.specs.Nesting.{Nested}
 use Rattle.layout.specs.Tables.{constraintAt, holderAt}
 use Rattle.layout.specs.declared.Tables.{Tables}
-use Rattle.meaning.proofs.Counting.{none-below, some-below}
-use Rattle.meaning.proofs.Rules.{order}
+use Rattle.theory.proofs.Counting.{none-below, some-below}
+use Rattle.theory.proofs.Rules.{order}
 use Rattle.meaning.specs.Intervals.{isInside}
 use Rattle.meaning.specs.Subsumption.{includes}
 use Rattle.subsumption.specs.Tests.{FirstOf, hasPiece, hasWhole, isPieceInside}

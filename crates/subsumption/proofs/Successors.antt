@@ -11,9 +11,9 @@ use Rattle.layout.specs.Combination.{nextSuccessor}
 use Rattle.layout.specs.Nesting.{Nested}
 use Rattle.layout.specs.Tables.{parentAt, roleAt}
 use Rattle.layout.specs.declared.Tables.{Tables}
-use Rattle.meaning.proofs.Counting.{none-below, some-below}
-use Rattle.meaning.proofs.Links.{split}
-use Rattle.meaning.proofs.Rules.{order}
+use Rattle.theory.proofs.Counting.{none-below, some-below}
+use Rattle.theory.proofs.Links.{split}
+use Rattle.theory.proofs.Rules.{order}
 use Rattle.policy.specs.Terms.{conjunctsAt}
 use Rattle.subsumption.specs.Tests.{Individual, Testable, hasSuccessor, holdsWhole, isPassing}
 

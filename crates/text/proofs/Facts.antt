@@ -8,7 +8,7 @@ use native.Mathlib.Nat.{add-comm}
 use native.Mathlib.Numerals.{add-one}
 use native.Mathlib.Omega.{arith}
 use Rattle.input.proofs.Words.{counted}
-use Rattle.meaning.proofs.ModelWords.{model-facts, model-length, stated}
+use Rattle.theory.proofs.ModelWords.{model-facts, model-length, stated}
 use Rattle.meaning.specs.Answers.{Answer, VerdictResult}
 use Rattle.meaning.specs.Lists.{counting, flatMap}
 use Rattle.meaning.specs.Model.{Fact, factAt, factKind, factName, factOther, factOwner, factWords, factsOf}

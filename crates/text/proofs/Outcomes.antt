@@ -9,7 +9,7 @@ use mathlib.Core.List.{List, []}
 use mathlib.Core.Path.{_∙_, _≡_, ap, refl, subst, sym}
 use native.Mathlib.Omega.{arith}
 use Rattle.input.specs.Input.{decided, decidedWords, exact, partsEnd, thirdPart}
-use Rattle.meaning.proofs.Compliance.{compliance-told}
+use Rattle.theory.proofs.Compliance.{compliance-told}
 use Rattle.meaning.specs.Answers.{Answer, VerdictResult, outside, refused, result, verdictAnswer}
 use Rattle.meaning.specs.Countermodel.{canonicalModel, countermodel, individuals}
 use Rattle.meaning.specs.Limits.{mostBytes, outputSize, workSize}

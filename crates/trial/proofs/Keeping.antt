@@ -14,7 +14,7 @@ use Rattle.layout.proofs.Nesting.{holder-kept, parent-kept}
 use Rattle.layout.specs.Places.{individualPlace}
 use Rattle.layout.specs.Tables.{Pieces, constraintAt, roleAt, setAt}
 use Rattle.layout.specs.declared.Tables.{Tables}
-use Rattle.meaning.proofs.Rules.{order}
+use Rattle.theory.proofs.Rules.{order}
 use Rattle.meaning.specs.Intervals.{Constraint}
 use Rattle.meaning.specs.Limits.{mostRecords}
 use Rattle.meaning.specs.Lists.{any, counting}

@@ -6,7 +6,7 @@ use mathlib.Core.Path.{_∙_, _≡_, ap, refl, sym}
 use native.Mathlib.Omega.{arith}
 use Rattle.layout.specs.Tables.{pieceAt}
 use Rattle.layout.specs.declared.Tables.{Tables}
-use Rattle.meaning.proofs.Rules.{all-of, head, tail}
+use Rattle.theory.proofs.Rules.{all-of, head, tail}
 use Rattle.meaning.specs.Limits.{mostDepth}
 use Rattle.meaning.specs.Lists.{All, _∈_, any}
 use Rattle.meaning.specs.Policy.{Policy, childOf, firstTerm, nextOf, policyOf, termAt}

@@ -8,10 +8,10 @@ use native.Mathlib.Nat.{add-mul, add-zero, mul-assoc, mul-comm, zero-mul}
 use native.Mathlib.Omega.{arith}
 use lib.ListN.{getD, length}
 use Rattle.layout.specs.Tables.{constraintAt}
-use Rattle.meaning.proofs.Count.{count-combinations}
-use Rattle.meaning.proofs.Digits.{Takes, fill, number}
-use Rattle.meaning.proofs.Odometer.{at-getD, at-lt, combination-at, getD-at}
-use Rattle.meaning.proofs.Rules.{order}
+use Rattle.theory.proofs.Count.{count-combinations}
+use Rattle.theory.proofs.Digits.{Takes, fill, number}
+use Rattle.theory.proofs.Odometer.{at-getD, at-lt, combination-at, getD-at}
+use Rattle.theory.proofs.Rules.{order}
 use Rattle.meaning.specs.Containment.{passes}
 use Rattle.meaning.specs.Intervals.{Constraint}
 use Rattle.meaning.specs.Lists.{At, counting, firstFailing, found, nowhere}

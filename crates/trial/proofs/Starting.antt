@@ -12,9 +12,9 @@ use Rattle.frames.specs.Frames.{Only}
 use Rattle.layout.proofs.Nesting.{nested-kept}
 use Rattle.layout.specs.Tables.{Pieces, constraintAt}
 use Rattle.layout.specs.declared.Tables.{Tables}
-use Rattle.meaning.proofs.Digits.{fill}
-use Rattle.meaning.proofs.Picks.{AllNonEmpty}
-use Rattle.meaning.proofs.Whole.{whole-passes}
+use Rattle.theory.proofs.Digits.{fill}
+use Rattle.theory.proofs.Picks.{AllNonEmpty}
+use Rattle.theory.proofs.Whole.{whole-passes}
 use Rattle.meaning.specs.Intervals.{NonEmpty}
 use Rattle.meaning.specs.Lists.{any, cons, counting, nil}
 use Rattle.meaning.specs.Policy.{policyOf}

@@ -16,10 +16,10 @@ use Rattle.layout.proofs.Filling.{combined}
 use Rattle.layout.proofs.Nesting.{nested-kept}
 use Rattle.layout.specs.Tables.{Pieces, Tabled, constraintAt, pieceAt}
 use Rattle.layout.specs.declared.Tables.{Tables}
-use Rattle.meaning.proofs.Digits.{fill}
-use Rattle.meaning.proofs.Odometer.{at-lt}
-use Rattle.meaning.proofs.Points.{Inside, pieces-part}
-use Rattle.meaning.proofs.Rules.{and-T, any-in, at-any, eqb-of, head, isTrue, order, same-test, tail}
+use Rattle.theory.proofs.Digits.{fill}
+use Rattle.theory.proofs.Odometer.{at-lt}
+use Rattle.theory.proofs.Points.{Inside, pieces-part}
+use Rattle.theory.proofs.Rules.{and-T, any-in, at-any, eqb-of, head, isTrue, order, same-test, tail}
 use Rattle.meaning.specs.Containment.{passes}
 use Rattle.meaning.specs.Intervals.{Constraint, NonEmpty, isInside}
 use Rattle.meaning.specs.Limits.{mostCombinations}

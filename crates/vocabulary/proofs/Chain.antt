@@ -6,8 +6,8 @@ use mathlib.Core.List.{List, [], _∷_, foldl, foldl-append}
 use mathlib.Core.Path.{_∙_, _≡_, refl, sym}
 use lib.ListN.{length}
 use native.Mathlib.Omega.{arith}
-use Rattle.meaning.proofs.Links.{falling-le, tests}
-use Rattle.meaning.proofs.Wellformed.{vocabulary-sound}
+use Rattle.theory.proofs.Links.{falling-le, tests}
+use Rattle.theory.proofs.Wellformed.{vocabulary-sound}
 use Rattle.meaning.specs.Lists.{flatMap}
 use Rattle.meaning.specs.Records.{falling, lastOf}
 use Rattle.meaning.specs.Vocabulary.{Axiom, axiomAt, axiomFits, axiomNext, axiomsOf, firstAxiom, soundAxiom, vocabularyOf, vocabularyRefusal}

@@ -7,7 +7,7 @@ use lib.Dec.{eqb, leb}
 use lib.ListN.{length}
 use native.Mathlib.Omega.{arith}
 use borrow.Author.Tests.{le-leb, lt-leb, ne-eqb, not-false, not-true}
-use Rattle.meaning.proofs.Links.{bounds, falling-le, passed, tests}
+use Rattle.theory.proofs.Links.{bounds, falling-le, passed, tests}
 use Rattle.meaning.specs.Answers.{Answer, ReadingResult, accepted, refused, result}
 use Rattle.meaning.specs.Limits.{mostClasses, mostFeatures, mostRoles, mostVocabularyWords}
 use Rattle.meaning.specs.Operations.{readVocabulary, unless}

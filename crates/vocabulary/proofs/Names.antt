@@ -8,11 +8,11 @@ use lib.Ieee.Bits.{is-true}
 use lib.ListN.{length, replicate}
 use native.Mathlib.Omega.{arith}
 use borrow.Author.Tests.{eq-eqb, ne-eqb}
-use Rattle.meaning.proofs.Links.{enough-end, falling-le, falls, onward-le, passed, tests}
-use Rattle.meaning.proofs.Refusals.{orElse-first}
-use Rattle.meaning.proofs.Rules.{all-flatMap, all-mono, any-at, any-in, any-mono, any-out, at-any, eqb-of, isTrue, same-test}
-use Rattle.meaning.proofs.Stated.{functional-feature-named, functional-role-named, many-feature-named, many-role-named, nameBy-at}
-use Rattle.meaning.proofs.Wellformed.{axioms-named}
+use Rattle.theory.proofs.Links.{enough-end, falling-le, falls, onward-le, passed, tests}
+use Rattle.theory.proofs.Refusals.{orElse-first}
+use Rattle.theory.proofs.Rules.{all-flatMap, all-mono, any-at, any-in, any-mono, any-out, at-any, eqb-of, isTrue, same-test}
+use Rattle.theory.proofs.Stated.{functional-feature-named, functional-role-named, many-feature-named, many-role-named, nameBy-at}
+use Rattle.theory.proofs.Wellformed.{axioms-named}
 use Rattle.meaning.specs.Accepted.{AxiomOf}
 use Rattle.meaning.specs.Limits.{mostFeatures, mostRoles}
 use Rattle.meaning.specs.Lists.{All, any}

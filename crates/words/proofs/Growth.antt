@@ -13,8 +13,8 @@ use borrow.Author.Tests.{eq-eqb}
 use native.Mathlib.Nat.{suc-mul}
 use native.Mathlib.Omega.{arith}
 use Rattle.frames.specs.Rows.{putAt, rowAt}
-use Rattle.meaning.proofs.Links.{tests}
-use Rattle.meaning.proofs.Rules.{or-right}
+use Rattle.theory.proofs.Links.{tests}
+use Rattle.theory.proofs.Rules.{or-right}
 use Rattle.words.proofs.Laws.{in-union, length-union, union-at}
 use Rattle.words.specs.Sets.{inSet, unionOf, wordSum}
 

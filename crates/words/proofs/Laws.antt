@@ -11,8 +11,8 @@ use mathlib.Core.Logic.{⊎-elim}
 use mathlib.Core.Path.{_∙_, _≡_, ap, ap₂, refl, sym}
 use native.Mathlib.Omega.{arith}
 use borrow.Author.Tests.{eq-eqb, eqb-false, eqb-true, le-leb, lt-leb, ne-eqb}
-use Rattle.meaning.proofs.Counting.{in-counting}
-use Rattle.meaning.proofs.Rules.{order}
+use Rattle.theory.proofs.Counting.{in-counting}
+use Rattle.theory.proofs.Rules.{order}
 use Rattle.meaning.specs.Lists.{_∈_, counting, filter}
 use Rattle.meaning.specs.Records.{isName}
 use Rattle.words.proofs.Bits.{bit-none, bit-or, bit-pow}

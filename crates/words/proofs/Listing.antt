@@ -10,7 +10,7 @@ use mathlib.Core.Logic.{⊎-elim}
 use mathlib.Core.Path.{_∙_, _≡_, ap, ap₂, refl, sym}
 use native.Mathlib.Omega.{arith}
 use borrow.Author.Tests.{eqb-false, eqb-true, le-ltb, lt-ltb}
-use Rattle.meaning.proofs.Rules.{order}
+use Rattle.theory.proofs.Rules.{order}
 use Rattle.meaning.specs.Lists.{counting}
 use Rattle.words.proofs.Bits.{below-lowest, bit-none, bit-past, bit-shift, lowest-set}
 use Rattle.words.proofs.Laws.{in-listed, in-past, members-rising}

@@ -6,7 +6,7 @@ use Rattle.closure.proofs.Ranges.{ranged-all}
 use Rattle.closure.proofs.Steps.{empties, empties-length, widened-length}
 use Rattle.closure.proofs.close_ranges.Statement.{statement}
 use Rattle.closure.specs.Rows.{widened}
-use Rattle.meaning.proofs.Wellformed.{accepted-counts, axiom-named}
+use Rattle.theory.proofs.Wellformed.{accepted-counts, axiom-named}
 use Rattle.meaning.specs.Records.{falling, lastOf}
 use Rattle.meaning.specs.Vocabulary.{axiomAt}
 use Rattle.vocabulary.proofs.Chain.{Folding, folding-ends, folding-falls, folding-on, folding-starts}

@@ -6,7 +6,7 @@ use native.Mathlib.Omega.{arith}
 use Rattle.closure.proofs.Steps.{grown-more, grown-still, lifted-length}
 use Rattle.closure.proofs.pass.Statement.{statement}
 use Rattle.closure.specs.Rows.{Grown, lifted}
-use Rattle.meaning.proofs.Wellformed.{axiom-named}
+use Rattle.theory.proofs.Wellformed.{axiom-named}
 use Rattle.meaning.specs.Records.{falling, lastOf}
 use Rattle.meaning.specs.Vocabulary.{axiomAt}
 use Rattle.vocabulary.proofs.Chain.{Folding, folding-ends, folding-falls, folding-on, folding-starts}

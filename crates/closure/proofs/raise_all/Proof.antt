@@ -5,7 +5,7 @@ use native.Mathlib.Omega.{arith}
 use Rattle.closure.proofs.Raising.{heads-none, nexts-none, raised-length, raised-then}
 use Rattle.closure.proofs.raise_all.Statement.{statement}
 use Rattle.closure.specs.Index.{Heads, Raised, raised-none, records}
-use Rattle.meaning.proofs.Wellformed.{accepted-counts}
+use Rattle.theory.proofs.Wellformed.{accepted-counts}
 use Rattle.closure.proofs.raise_all.Tie as tie
 
 abbrev Inv-loop : tie.InvT-loop

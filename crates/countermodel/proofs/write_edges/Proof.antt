@@ -6,7 +6,7 @@ use lib.ListN.{length}
 use Rattle.countermodel.proofs.Edges.{edges-end, edges-more, edges-start, edgesLeft}
 use Rattle.countermodel.specs.Written.{facts}
 use Rattle.records.proofs.Writing.{Left, left-end, left-start, turn-less, turn-more, turn-room}
-use Rattle.meaning.proofs.ModelWords.{fact-length}
+use Rattle.theory.proofs.ModelWords.{fact-length}
 use Rattle.countermodel.proofs.write_edges.Statement.{statement}
 use Rattle.countermodel.specs.Facts.{edgeFacts}
 use Rattle.countermodel.proofs.write_edges.Tie as tie

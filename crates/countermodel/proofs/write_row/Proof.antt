@@ -1,7 +1,7 @@
 use borrow.Author.Needs.{needs}
 use mathlib.Core.Path.{_∙_, refl}
 use native.Mathlib.Omega.{arith}
-use Rattle.meaning.proofs.ModelWords.{fact-length}
+use Rattle.theory.proofs.ModelWords.{fact-length}
 use Rattle.records.proofs.Writing.{three-written}
 use Rattle.records.proofs.Writing.{room-same}
 use Rattle.countermodel.proofs.Sizes.{row-length}

@@ -5,7 +5,7 @@ use mathlib.Core.Path.{_≡_, ap}
 use native.Mathlib.Omega.{arith}
 use Rattle.countermodel.specs.Written.{facts}
 use Rattle.records.proofs.Writing.{Left, left-end, left-more, left-start, room-same}
-use Rattle.meaning.proofs.ModelWords.{fact-length}
+use Rattle.theory.proofs.ModelWords.{fact-length}
 use Rattle.countermodel.proofs.Sizes.{rows-end, rows-length, rows-more}
 use Rattle.countermodel.proofs.write_rows.Statement.{statement}
 use Rattle.countermodel.specs.Facts.{factsFrom, tableFacts}

@@ -4,7 +4,7 @@ use native.Mathlib.Omega.{arith}
 use lib.ListN.{length}
 use Rattle.countermodel.specs.Written.{facts}
 use Rattle.records.proofs.Writing.{Left, left-end, left-start, turn-less, turn-more, turn-room}
-use Rattle.meaning.proofs.ModelWords.{fact-length}
+use Rattle.theory.proofs.ModelWords.{fact-length}
 use Rattle.countermodel.proofs.Pairs.{values-end, values-here, values-more, values-start}
 use Rattle.countermodel.proofs.write_values.Statement.{statement}
 use Rattle.countermodel.specs.Facts.{valueFacts, valuesFrom}

@@ -1,5 +1,5 @@
 use borrow.Author.Needs.{needs}
-use Rattle.meaning.proofs.Refusals.{secondRefusal-some}
+use Rattle.theory.proofs.Refusals.{secondRefusal-some}
 use Rattle.policy.proofs.second_refusal.Statement.{statement}
 use Rattle.policy.proofs.second_refusal.Tie as tie
 

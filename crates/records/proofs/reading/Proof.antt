@@ -1,5 +1,5 @@
 use borrow.Author.Needs.{needs}
-use Rattle.meaning.proofs.Refusals.{unless-some}
+use Rattle.theory.proofs.Refusals.{unless-some}
 use Rattle.meaning.specs.Answers.{accepted, refused, result}
 use Rattle.records.proofs.reading.Statement.{statement}
 use Rattle.records.proofs.reading.Tie as tie

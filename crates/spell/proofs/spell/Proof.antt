@@ -2,7 +2,7 @@ use borrow.Author.Needs.{needs}
 use lib.ListN.{length}
 use native.Mathlib.Omega.{arith}
 use Rattle.frames.proofs.Work.{done-answered, done-before, done-full, done-refused, in-order}
-use Rattle.meaning.proofs.Refusals.{orElse-early, orElse-zero, policy-early, vocabulary-early}
+use Rattle.theory.proofs.Refusals.{orElse-early, orElse-zero, policy-early, vocabulary-early}
 use Rattle.meaning.specs.Policy.{policyOf, policyRefusal}
 use Rattle.meaning.specs.Vocabulary.{vocabularyOf, vocabularyRefusal}
 use Rattle.spelling.specs.Spelling.{spelled}

@@ -4,7 +4,7 @@ use native.Mathlib.Omega.{arith}
 use borrow.Author.Needs.{needs}
 use borrow.Author.Tests.{not-false, not-true}
 use Rattle.layout.specs.Tables.{setAt}
-use Rattle.meaning.proofs.Counting.{Testing, testing-ends, testing-fails, testing-on, testing-starts}
+use Rattle.theory.proofs.Counting.{Testing, testing-ends, testing-fails, testing-on, testing-starts}
 use Rattle.pairs.specs.Pairs.{agreeIn}
 use Rattle.tabulation.proofs.Cleanness.{row-agrees}
 use Rattle.tabulation.proofs.are_compatible.Statement.{statement}

@@ -3,7 +3,7 @@ use mathlib.Core.Path.{_∙_}
 use native.Mathlib.Omega.{arith}
 use borrow.Author.Needs.{needs}
 use borrow.Author.Tests.{not-false, not-true}
-use Rattle.meaning.proofs.Counting.{Testing, testing-ends, testing-fails, testing-on, testing-starts}
+use Rattle.theory.proofs.Counting.{Testing, testing-ends, testing-fails, testing-on, testing-starts}
 use Rattle.tabulation.proofs.Cleanness.{value-told}
 use Rattle.tabulation.proofs.are_nonempty.Statement.{statement}
 use Rattle.tabulation.specs.Clean.{nonEmptyAt}
