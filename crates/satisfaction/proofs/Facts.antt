@@ -1,7 +1,8 @@
 -- Laws of one record of the model: the fact that it states, by its kind and name.
 use Prim.Native.Nat.{_+_, _≤_, ℕ}
-use mathlib.Core.Bool.{Bool, false, not, true}
+use mathlib.Core.Bool.{Bool, cond, false, not, true}
 use mathlib.Core.List.{List}
+use mathlib.Core.Logic.{_⊎_, inl, inr, ⊎-elim}
 use mathlib.Core.Path.{_∙_, _≡_, refl, subst, sym}
 use native.Mathlib.Omega.{arith}
 use borrow.Author.Tests.{eq-eqb, eqb-false, eqb-true, ne-eqb, not-false, not-true}
@@ -16,7 +17,7 @@ use Rattle.model.specs.Chain.{Readable, Stated, factLinks}
 use Rattle.records.specs.Chains.{Along, along-end, along-more}
 use Rattle.satisfaction.specs.Classes.{Interpreted, entered, follows, isRanged, ownerOf}
 use Rattle.satisfaction.specs.Links.{numberOf, otherOf}
-use Rattle.satisfaction.specs.Places.{classPlace, classesOf, putIn}
+use Rattle.satisfaction.specs.Places.{classPlace, classesOf, putIn, seriesCount}
 use Rattle.words.specs.Rows.{classWords}
 use Rattle.words.specs.Sets.{inSet}
 
@@ -65,6 +66,16 @@ module _ {m : List ℕ} {k : ℕ} (s : Stated m k) where
           (λ z. h ∙ i .classed .rows j c (rw ej (s .target z)) ∙ rw (← ea, eq-eqb r a (sym d), ej)) (λ d. absurd (omega arith))
 
 -- ---- a value of a role or feature
+
+-- a number is that of a name
+pub named-number : (n a : ℕ) (b : Bool) → isName n a ≡ b → (k : ℕ) → (cond b k 0 ≡ 0) ⊎ ((1 ≤ a) × (a ≤ n) × (cond b k 0 ≡ k))
+named-number n a true e k = inr (let u = simp tests at e in (u .0, u .1, refl))
+named-number n a false e k = inl refl
+
+pub number-few : (x : Fact) → numberOf x ≤ seriesCount
+number-few (member a i) = omega arith
+number-few (edge r i j) = ⊎-elim (λ z. omega arith) (λ z. omega arith) (named-number mostRoles r (isName mostRoles r) refl r)
+number-few (value f i v) = ⊎-elim (λ z. omega arith) (λ z. omega arith) (named-number mostFeatures f (isName mostFeatures f) refl (mostRoles + f))
 
 pub name-few : {n a : ℕ} {b : Bool} → b ≡ isName n a → b ≡ true → a ≤ n
 name-few h t = let u = simp tests at (sym h ∙ t) in u .1

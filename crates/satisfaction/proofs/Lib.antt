@@ -7,5 +7,4 @@ pub mod Statements
 pub mod Links
 pub mod Values
 pub mod Series
-pub mod Tables
 pub mod Holding

@@ -1,6 +1,6 @@
 -- Laws of the classes that the targets of a role's edges have in common: every class at first, and for each edge those of its target.
 use Prim.Native.Nat.{_%_, _*_, _+_, _-_, _/_, _<_, _^_, _≤_, suc, zero, ℕ}
-use mathlib.Core.Bool.{Bool, _&&_, and-assoc, and-true, false, not, true}
+use mathlib.Core.Bool.{Bool, _&&_, and-assoc, and-true, false, not, true, true≢false}
 use mathlib.Core.List.{List, [], _∷_}
 use mathlib.Core.Logic.{⊎-elim}
 use mathlib.Core.Path.{_∙_, _≡_, ap, refl, sym}
@@ -28,7 +28,7 @@ use Rattle.satisfaction.proofs.Classes.{interpreted-kept}
 use Rattle.satisfaction.proofs.Facts.{other-role, ranged-into, unranged}
 use Rattle.satisfaction.specs.Classes.{Interpreted, isRanged}
 use Rattle.satisfaction.specs.Places.{classPlace, rangePlace, rangeWords, rangesAt, rangesEnd, rangesOf}
-use Rattle.satisfaction.specs.Ranges.{AllNarrowed, Intersected, Narrowed, Opened, Ranged}
+use Rattle.satisfaction.specs.Ranges.{Intersected, Narrowed, Opened, Ranged, RangedIf, RangesMade}
 use Rattle.words.proofs.Bits.{bit-suc, bit-zero}
 use Rattle.words.proofs.Laws.{named-within}
 use Rattle.words.specs.Rows.{classWords}
@@ -182,10 +182,6 @@ pub range-told : {m w : List ℕ} {r c : ℕ} {t : Bool} → Ranged m w → Name
 range-told {r = r} {c} x p q e = e ∙ x .rows r c p q
 
 module _ {m w w′ : List ℕ} where
-  -- the sets stand in front of what is changed
-  pub ranged-kept : {from to : ℕ} → rangesEnd ≤ from → Only (Span from to) w w′ → Ranged m w → Ranged m w′
-  ranged-kept l o x = record { rows = λ r c p q. ap (λ (s : List ℕ). inSet s c) (row-before o classWords (rangePlace r) (omega arith)) ∙ x .rows r c p q }
-
   pub ranging-on : {w₀ : List ℕ} {x : Fact} → Narrowed m w w′ x → (l : List Fact) → Ranging m w₀ w (x ∷ l) → Ranging m w₀ w′ l
   ranging-on {w₀} {x} n l t = record {
     only = only-then (t .only) (n .only);
@@ -200,5 +196,24 @@ module _ {m w w₁ : List ℕ} (e : Opened rangeWords w w₁) where
     pub ranging-interpreted : Ranging m w₁ w₂ l → Interpreted m w → Interpreted m w₂
     ranging-interpreted t i = interpreted-kept (omega arith) (only-then (e .only) (t .only)) i
 
-  pub ranging-ends : {w₂ : List ℕ} → Ranging m w₁ w₂ [] → AllNarrowed m w w₂
-  ranging-ends {w₂} t = record { ranged = record { rows = λ r c p q. sym (and-true (inSet (rangesOf w₂ r) c)) ∙ t .left r c p q }; only = only-then (e .only) (t .only) }
+  pub ranging-ends : {w₂ : List ℕ} {kind : ℕ} → Interpreted m w → Ranging m w₁ w₂ [] → RangesMade kind m w w₂ true
+  ranging-ends {w₂} i t = record {
+    state = record {
+      interpreted = ranging-interpreted t i;
+      ranged = λ _. record { rows = λ r c p q. sym (and-true (inSet (rangesOf w₂ r) c)) ∙ t .left r c p q };
+    };
+    asked = λ _. refl;
+    only = only-then (e .only) (t .only);
+  }
+
+-- there is nothing to make
+module _ {m w : List ℕ} {made : Bool} {kind : ℕ} (p : RangedIf made m w) where
+  pub ranges-there : made ≡ true → RangesMade kind m w w true
+  ranges-there e = record { state = record { interpreted = p .interpreted; ranged = λ _. p .ranged e }; asked = λ _. refl; only = only-none }
+
+  pub ranges-unasked : (kind ≡ 5 → ⊥) → RangesMade kind m w w false
+  ranges-unasked n = record {
+    state = record { interpreted = p .interpreted; ranged = λ e. absurd (true≢false (sym e)) };
+    asked = λ e. absurd (n e);
+    only = only-none;
+  }

@@ -1,4 +1,4 @@
--- Laws of what a vocabulary states: tests of one after another, and what the facts obey.
+-- Laws of what the records of a vocabulary ask: tests of one after another, and what the facts obey.
 use Prim.Native.Nat.{_+_, _-_, _<_, _≤_, suc, zero, ℕ}
 use mathlib.Core.Bool.{Bool, cond, false, not, true}
 use mathlib.Core.List.{List, [], _∷_}
@@ -18,16 +18,15 @@ use Rattle.meaning.specs.Lists.{All, _∈_, all, any, cons, counting, nil}
 use Rattle.meaning.specs.Model.{Fact, factsOf, individualCount, member}
 use Rattle.meaning.specs.ModelCheck.{isMember, obeys}
 use Rattle.meaning.specs.Records.{Name, falling, lastOf}
-use Rattle.meaning.specs.Vocabulary.{axiomAt, axiomFits, axiomKind, axiomLeft, axiomNext, axiomRight, below, disjoint}
+use Rattle.meaning.specs.Vocabulary.{axiomAt, axiomKind, axiomLeft, axiomNext, axiomRight, below, disjoint}
 use Rattle.meaning.specs.Vocabulary.{firstAxiom, range, vocabularyOf, vocabularyRefusal}
 use Rattle.model.specs.Chain.{Readable}
 use Rattle.records.proofs.Chains.{Walking, walking-ends, walking-falls, walking-found, walking-on, walking-sound, walking-starts}
 use Rattle.satisfaction.proofs.Facts.{owners-named}
-use Rattle.satisfaction.specs.Axioms.{Named}
-use Rattle.satisfaction.specs.Classes.{Classed, follows}
+use Rattle.satisfaction.specs.Classes.{Classed, Interpreted, follows}
+use Rattle.satisfaction.specs.Holding.{Askable, isHeld}
 use Rattle.satisfaction.specs.Places.{classesOf}
 use Rattle.satisfaction.specs.Ranges.{Ranged}
-use Rattle.satisfaction.specs.Tables.{Prepared}
 use Rattle.vocabulary.proofs.Chain.{axiomLinks, axioms-along}
 use Rattle.words.specs.Sets.{inSet}
 
@@ -114,73 +113,73 @@ module _ {m w : List ℕ} (r : Readable m) (c : Classed m w) (a b : ℕ) where
         (λ h. o .1 (λ i k l. let n = named a i k in T-not (inSet (classesOf w i) b) (pairs true .0 h i n k) (in-iff b i n .1 l)))
         (λ h. pairs true .1 (λ i n k. not-T (inSet (classesOf w i) b) (λ l. o .0 h i k (in-iff b i n .0 l)))))
 
--- ---- what record k of the vocabulary states, by its kind
+-- ---- what record k of the vocabulary asks, by its kind
 
-module _ (F : List Fact) (v : List ℕ) (k : ℕ) {kind a b : ℕ} (ek : kind ≡ axiomKind v k) (ea : a ≡ axiomLeft v k) (eb : b ≡ axiomRight v k) {t : Bool} where
-  pub states-below : kind ≡ 1 → t ≡ obeys F (below a b) → t ≡ obeys F (axiomAt v k)
-  states-below e h = h ∙ rw (← ek, e, ea, eb)
+module _ (F : List Fact) (v : List ℕ) (k : ℕ) {kind : ℕ} (ek : kind ≡ axiomKind v k) where
+  module _ {a b : ℕ} (ea : a ≡ axiomLeft v k) (eb : b ≡ axiomRight v k) {t : Bool} where
+    pub asks-below : kind ≡ 1 → t ≡ obeys F (below a b) → t ≡ isHeld F (axiomAt v k)
+    asks-below e h = h ∙ rw (← ek, e, ea, eb)
 
-  pub states-disjoint : kind ≡ 2 → t ≡ obeys F (disjoint a b) → t ≡ obeys F (axiomAt v k)
-  states-disjoint e h = h ∙ rw (← ek, e, ea, eb)
+    pub asks-disjoint : kind ≡ 2 → t ≡ obeys F (disjoint a b) → t ≡ isHeld F (axiomAt v k)
+    asks-disjoint e h = h ∙ rw (← ek, e, ea, eb)
 
-  pub states-range : kind ≡ 5 → t ≡ obeys F (range a b) → t ≡ obeys F (axiomAt v k)
-  states-range e h = h ∙ rw (← ek, e, ea, eb)
+    pub asks-range : kind ≡ 5 → t ≡ obeys F (range a b) → t ≡ isHeld F (axiomAt v k)
+    asks-range e h = h ∙ rw (← ek, e, ea, eb)
 
--- one of another kind asks nothing
-pub states-many : (F : List Fact) (v : List ℕ) (k : ℕ) {kind : ℕ} → kind ≡ axiomKind v k → (kind ≡ 1 → ⊥) → (kind ≡ 2 → ⊥) → (kind ≡ 3 → ⊥) → (kind ≡ 4 → ⊥) → (kind ≡ 5 → ⊥) →
-    true ≡ obeys F (axiomAt v k)
-states-many F v k {kind} ek n₁ n₂ n₃ n₄ n₅ =
-    rw (← ek, ne-eqb kind 1 n₁, ne-eqb kind 2 n₂, ne-eqb kind 3 n₃, ne-eqb kind 4 n₄, ne-eqb kind 5 n₅)
-    (split (λ x. true ≡ obeys F x) (eqb kind 6) (λ _. refl) (λ _. refl))
+  -- one of another kind asks nothing
+  pub asks-nothing : (kind ≡ 1 → ⊥) → (kind ≡ 2 → ⊥) → (kind ≡ 5 → ⊥) → true ≡ isHeld F (axiomAt v k)
+  asks-nothing n₁ n₂ n₅ =
+      rw (← ek, ne-eqb kind 1 n₁, ne-eqb kind 2 n₂, ne-eqb kind 5 n₅)
+      (split (λ x. true ≡ isHeld F x) (eqb kind 3) (λ _. refl) (λ _.
+      split (λ x. true ≡ isHeld F x) (eqb kind 4) (λ _. refl) (λ _.
+      split (λ x. true ≡ isHeld F x) (eqb kind 6) (λ _. refl) (λ _. refl))))
 
--- the names of a range
-module _ {v : List ℕ} {k kind : ℕ} (x : Named v k) (ek : kind ≡ axiomKind v k) (e : kind ≡ 5) where
+-- a range
+module _ {v m w : List ℕ} {k kind : ℕ} (x : Askable v m w k) (ek : kind ≡ axiomKind v k) (e : kind ≡ 5) where
   pub range-role : {a : ℕ} → a ≡ axiomLeft v k → Name mostRoles a
-  range-role ea = rw ea (x .ranged (sym ek ∙ e))
+  range-role ea = rw ea (x .role (sym ek ∙ e))
 
   pub range-class : {b : ℕ} → b ≡ axiomRight v k → Name mostClasses b
-  range-class eb = rw eb (x .range (sym ek ∙ e))
+  range-class eb = rw eb (x .class (sym ek ∙ e))
 
-  pub range-made : {m w : List ℕ} → Prepared m w (axiomAt v k) → Ranged m w
-  range-made p = rw (← ek, e) at (p .decides)
+  pub range-made : Ranged m w
+  range-made = x .ranged (sym ek ∙ e)
 
--- ---- all that is stated
-
--- each record of an accepted vocabulary names what the tables have room for
-axiom-named : (v : List ℕ) (k : ℕ) → vocabularyRefusal v ≡ 0 → axiomFits v k ≡ true → Named v k
-axiom-named v k h f = record {
-  role = λ e. let u = simp tests at (rw e at f) in let n = accepted-counts v h in omega arith;
-  feature = λ e. let u = simp tests at (rw e at f) in let n = accepted-counts v h in omega arith;
-  ranged = λ e. let u = simp tests at (rw e at f) in let n = accepted-counts v h in omega arith;
-  range = λ e. let u = simp tests at (rw e at f) in let n = accepted-counts v h in omega arith;
-}
+-- ---- all that the records ask
 
 -- a loop that has come to record k of the vocabulary: the answer for all records is that for those that are left
 pub record Obeying (F : List Fact) (v : List ℕ) (k : ℕ) : Type 0 where
-  pub walk : Walking (axiomLinks v) (λ l. all (obeys F) (vocabularyOf v .axioms) ≡ all (obeys F) l) k
+  pub accepted : vocabularyRefusal v ≡ 0
+  pub walk : Walking (axiomLinks v) (λ l. all (isHeld F) (vocabularyOf v .axioms) ≡ all (isHeld F) l) k
 
 module _ {F : List Fact} {v : List ℕ} {k : ℕ} where
   pub obeying-starts : vocabularyRefusal v ≡ 0 → k ≡ firstAxiom v → Obeying F v k
-  obeying-starts h e = record { walk = walking-starts (axioms-along v h) e refl }
+  obeying-starts h e = record { accepted = h; walk = walking-starts (axioms-along v h) e refl }
 
   module _ (x : Obeying F v k) where
-    pub obeying-ends : k ≡ 0 → true ≡ all (obeys F) (vocabularyOf v .axioms)
+    pub obeying-ends : k ≡ 0 → true ≡ all (isHeld F) (vocabularyOf v .axioms)
     unfolding axiomLinks
     obeying-ends z = sym (walking-ends (x .walk) z)
 
     module _ (n : k ≡ 0 → ⊥) where
-      pub obeying-named : vocabularyRefusal v ≡ 0 → Named v k
+      -- the names of a range are those that the sets have room for
+      pub obeying-askable : {m w : List ℕ} → Interpreted m w → (axiomKind v k ≡ 5 → Ranged m w) → Askable v m w k
       unfolding axiomLinks
-      obeying-named h = axiom-named v k h (walking-sound (x .walk) n)
+      obeying-askable i r = record {
+        interpreted = i;
+        role = λ e. let u = simp tests at (rw e at (walking-sound (x .walk) n)) in let c = accepted-counts v (x .accepted) in omega arith;
+        class = λ e. let u = simp tests at (rw e at (walking-sound (x .walk) n)) in let c = accepted-counts v (x .accepted) in omega arith;
+        ranged = r;
+      }
 
-      pub obeying-fails : {b : Bool} → b ≡ obeys F (axiomAt v k) → not b ≡ true → false ≡ all (obeys F) (vocabularyOf v .axioms)
+      pub obeying-fails : {b : Bool} → b ≡ isHeld F (axiomAt v k) → not b ≡ true → false ≡ all (isHeld F) (vocabularyOf v .axioms)
       unfolding axiomLinks
-      obeying-fails e h = walking-found (x .walk) n (λ l a. all-fails (obeys F) (axiomAt v k) e l a h)
+      obeying-fails e h = walking-found (x .walk) n (λ l a. all-fails (isHeld F) (axiomAt v k) e l a h)
 
       module _ {j : ℕ} (z : j ≡ axiomNext v k) where
-        pub obeying-on : {b : Bool} → b ≡ obeys F (axiomAt v k) → not b ≡ false → Obeying F v j
+        pub obeying-on : {b : Bool} → b ≡ isHeld F (axiomAt v k) → not b ≡ false → Obeying F v j
         unfolding axiomLinks
-        obeying-on e h = record { walk = walking-on (x .walk) n z (λ l a. all-on (obeys F) (axiomAt v k) e l a h) }
+        obeying-on e h = record { accepted = x .accepted; walk = walking-on (x .walk) n z (λ l a. all-on (isHeld F) (axiomAt v k) e l a h) }
 
         pub obeying-falls : falling (lastOf 4 v) j < falling (lastOf 4 v) k
         unfolding axiomLinks

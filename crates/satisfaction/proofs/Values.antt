@@ -16,11 +16,12 @@ use Rattle.meaning.specs.Limits.{mostIndividuals, workSize}
 use Rattle.meaning.specs.Model.{Fact, factAt, factOther, factOwner, factsOf, individualCount}
 use Rattle.meaning.specs.Records.{Name}
 use Rattle.model.specs.Chain.{Stated}
-use Rattle.satisfaction.proofs.Facts.{number-other, owner-at, owners-named}
+use Rattle.satisfaction.proofs.Classes.{interpreted-kept}
+use Rattle.satisfaction.proofs.Facts.{number-few, number-other, owner-at, owners-named}
 use Rattle.satisfaction.proofs.Links.{Holding, clashing, first-seen, holding-ends, holding-same, repeated, skipped}
 use Rattle.satisfaction.proofs.Rows.{put-in, put-inside, put-only}
 use Rattle.satisfaction.specs.Classes.{ownerOf}
-use Rattle.satisfaction.specs.Links.{BlockComparable, BlockCompared, Comparable, Compared, Gives, InBlock, Single, clash, first}
+use Rattle.satisfaction.specs.Links.{BlockCompared, Comparable, Compared, Gives, InBlock, Single, Telling, clash, first}
 use Rattle.satisfaction.specs.Links.{firstOf, link, linkOf, none, numberOf, otherOf, outside, same}
 use Rattle.satisfaction.specs.Places.{blockSize, clashWords, clashesAt, clashesOf, putIn, seriesCount, valuePlace, valuesAt, valuesEnd}
 use Rattle.words.specs.Sets.{inSet}
@@ -43,28 +44,28 @@ pub record Comparing (m : List ℕ) (base : ℕ) (w₀ w : List ℕ) (l : List F
 
 -- ---- before the first fact
 
-pub values-fit : {m w : List ℕ} {base : ℕ} → BlockComparable m base w → valuesAt + individualCount m * blockSize ≤ length w
-values-fit p = omega (arith, p .readable .individuals)
+pub values-fit : {m w : List ℕ} {base end : ℕ} → Telling m base end w → valuesAt + individualCount m * blockSize ≤ length w
+values-fit p = omega (arith, p .interpreted .readable .individuals)
 
-module _ {m w w₁ : List ℕ} {base : ℕ} (p : BlockComparable m base w) (c : Cleared valuesAt (individualCount m * blockSize) w w₁) where
+module _ {m w w₁ : List ℕ} {base end : ℕ} (p : Telling m base end w) (new : end ≤ base) (c : Cleared valuesAt (individualCount m * blockSize) w w₁) where
   clear-kept : clashesOf w₁ ≡ clashesOf w
   clear-kept = row-before (c .only) clashWords clashesAt (omega arith)
 
   pub comparing-starts : Comparing m base w₁ w₁ (factsOf m)
   comparing-starts = record {
     only = only-none;
-    found = λ u b t. absurd (let z : true ≡ false = sym t ∙ ap (λ (s : List ℕ). inSet s u) clear-kept ∙ p .none u b in let y : _≡_ {A = ℕ} 0 1 = cc in omega arith);
+    found = λ u b t. absurd (let z : true ≡ false = sym t ∙ ap (λ (s : List ℕ). inSet s u) clear-kept ∙ p .none u (let l = b .low in omega arith) in let y : _≡_ {A = ℕ} 0 1 = cc in omega arith);
     holding = λ u b t. record {
       down = λ s. (λ i j g f. absurd (f (let k = named u i j g in c .zeros (valuePlace i (u - base - 1)) (omega arith) (omega (arith, b .low, b .high)))), s);
       up = λ g s. s;
-      named = λ i j g. let k = named u i j g in omega (arith, p .readable .individuals);
+      named = λ i j g. let k = named u i j g in omega (arith, p .interpreted .readable .individuals);
     };
     kept = λ u b. refl;
   }
     where
       named : (u i j : ℕ) → Gives (linkOf u) i j (factsOf m) → Name (individualCount m) i
       named u i j g =
-          let x = all-any (owners-named (p .readable)) g in
+          let x = all-any (owners-named (p .interpreted .readable)) g in
           let e = said (eqb u (numberOf (x .0))) i j (ownerOf (x .0)) (otherOf (x .0)) (x .2) in
           omega arith
 
@@ -72,21 +73,29 @@ module _ {m w w₁ : List ℕ} {base : ℕ} (p : BlockComparable m base w) (c : 
     pub comparing-size : {l : List Fact} → Comparing m base w₁ w₂ l → length w₂ ≡ length w
     comparing-size t = t .only .size ∙ c .only .size
 
-    pub comparable : {l : List Fact} {f u : ℕ} → Stated m f → Comparing m base w₁ w₂ l → Comparable m w₂ f base u
-    comparable s t = record {
-      owner = let i = p .readable .individuals in (omega arith, omega arith);
-      block = p .block;
+    pub comparable : {l : List Fact} {f u : ℕ} → base < seriesCount → Stated m f → u ≡ numberOf (factAt m f) → Comparing m base w₁ w₂ l → Comparable m w₂ f base u
+    comparable {f = f} b s e t = record {
+      owner = let i = p .interpreted .readable .individuals in (omega arith, omega arith);
+      within = b;
+      few = rw e (number-few (factAt m f));
       long = let e = comparing-size t in omega arith;
     }
 
     -- after the last one
-    pub comparing-ends : Comparing m base w₁ w₂ [] → BlockCompared m base w w₂
+    pub comparing-ends : Comparing m base w₁ w₂ [] → BlockCompared m base w w₂ (base + blockSize)
     comparing-ends t = record {
-      only = only-then (only-span (c .only) (omega arith) (omega (arith, p .readable .individuals))) (t .only);
-      told = λ u b. go u b (inSet (clashesOf w₂) u) refl;
-      kept = λ u b. t .kept u b ∙ ap (λ (s : List ℕ). inSet s u) clear-kept;
+      telling = record {
+        interpreted = interpreted-kept (omega arith) only (p .interpreted);
+        told = λ u l h. go u (record { low = l; high = h }) (inSet (clashesOf w₂) u) refl;
+        none = λ u l. t .kept u (λ b. let h = b .high in omega arith) ∙ ap (λ (s : List ℕ). inSet s u) clear-kept ∙ p .none u (omega arith);
+      };
+      next = omega arith;
+      only = only;
     }
       where
+        only : Only (Span clashesAt valuesEnd) w w₂
+        only = only-then (only-span (c .only) (omega arith) (omega (arith, p .interpreted .readable .individuals))) (t .only)
+
         go : (u : ℕ) → InBlock base u → (b : Bool) → inSet (clashesOf w₂) u ≡ b → T (not b) ↔ Single (linkOf u) (factsOf m)
         go u b true e = (λ x. absurd x, λ s. absurd (t .found u b e s))
         go u b false e = (λ _. holding-ends (t .holding u b e), λ _. tt)
@@ -127,12 +136,11 @@ module _ (w : List ℕ) (f : ℕ) {base u i : ℕ} (long : workSize ≤ length w
       rw e (getD-set-other w (valuePlace i (u - base - 1)) (valuePlace j (a - base - 1)) f 0 (λ q. d (omega arith, omega arith)))
 
 -- the set with u
-module _ (w : List ℕ) {base u : ℕ} (long : workSize ≤ length w) (fits : base + blockSize ≤ seriesCount) (b : InBlock base u) {w′ : List ℕ}
+module _ (w : List ℕ) {base u : ℕ} (long : workSize ≤ length w) (few : u ≤ seriesCount) (b : InBlock base u) {w′ : List ℕ}
     (e : w′ ≡ putIn clashWords w clashesAt u) where
   clash-in : (a : ℕ) → inSet (clashesOf w′) a ≡ eqb a u || inSet (clashesOf w) a
   clash-in a =
       let l = b .low in
-      let h = b .high in
       rw e (put-in clashWords w clashesAt u (omega arith) (omega arith) a)
 
   clash-first : (a j : ℕ) → firstOf w′ base a j ≡ firstOf w base a j
@@ -184,9 +192,9 @@ module _ {m w : List ℕ} {base f u : ℕ} (s : Stated m f) (eu : u ≡ numberOf
         go a c h false d = skipped h (elsewhere (factAt m f) eu a (eqb-false a u d))
     comparing-on (clash b n g e) = record {
       only = put-inside clashWords w clashesAt u (let q = c₀ .long in omega arith) (omega arith) (omega arith) e (t .only);
-      found = λ a c h. go a c (eqb a u) refl (sym (clash-in w (c₀ .long) (c₀ .block) b e a) ∙ h);
-      holding = λ a c h. on a c (eqb a u) refl (sym (clash-in w (c₀ .long) (c₀ .block) b e a) ∙ h);
-      kept = λ a c. clash-in w (c₀ .long) (c₀ .block) b e a ∙ rw (ne-eqb a u (λ d. c (rw d b))) (t .kept a c);
+      found = λ a c h. go a c (eqb a u) refl (sym (clash-in w (c₀ .long) (c₀ .few) b e a) ∙ h);
+      holding = λ a c h. on a c (eqb a u) refl (sym (clash-in w (c₀ .long) (c₀ .few) b e a) ∙ h);
+      kept = λ a c. clash-in w (c₀ .long) (c₀ .few) b e a ∙ rw (ne-eqb a u (λ d. c (rw d b))) (t .kept a c);
     }
       where
         found-here : (q : Bool) → inSet (clashesOf w) u ≡ q → Single (linkOf u) (factsOf m) → ⊥
@@ -200,7 +208,11 @@ module _ {m w : List ℕ} {base f u : ℕ} (s : Stated m f) (eu : u ≡ numberOf
         on : (a : ℕ) → InBlock base a → (q : Bool) → eqb a u ≡ q → q || inSet (clashesOf w) a ≡ false → Holding (linkOf a) (factsOf m) (firstOf w′ base a) (gaveOf m w′ base a) l
         on a c true d h = absurd (let y : _≡_ {A = ℕ} 0 1 = cc in omega arith)
         on a c false d h =
-            skipped (holding-same (λ o k. clash-first w (c₀ .long) (c₀ .block) b e a o) (λ o k. ap (factOther m) (clash-first w (c₀ .long) (c₀ .block) b e a o)) (t .holding a c h)) (elsewhere (factAt m f) eu a (eqb-false a u d))
+            skipped (holding-same (λ o k. clash-first w (c₀ .long) (c₀ .few) b e a o) (λ o k. ap (factOther m) (clash-first w (c₀ .long) (c₀ .few) b e a o)) (t .holding a c h)) (elsewhere (factAt m f) eu a (eqb-false a u d))
+
+-- the next number was compared before
+pub comparing-none : {m w : List ℕ} {base end : ℕ} → Telling m base end w → base < end → BlockCompared m base w w end
+comparing-none p h = record { telling = p; next = h; only = only-none }
 
 -- ---- what is found of record f
 

@@ -2,7 +2,5 @@
 pub mod Places
 pub mod Classes
 pub mod Ranges
-pub mod Axioms
 pub mod Links
-pub mod Tables
 pub mod Holding

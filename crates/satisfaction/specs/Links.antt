@@ -11,8 +11,7 @@ use Rattle.meaning.specs.Limits.{mostFeatures, mostIndividuals, mostRoles, work
 use Rattle.meaning.specs.Lists.{Any}
 use Rattle.meaning.specs.Model.{Fact, edge, factOther, factOwner, factsOf, member, value}
 use Rattle.meaning.specs.Records.{Name, isName}
-use Rattle.model.specs.Chain.{Readable}
-use Rattle.satisfaction.specs.Classes.{ownerOf}
+use Rattle.satisfaction.specs.Classes.{Interpreted, ownerOf}
 use Rattle.satisfaction.specs.Places.{blockSize, clashWords, clashesAt, clashesOf, putIn, seriesCount, valuePlace, valuesEnd}
 use Rattle.words.specs.Sets.{inSet}
 
@@ -68,22 +67,22 @@ pub data Compared (m : List ℕ) (base : ℕ) (w w′ : List ℕ) (f u : ℕ) : 
 -- what the comparison of a record takes: its number, within the series, and a full work slice
 pub record Comparable (m w : List ℕ) (f base u : ℕ) : Type 0 where
   pub owner : Name mostIndividuals (factOwner m f)
-  pub block : base + blockSize ≤ seriesCount
+  pub within : base < seriesCount
+  pub few : u ≤ seriesCount
   pub long : workSize ≤ length w
-
--- what the comparison of a block takes: a model that was read, a full work slice, and no number of the block in the set
-pub record BlockComparable (m : List ℕ) (base : ℕ) (w : List ℕ) : Type 0 where
-  pub readable : Readable m
-  pub block : base + blockSize ≤ seriesCount
-  pub long : workSize ≤ length w
-  pub none : (u : ℕ) → InBlock base u → inSet (clashesOf w) u ≡ false
 
 -- a number is in the set if and only if an individual has two values of it
 abbrev pub Tells : List ℕ → List ℕ → ℕ → Type 0
 Tells m w u = T (not (inSet (clashesOf w) u)) ↔ Single (linkOf u) (factsOf m)
 
--- the set tells of the numbers of the block, and nothing changed but these and the block's table
-pub record BlockCompared (m : List ℕ) (base : ℕ) (w w′ : List ℕ) : Type 0 where
+-- the set tells of the numbers behind base and up to end, and has none behind end
+pub record Telling (m : List ℕ) (base end : ℕ) (w : List ℕ) : Type 0 where
+  pub interpreted : Interpreted m w
+  pub told : (u : ℕ) → base < u → u ≤ end → Tells m w u
+  pub none : (u : ℕ) → end < u → inSet (clashesOf w) u ≡ false
+
+-- it tells of the next number, and nothing changed but the set and the block's table
+pub record BlockCompared (m : List ℕ) (base : ℕ) (w w′ : List ℕ) (end : ℕ) : Type 0 where
+  pub telling : Telling m base end w′
+  pub next : base < end
   pub only : Only (Span clashesAt valuesEnd) w w′
-  pub told : (u : ℕ) → InBlock base u → Tells m w′ u
-  pub kept : (u : ℕ) → (InBlock base u → ⊥) → inSet (clashesOf w′) u ≡ inSet (clashesOf w) u

@@ -1,6 +1,6 @@
 -- The classes that the targets of a role's edges have in common.
 use Prim.Native.Nat.{_+_, _-_, _<_, _^_, _≤_, ℕ}
-use mathlib.Core.Bool.{_&&_}
+use mathlib.Core.Bool.{Bool, _&&_, true}
 use mathlib.Core.List.{List}
 use mathlib.Core.Path.{_≡_}
 use lib.Bits.{bitAnd}
@@ -11,7 +11,7 @@ use Rattle.meaning.specs.Model.{Fact, factsOf}
 use Rattle.meaning.specs.ModelCheck.{obeys}
 use Rattle.meaning.specs.Records.{Name}
 use Rattle.meaning.specs.Vocabulary.{range}
-use Rattle.satisfaction.specs.Classes.{isRanged}
+use Rattle.satisfaction.specs.Classes.{Interpreted, isRanged}
 use Rattle.satisfaction.specs.Places.{rangesAt, rangesEnd, rangesOf}
 use Rattle.words.specs.Rows.{classWords}
 use Rattle.words.specs.Sets.{inSet}
@@ -37,7 +37,13 @@ pub record Narrowed (m w w′ : List ℕ) (x : Fact) : Type 0 where
 pub record Ranged (m w : List ℕ) : Type 0 where
   pub rows : (r c : ℕ) → Name mostRoles r → Name mostClasses c → inSet (rangesOf w r) c ≡ obeys (factsOf m) (range r c)
 
--- and nothing else changed
-pub record AllNarrowed (m w w′ : List ℕ) : Type 0 where
-  pub ranged : Ranged m w′
+-- the sets are right, if they are made
+pub record RangedIf (made : Bool) (m w : List ℕ) : Type 0 where
+  pub interpreted : Interpreted m w
+  pub ranged : made ≡ true → Ranged m w
+
+-- they are made if a record of this kind asks for them, and nothing else changed
+pub record RangesMade (kind : ℕ) (m w w′ : List ℕ) (made : Bool) : Type 0 where
+  pub state : RangedIf made m w′
+  pub asked : kind ≡ 5 → made ≡ true
   pub only : Only (Span rangesAt rangesEnd) w w′

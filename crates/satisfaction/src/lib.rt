@@ -13,9 +13,9 @@
 //     the end of these, of 16,384                                                   13,317                 14,469
 //
 // The records of first values are needed no more when the sets of a policy's records are put in their place. The facts are walked over once
-// for the classes; once for the ranges, when a record of the vocabulary first states one; and once for each block of 16 roles or features
-// that has a functional one, when a record first states it or, after all records, as it is so by default: at most ten times, whatever the
-// number of records. What is stated is then one bit or, for a pair of classes, a look at each individual.
+// for the classes; once for the ranges, when a record of the vocabulary first states one; and, after all records, once for each block of 16
+// roles and features in one series, which begins with the first functional one that the block before did not reach: at most ten times,
+// whatever the number of records. What is stated is then one bit or, for a pair of classes, a look at each individual.
 use frames::clear;
 use functional::Functional;
 use meaning::ClassNo;
@@ -49,23 +49,20 @@ ghost use Prim.Native.Nat.{_*_, _+_, _<_, _≤_, ℕ};
 ghost use lib.ListN.{length};
 ghost use Rattle.frames.specs.Frames.{Cleared};
 ghost use Rattle.functional.specs.FunctionalNames.{FunctionalNames};
-ghost use Rattle.meaning.specs.Limits.{mostFeatures, mostIndividuals, mostRoles, workSize};
+ghost use Rattle.meaning.specs.Limits.{mostIndividuals, mostRoles, workSize};
 ghost use Rattle.meaning.specs.Lists.{all, counting};
 ghost use Rattle.meaning.specs.Model.{factAt, factsOf, individualCount};
-ghost use Rattle.meaning.specs.ModelCheck.{obeys};
 ghost use Rattle.meaning.specs.Records.{Name};
 ghost use Rattle.meaning.specs.Vocabulary.{axiomAt, vocabularyOf, vocabularyRefusal};
 ghost use Rattle.model.specs.Chain.{Readable, Stated};
-ghost use Rattle.satisfaction.specs.Axioms.{Named};
 ghost use Rattle.satisfaction.specs.Classes.{AllEntered, Interpreted, Satisfied, entered, follows};
-ghost use Rattle.satisfaction.specs.Holding.{NumbersHeld, RecordsHeld, isFunctionalNumber};
-ghost use Rattle.satisfaction.specs.Links.{BlockComparable, BlockCompared, Comparable, Compared, numberOf};
+ghost use Rattle.satisfaction.specs.Holding.{Askable, NumbersHeld, RecordsHeld, isFunctionalNumber, isHeld};
+ghost use Rattle.satisfaction.specs.Links.{BlockCompared, Comparable, Compared, Telling, numberOf};
 ghost use Rattle.satisfaction.specs.Places.{blockSize, classPlace, classesOf, clashesOf, putIn, rangePlace, rangeWords};
-ghost use Rattle.satisfaction.specs.Places.{rangesOf, valuePlace};
-ghost use Rattle.satisfaction.specs.Ranges.{AllNarrowed, Intersected, Narrowed, Opened};
-ghost use Rattle.satisfaction.specs.Tables.{Made, MadeAlso, Prepared, blockOf, classTable, tableOf};
+ghost use Rattle.satisfaction.specs.Places.{rangesOf, seriesCount, valuePlace};
+ghost use Rattle.satisfaction.specs.Ranges.{Intersected, Narrowed, Opened, RangedIf, RangesMade};
 ghost use Rattle.words.specs.Rows.{classWords};
-ghost use Rattle.words.specs.Sets.{inSet, testBit};
+ghost use Rattle.words.specs.Sets.{inSet};
 
 const INDIVIDUALS: usize = MOST_INDIVIDUALS as usize;
 
@@ -88,11 +85,6 @@ const BLOCK_SIZE: u32 = 16;
 const BLOCK: usize = BLOCK_SIZE as usize;
 
 const VALUES: usize = CLASHES + CLASH_WORDS;
-
-// The tables that statements are held to, a bit each in a word: the blocks, the ranges, and the classes, which are always there.
-const RANGE_TABLE: u32 = SERIES / BLOCK_SIZE;
-
-const CLASS_TABLE: u32 = RANGE_TABLE + 1;
 
 // The sets of a policy's records, which crate extension makes where the values stood: how many words each takes, and what follows them.
 pub const SETS: usize = VALUES;
@@ -228,17 +220,24 @@ fn narrow(m: &[u32], work: &mut [u32], f: u32)
     intersect(work, range_place(RoleNo(r)), class_place(target));
 }
 
-// The sets of all roles, by one walk over the records.
-fn narrow_all(m: &[u32], work: &mut [u32])
-    requires { ⌜ Interpreted (now m) (now work) ⌝ }
-    ensures { λ _. ⌜ AllNarrowed (now (m .entry)) (now (work .entry)) (now (work .exit)) ⌝ }
+// Makes the sets of all roles, by one walk over the records, for the first record of kind 5; the answer is whether they are made.
+fn make_ranges(m: &[u32], work: &mut [u32], made: bool, kind: u32) -> bool
+    requires { ⌜ RangedIf made (now m) (now work) ⌝ }
+    ensures { λ r. ⌜ RangesMade kind (now (m .entry)) (now (work .entry)) (now (work .exit)) r ⌝ }
 {
+    if made {
+        return true;
+    }
+    if kind != 5 {
+        return false;
+    }
     open_ranges(work);
     let mut f = first_fact(m);
     while f != 0 {
         narrow(m, work, f);
         f = fact_next(m, f);
     }
+    true
 }
 
 // Whether every edge of role r leads into class c.
@@ -301,17 +300,22 @@ fn compare(m: &[u32], work: &mut [u32], f: u32, base: u32, u: u32)
     }
 }
 
-// The numbers of a block with which an individual has two values, by one walk over the records.
-fn compare_block(m: &[u32], work: &mut [u32], base: u32)
-    requires { ⌜ BlockComparable (now m) base (now work) ⌝ }
-    ensures { λ _. ⌜ BlockCompared (now (m .entry)) base (now (work .entry)) (now (work .exit)) ⌝ }
+// Finds the numbers of the block behind `base` with which an individual has two values, by one walk over the records. Where the next number
+// is not behind `end`, up to which they are known, there is nothing to do; the answer is the new end.
+fn compare_block(m: &[u32], work: &mut [u32], base: u32, end: u32) -> u32
+    requires { ⌜ Telling (now m) base end (now work) × (base < seriesCount) ⌝ }
+    ensures { λ r. ⌜ BlockCompared (now (m .entry)) base (now (work .entry)) (now (work .exit)) r ⌝ }
 {
+    if base < end {
+        return end;
+    }
     clear_rows(m, work, VALUES, BLOCK);
     let mut f = first_fact(m);
     while f != 0 {
         compare(m, work, f, base, series_number(m, f));
         f = fact_next(m, f);
     }
+    base + BLOCK_SIZE
 }
 
 // Whether no individual has two values of number u of the series.
@@ -323,78 +327,11 @@ fn is_functional(work: &[u32], u: u32) -> bool
     !has(&work[CLASHES..end], u)
 }
 
-// Whether no individual reaches two by role r.
-fn is_functional_role(work: &[u32], r: RoleNo) -> bool
-    requires { ⌜ workSize ≤ length (now work) ⌝ }
-    ensures { λ t. ⌜ t ≡ not (inSet (clashesOf (now (work .entry))) (r .0)) ⌝ }
-{
-    is_functional(work, r.0)
-}
-
-// Whether no individual has two values of feature f.
-fn is_functional_feature(work: &[u32], f: FeatureNo) -> bool
-    requires { ⌜ Name mostFeatures (f .0) × (workSize ≤ length (now work)) ⌝ }
-    ensures { λ t. ⌜ t ≡ not (inSet (clashesOf (now (work .entry))) (mostRoles + f .0)) ⌝ }
-{
-    is_functional(work, MOST_ROLES + f.0)
-}
-
-// The block of number u of the series.
-fn block_of(u: u32) -> u32
-    requires { ⌜ 0 < u ⌝ }
-    ensures { λ r. ⌜ r ≡ blockOf u ⌝ }
-{
-    (u - 1) / BLOCK_SIZE
-}
-
-// The table that record k of the vocabulary is held to. Kinds 6 and 7 ask nothing, so any table will do: the one that is always there.
-fn table_of(v: &[u32], k: u32) -> u32
-    requires { ⌜ Named (now v) k ⌝ }
-    ensures { λ r. ⌜ r ≡ tableOf (axiomAt (now (v .entry)) k) ⌝ }
-{
-    let kind = axiom_kind(v, k);
-    let a = axiom_left(v, k);
-    match kind {
-        1 => CLASS_TABLE,
-        2 => CLASS_TABLE,
-        3 => block_of(a),
-        4 => block_of(MOST_ROLES + a),
-        5 => RANGE_TABLE,
-        _ => CLASS_TABLE,
-    }
-}
-
-// Whether table t is in a set of tables.
-fn is_made(tables: u32, t: u32) -> bool
-    requires { ⌜ t < 32 ⌝ }
-    ensures { λ r. ⌜ r ≡ testBit tables t ⌝ }
-{
-    tables >> t & 1 == 1
-}
-
-// Makes table t, unless it is there; the answer is the set of the tables that are made then.
-fn make_table(m: &[u32], work: &mut [u32], tables: u32, t: u32) -> u32
-    requires { ⌜ Made (now m) tables (now work) × (t ≤ classTable) ⌝ }
-    ensures { λ r. ⌜ MadeAlso (now (m .entry)) t (now (work .entry)) (now (work .exit)) r ⌝ }
-{
-    if is_made(tables, t) {
-        return tables;
-    }
-    if t < RANGE_TABLE {
-        compare_block(m, work, t * BLOCK_SIZE);
-        return tables | 1 << t;
-    }
-    if t == RANGE_TABLE {
-        narrow_all(m, work);
-        return tables | 1 << t;
-    }
-    tables | 1 << t
-}
-
-// Whether what record k of the vocabulary states is so.
-fn is_obeyed(v: &[u32], m: &[u32], work: &[u32], k: u32) -> bool
-    requires { ⌜ Named (now v) k × Prepared (now m) (now work) (axiomAt (now v) k) ⌝ }
-    ensures { λ r. ⌜ r ≡ obeys (factsOf (now (m .entry))) (axiomAt (now (v .entry)) k) ⌝ }
+// Whether what record k of the vocabulary asks of the model is so. What kinds 3 and 4 say is so by default, and is asked of all functional
+// names together.
+fn is_held(v: &[u32], m: &[u32], work: &[u32], k: u32) -> bool
+    requires { ⌜ Askable (now v) (now m) (now work) k ⌝ }
+    ensures { λ r. ⌜ r ≡ isHeld (factsOf (now (m .entry))) (axiomAt (now (v .entry)) k) ⌝ }
 {
     let kind = axiom_kind(v, k);
     let a = axiom_left(v, k);
@@ -402,40 +339,26 @@ fn is_obeyed(v: &[u32], m: &[u32], work: &[u32], k: u32) -> bool
     match kind {
         1 => do_follow(work, individual_count(m), ClassNo(a), ClassNo(b), false),
         2 => do_follow(work, individual_count(m), ClassNo(a), ClassNo(b), true),
-        3 => is_functional_role(work, RoleNo(a)),
-        4 => is_functional_feature(work, FeatureNo(a)),
         5 => is_range(work, RoleNo(a), ClassNo(b)),
         _ => true,
     }
 }
 
-// Whether all records are obeyed, and the tables that are made by then.
-struct Held {
-    obeyed: bool,
-    tables: u32,
-}
-
-// Holds each record of the vocabulary to its table, which is made for the first record that is held to it.
-fn hold_records(v: &[u32], m: &[u32], work: &mut [u32]) -> Held
-    requires { ⌜ (vocabularyRefusal (now v) ≡ 0) × Made (now m) 0 (now work) ⌝ }
-    ensures { λ h. ⌜ RecordsHeld (now (v .entry)) (now (m .entry)) (now (work .entry)) (now (work .exit)) h ⌝ }
+// Whether what all records ask is so.
+fn hold_records(v: &[u32], m: &[u32], work: &mut [u32]) -> bool
+    requires { ⌜ (vocabularyRefusal (now v) ≡ 0) × Interpreted (now m) (now work) ⌝ }
+    ensures { λ r. ⌜ RecordsHeld (now (v .entry)) (now (m .entry)) (now (work .entry)) (now (work .exit)) r ⌝ }
 {
-    let mut tables = 0;
+    let mut ranged = false;
     let mut k = first_axiom(v);
     while k != 0 {
-        tables = make_table(m, work, tables, table_of(v, k));
-        if !is_obeyed(v, m, work, k) {
-            return Held {
-                obeyed: false,
-                tables,
-            };
+        ranged = make_ranges(m, work, ranged, axiom_kind(v, k));
+        if !is_held(v, m, work, k) {
+            return false;
         }
         k = axiom_next(v, k);
     }
-    Held {
-        obeyed: true,
-        tables,
-    }
+    true
 }
 
 // Whether number u of the series is that of a functional role or feature.
@@ -448,37 +371,25 @@ fn has_number(f: Functional, u: u32) -> bool
     f.has_feature(FeatureNo(u - MOST_ROLES))
 }
 
-// Whether no individual has two values of a role or feature that is functional, by a record or by default. No table is made twice.
-fn are_single(v: &[u32], m: &[u32], work: &mut [u32], tables: u32) -> bool
-    requires { ⌜ (vocabularyRefusal (now v) ≡ 0) × Made (now m) tables (now work) ⌝ }
+// Whether no individual has two values of a functional role or feature. The numbers rise, so one end tells which are known.
+fn are_single(v: &[u32], m: &[u32], work: &mut [u32]) -> bool
+    requires { ⌜ (vocabularyRefusal (now v) ≡ 0) × Interpreted (now m) (now work) ⌝ }
     ensures { λ r. ⌜ NumbersHeld (now (v .entry)) (now (m .entry)) (now (work .entry)) (now (work .exit)) r ⌝ }
 {
+    clear(work, CLASHES, CLASH_WORDS);
     let f = Functional::of(v);
-    let mut made = tables;
+    let mut end = 0;
     for i in 0..SERIES {
         let u = i + 1;
         if !has_number(f, u) {
             continue;
         }
-        made = make_table(m, work, made, block_of(u));
+        end = compare_block(m, work, i, end);
         if !is_functional(work, u) {
             return false;
         }
     }
     true
-}
-
-// Whether all that the vocabulary states is so, by its records and then by default.
-fn are_obeyed(v: &[u32], m: &[u32], work: &mut [u32]) -> bool
-    requires { ⌜ (vocabularyRefusal (now v) ≡ 0) × Interpreted (now m) (now work) ⌝ }
-    ensures { λ r. ⌜ Satisfied (now (v .entry)) (now (m .entry)) (now (work .entry)) (now (work .exit)) r ⌝ }
-{
-    clear(work, CLASHES, CLASH_WORDS);
-    let held = hold_records(v, m, work);
-    if !held.obeyed {
-        return false;
-    }
-    are_single(v, m, work, held.tables)
 }
 
 // Whether the model satisfies the vocabulary. The sets of classes are left for whoever asks of the same model.
@@ -487,5 +398,8 @@ pub fn is_satisfied(v: &[u32], m: &[u32], work: &mut [u32]) -> bool
     ensures { λ r. ⌜ Satisfied (now (v .entry)) (now (m .entry)) (now (work .entry)) (now (work .exit)) r ⌝ }
 {
     enter_all(m, work);
-    are_obeyed(v, m, work)
+    if !hold_records(v, m, work) {
+        return false;
+    }
+    are_single(v, m, work)
 }

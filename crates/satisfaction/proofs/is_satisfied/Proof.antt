@@ -1,6 +1,6 @@
 use borrow.Author.Needs.{needs}
 use Rattle.satisfaction.proofs.Classes.{entered-all}
-use Rattle.satisfaction.proofs.Holding.{satisfied}
+use Rattle.satisfaction.proofs.Holding.{all-held, records-fail}
 use Rattle.satisfaction.proofs.is_satisfied.Statement.{statement}
 use Rattle.satisfaction.proofs.is_satisfied.Tie as tie
 
@@ -11,4 +11,7 @@ is-satisfied-spec =
     (λ c κs. search needs)
     (λ c κs. (search needs, search entered-all))
     (λ c. search needs)
-    (λ c. search satisfied))
+    (λ c. search records-fail)
+    (λ c κs. search needs)
+    (λ c. search needs)
+    (λ c. search all-held))
