@@ -4,6 +4,7 @@ mod Accepted
 mod Adding
 mod Lists
 mod Looking
+mod Noting
 mod Others
 mod Output
 mod Passes

@@ -1,24 +1,23 @@
--- The passes that look names up: whether all are known, and the records.
+-- The passes that look names up: whether all are known, with who is functional, and the records.
 use Prim.Native.Nat.{_*_, _+_, _<_, _≤_, ℕ}
-use mathlib.Core.Bool.{Bool, _&&_, cond, false, not, true}
-use mathlib.Core.List.{List, [], _++_, _∷_, append-nil}
+use mathlib.Core.Bool.{Bool, _&&_, false, not, true}
+use mathlib.Core.List.{List, [], _∷_}
 use mathlib.Core.Path.{_∙_, _≡_, ap, refl, sym}
-use lib.Dec.{eqb}
 use lib.ListN.{length}
 use native.Mathlib.Omega.{arith}
-use borrow.Author.Tests.{eq-eqb, ne-eqb, not-false, not-true}
-use Rattle.declarations.proofs.Passing.{by-axiom, by-declaration, by-statement, parses-end, parses-more, parses-on, parses-some}
+use borrow.Author.Tests.{not-false, not-true}
+use Rattle.declarations.proofs.Passing.{by-axiom, by-declaration, parses-end, parses-more, parses-on, parses-some}
 use Rattle.declarations.specs.Names.{isKnown}
 use Rattle.declarations.specs.Passes.{Parses, listOf, statementsAt}
 use Rattle.declarations.specs.declared.Counts.{Counts}
 use Rattle.frames.specs.Rows.{putAt}
 use Rattle.theory.proofs.VocabularyWords.{axiom-length}
 use Rattle.meaning.specs.Lists.{all, flatMap}
-use Rattle.meaning.specs.Vocabulary.{Axiom, axiomWords, nameBy, namesBy}
+use Rattle.meaning.specs.Vocabulary.{Axiom, axiomWords, namesBy}
 use Rattle.owl.specs.Owl.{axiomsBy, axiomsIn}
-use Rattle.owl.specs.Passes.{Begins, Here, Ready, axioms, firstNumber, secondNumber, statementsOf}
-use Rattle.theory.proofs.Rules.{flatMap-append}
+use Rattle.owl.specs.Passes.{Begins, Here, Noted, Ready, axioms, firstNumber, secondNumber, statementsOf}
 use Rattle.owl.proofs.Looking.{firstOf, secondOf}
+use Rattle.owl.proofs.Noting.{included, not-met}
 use Rattle.records.proofs.Writing.{Left, left-end, left-start, turn-more, turn-room}
 use Rattle.records.specs.Written.{Room, RoomFor, Written, linkAt}
 use Rattle.statements.specs.Forms.{Statement, ontology, parsed}
@@ -27,7 +26,7 @@ use Rattle.statements.specs.declared.Item.{Item}
 use Rattle.tokens.specs.Places.{part}
 use Rattle.tokens.specs.Tokens.{Token, tokens}
 use Rattle.words.proofs.Others.{length-includingAll}
-use Rattle.words.specs.Sets.{including, includingAll}
+use Rattle.words.specs.Sets.{includingAll}
 
 -- ---- the statements from the start on are all
 
@@ -43,29 +42,80 @@ pub next-here : {text : List ℕ} {at : ℕ} {r : Item} → Next text at r → P
 next-here n p k =
     record { some = parses-some n p; few = omega (arith, n .placed .few); first = n .placed .first; second = n .placed .second }
 
--- ---- whether all are known
+abbrev axiomsFrom : List ℕ → ℕ → List Axiom
+axiomsFrom text at = flatMap (axiomsBy (statementsOf text)) (statementsAt text at)
 
-pub record Knowing (text : List ℕ) (at : ℕ) : Type 0 where
+all-from : {text table : List ℕ} {c : Counts} {start : ℕ} → Ready text table c → Begins text start → axiomsFrom text start ≡ axiomsIn (statementsOf text)
+unfolding axiomsIn
+all-from {text} w b = ap (flatMap (axiomsBy (statementsOf text))) (all-begin b (w .parses))
+
+-- ---- whether all are known, and who is functional
+
+-- with the names of a kind that are left, a set has all
+pub record Gathering (text : List ℕ) (at kind : ℕ) (entry names : List ℕ) : Type 0 where
+  pub same : includingAll names (namesBy kind (axiomsFrom text at)) ≡ includingAll entry (namesBy kind (axiomsIn (statementsOf text)))
+
+pub gathering-long : {text : List ℕ} {at kind : ℕ} {entry names : List ℕ} → Gathering text at kind entry names → length names ≡ length entry
+gathering-long {text} {kind = kind} {entry} {names} g =
+    sym (length-includingAll _ names) ∙ ap length (g .same) ∙ length-includingAll (namesBy kind (axiomsIn (statementsOf text))) entry
+
+pub record Knowing (text : List ℕ) (at : ℕ) (roles₀ roles features₀ features : List ℕ) : Type 0 where
   pub parses : Parses text at
   pub same : all (isKnown (statementsOf text)) (statementsAt text at) ≡ all (isKnown (statementsOf text)) (statementsOf text)
+  pub threes : Gathering text at 3 roles₀ roles
+  pub fours : Gathering text at 4 features₀ features
 
-pub knowing-starts : {text table : List ℕ} {c : Counts} {start : ℕ} → Ready text table c → Begins text start → Knowing text start
-knowing-starts {text} w b =
-    record { parses = begins-parses b (w .parses); same = ap (all (isKnown (statementsOf text))) (all-begin b (w .parses)) }
+module _ {text table : List ℕ} {c : Counts} {start : ℕ} (w : Ready text table c) (b : Begins text start) where
+  gathering-starts : (kind : ℕ) (names : List ℕ) → Gathering text start kind names names
+  gathering-starts kind names = record { same = ap (λ (l : List Axiom). includingAll names (namesBy kind l)) (all-from w b) }
 
-module _ {text : List ℕ} {at : ℕ} (w : Knowing text at) {r : Item} (n : Next text at r) where
-  pub knowing-ends : r .kind ≡ 9 → true ≡ all (isKnown (statementsOf text)) (statementsOf text)
-  knowing-ends h = ap (all (isKnown (statementsOf text))) (sym (parses-end n (w .parses) h)) ∙ w .same
+  pub knowing-starts : (roles features : List ℕ) → Knowing text start roles roles features features
+  knowing-starts roles features =
+      record {
+        parses = begins-parses b (w .parses);
+        same = ap (all (isKnown (statementsOf text))) (all-begin b (w .parses));
+        threes = gathering-starts 3 roles;
+        fours = gathering-starts 4 features;
+      }
+
+module _ {text : List ℕ} {at : ℕ} {roles₀ roles features₀ features : List ℕ} (w : Knowing text at roles₀ roles features₀ features) {r : Item} (n : Next text at r) where
+  module _ (h : r .kind ≡ 9) where
+    gathering-ends : {kind : ℕ} {entry names : List ℕ} → Gathering text at kind entry names → names ≡ includingAll entry (namesBy kind (axiomsIn (statementsOf text)))
+    unfolding includingAll namesBy
+    gathering-ends {kind} {names = names} g =
+        sym (ap (λ (l : List Statement). includingAll names (namesBy kind (flatMap (axiomsBy (statementsOf text)) l))) (parses-end n (w .parses) h)) ∙ g .same
+
+    pub knowing-ends : (true ≡ all (isKnown (statementsOf text)) (statementsOf text)) × (true ≡ true → Noted (axiomsIn (statementsOf text)) roles₀ roles features₀ features)
+    knowing-ends =
+        (ap (all (isKnown (statementsOf text))) (sym (parses-end n (w .parses) h)) ∙ w .same, λ _. record { sameRoles = gathering-ends (w .threes); sameFeatures = gathering-ends (w .fours) })
 
   module _ (k : r .kind ≡ 9 → ⊥) {x : Bool} (e : x ≡ isKnown (statementsOf text) (itemAt text r)) where
     cut : x && all (isKnown (statementsOf text)) (statementsAt text (r .next)) ≡ all (isKnown (statementsOf text)) (statementsOf text)
     cut = rw e (ap (all (isKnown (statementsOf text))) (sym (parses-more n (w .parses) k)) ∙ w .same)
 
-    pub knowing-stops : not x ≡ true → false ≡ all (isKnown (statementsOf text)) (statementsOf text)
-    knowing-stops h = rw (not-true x h) at cut
+    pub knowing-stops : not x ≡ true → {A : Type 0} → (false ≡ all (isKnown (statementsOf text)) (statementsOf text)) × (false ≡ true → A)
+    knowing-stops h = not-met (rw (not-true x h) at cut)
 
-    pub knowing-on : not x ≡ false → Knowing text (r .next)
-    knowing-on h = record { parses = parses-on n (w .parses) k; same = rw (not-false x h) at cut }
+    gathering-on : {kind : ℕ} {entry names names′ : List ℕ} → Gathering text at kind entry names →
+        names′ ≡ includingAll names (namesBy kind (axiomsBy (statementsOf text) (itemAt text r))) → Gathering text (r .next) kind entry names′
+    gathering-on {kind} {names = names} g q =
+        record {
+          same =
+              included names kind (axiomsBy (statementsOf text) (itemAt text r)) (axiomsFrom text (r .next)) q
+              ∙ sym (ap (λ (l : List Statement). includingAll names (namesBy kind (flatMap (axiomsBy (statementsOf text)) l))) (parses-more n (w .parses) k))
+              ∙ g .same;
+        }
+
+    pub knowing-on : not x ≡ false → {roles′ features′ : List ℕ} → (x ≡ true → Noted (axiomsBy (statementsOf text) (itemAt text r)) roles roles′ features features′) →
+        Knowing text (r .next) roles₀ roles′ features₀ features′
+    knowing-on h m =
+        let new = m (not-false x h) in
+        record {
+          parses = parses-on n (w .parses) k;
+          same = rw (not-false x h) at cut;
+          threes = gathering-on (w .threes) (new .sameRoles);
+          fours = gathering-on (w .fours) (new .sameFeatures);
+        }
 
 -- ---- the records
 
@@ -88,13 +138,6 @@ module _ (l : List Statement) (a b : Token) where
   -- a declaration is none
   adds-none : (k : ℕ) → 6 ≤ k → (k ≡ 9 → ⊥) → k ≤ 9 → axiomsBy l (statementOf k a b) ≡ []
   adds-none = by-declaration (λ (k : ℕ). axiomsBy l (statementOf k a b) ≡ []) refl refl refl
-
-abbrev axiomsFrom : List ℕ → ℕ → List Axiom
-axiomsFrom text at = flatMap (axiomsBy (statementsOf text)) (statementsAt text at)
-
-all-from : {text table : List ℕ} {c : Counts} {start : ℕ} → Ready text table c → Begins text start → axiomsFrom text start ≡ axiomsIn (statementsOf text)
-unfolding axiomsIn
-all-from {text} w b = ap (flatMap (axiomsBy (statementsOf text))) (all-begin b (w .parses))
 
 -- at a place, and at record k, the axioms behind it are left
 pub record Writing (text : List ℕ) (last : ℕ) (entry out : List ℕ) (at k : ℕ) : Type 0 where
@@ -140,51 +183,3 @@ module _ {text : List ℕ} {last : ℕ} {entry out : List ℕ} {at k : ℕ} (w :
             parses = parses-on n (w .parses) g;
             left = turn-more (w .left) room (new .one) (axiomsFrom text (r .next)) first-left axiom-length out′ (e ∙ ap (putAt out (4 * k)) (sym words));
           }
-
--- ---- the names of the axioms of a kind
-
--- an item of that kind has one, its first; no other has any
-names-of : (l : List Statement) (a b : Token) (kind : ℕ) → kind < 6 → (k : ℕ) → (k ≡ 0 → ⊥) → (k ≡ 9 → ⊥) → k ≤ 9 →
-    flatMap (nameBy kind) (axiomsBy l (statementOf k a b)) ≡ cond (eqb k kind) (firstOf l a b k ∷ []) []
-names-of l a b kind h =
-    by-statement (λ (k : ℕ). flatMap (nameBy kind) (axiomsBy l (statementOf k a b)) ≡ cond (eqb k kind) (firstOf l a b k ∷ []) [])
-    (append-nil _) (append-nil _) (append-nil _) (append-nil _) (append-nil _)
-    (rw (ne-eqb 6 kind (λ p. omega arith))) (rw (ne-eqb 7 kind (λ p. omega arith))) (rw (ne-eqb 8 kind (λ p. omega arith)))
-
-pub record Inserting (text : List ℕ) (kind : ℕ) (entry names : List ℕ) (at : ℕ) : Type 0 where
-  pub parses : Parses text at
-  pub same : includingAll names (flatMap (nameBy kind) (axiomsFrom text at)) ≡ includingAll entry (namesBy kind (axiomsIn (statementsOf text)))
-
-pub insert-starts : {text table : List ℕ} {c : Counts} {start : ℕ} → Ready text table c → Begins text start → (kind : ℕ) (names : List ℕ) →
-    Inserting text kind names names start
-unfolding namesBy
-insert-starts w b kind names =
-    record { parses = begins-parses b (w .parses); same = ap (λ (l : List Axiom). includingAll names (flatMap (nameBy kind) l)) (all-from w b) }
-
-module _ {text : List ℕ} {kind : ℕ} {entry names : List ℕ} {at : ℕ} (w : Inserting text kind entry names at) where
-  pub insert-long : length names ≡ length entry
-  insert-long = sym (length-includingAll _ names) ∙ ap length (w .same) ∙ length-includingAll (namesBy kind (axiomsIn (statementsOf text))) entry
-
-module _ {text : List ℕ} {kind : ℕ} {entry names : List ℕ} {at : ℕ} (w : Inserting text kind entry names at) {r : Item} (n : Next text at r) where
-  pub insert-ends : r .kind ≡ 9 → names ≡ includingAll entry (namesBy kind (axiomsIn (statementsOf text)))
-  unfolding includingAll
-  insert-ends h = sym (ap (λ (l : List Statement). includingAll names (flatMap (nameBy kind) (flatMap (axiomsBy (statementsOf text)) l))) (parses-end n (w .parses) h)) ∙ w .same
-
-  module _ (g : r .kind ≡ 9 → ⊥) (h : kind < 6) where
-    next-names : flatMap (nameBy kind) (axiomsFrom text at) ≡ cond (eqb (r .kind) kind) (firstNumber text r ∷ []) [] ++ flatMap (nameBy kind) (axiomsFrom text (r .next))
-    next-names =
-        ap (λ (l : List Statement). flatMap (nameBy kind) (flatMap (axiomsBy (statementsOf text)) l)) (parses-more n (w .parses) g)
-        ∙ flatMap-append (nameBy kind) (axiomsBy (statementsOf text) (itemAt text r)) (axiomsFrom text (r .next))
-        ∙ ap (λ (l : List ℕ). l ++ flatMap (nameBy kind) (axiomsFrom text (r .next)))
-        (names-of (statementsOf text) _ _ kind h (r .kind) (parses-some n (w .parses)) g (n .placed .few))
-
-    next-same : includingAll names (cond (eqb (r .kind) kind) (firstNumber text r ∷ []) [] ++ flatMap (nameBy kind) (axiomsFrom text (r .next))) ≡ includingAll entry (namesBy kind (axiomsIn (statementsOf text)))
-    next-same = ap (includingAll names) (sym next-names) ∙ w .same
-
-    -- another item is passed
-    pub insert-passes : (r .kind ≡ kind → ⊥) → Inserting text kind entry names (r .next)
-    insert-passes d = record { parses = parses-on n (w .parses) g; same = rw (ne-eqb (r .kind) kind d) at next-same }
-
-    pub insert-on : r .kind ≡ kind → {x : ℕ} {names′ : List ℕ} → x ≡ firstNumber text r → names′ ≡ including names x → Inserting text kind entry names′ (r .next)
-    unfolding includingAll
-    insert-on d x e = record { parses = parses-on n (w .parses) g; same = rw (e, x) (rw (eq-eqb (r .kind) kind d) at next-same) }

@@ -1,16 +1,13 @@
 -- What the passes that look names up know of a text.
-use Prim.Native.Nat.{_<_, _≤_, ℕ}
-use mathlib.Core.Bool.{cond, true}
+use Prim.Native.Nat.{_≤_, ℕ}
+use mathlib.Core.Bool.{true}
 use mathlib.Core.List.{List, [], _∷_, map}
 use mathlib.Core.Path.{_≡_}
-use lib.Dec.{eqb}
 use lib.ListN.{getD, length}
 use Rattle.declarations.specs.Names.{counted, declared, needed, numberIn}
 use Rattle.declarations.specs.Passes.{Tabled, countsOf, listOf, parsedAt}
 use Rattle.declarations.specs.declared.Counts.{Counts}
 use Rattle.meaning.specs.Limits.{mostRoles}
-use Rattle.meaning.specs.Lists.{All, flatMap}
-use Rattle.meaning.specs.Records.{Name}
 use Rattle.meaning.specs.Vocabulary.{Axiom, axiomWords, namesBy, unnamed}
 use Rattle.owl.specs.Owl.{axiomsIn}
 use Rattle.records.specs.Written.{Format}
@@ -19,7 +16,7 @@ use Rattle.statements.specs.Found.{Within, itemAt}
 use Rattle.statements.specs.declared.Item.{Item}
 use Rattle.tokens.specs.Tokens.{tokens}
 use Rattle.words.specs.Members.{members}
-use Rattle.words.specs.Sets.{capacity}
+use Rattle.words.specs.Sets.{capacity, includingAll}
 
 -- the statements of a text that keeps to the forms
 unfoldable pub statementsOf : List ℕ → List Statement
@@ -55,13 +52,12 @@ secondNumber text s = getD (map (numberIn (statementsOf text)) (needed (itemAt t
 abbrev pub axioms : Format Axiom
 axioms = record { width = 4; words = axiomWords }
 
--- ---- who has many values
+-- ---- who is functional, and who has many values
 
--- the kind is an axiom's, and its names are of a series of n that a set of roles has a bit for
-pub record NamesWithin (text : List ℕ) (kind n : ℕ) : Type 0 where
-  pub stating : kind < 6
-  pub few : n ≤ mostRoles
-  pub named : All (Name n) (namesBy kind (axiomsIn (statementsOf text)))
+-- whom axioms make functional was put into a set of roles and a set of features
+pub record Noted (l : List Axiom) (roles roles′ features features′ : List ℕ) : Type 0 where
+  pub sameRoles : roles′ ≡ includingAll roles (namesBy 3 l)
+  pub sameFeatures : features′ ≡ includingAll features (namesBy 4 l)
 
 -- sets of the roles and of the features that have many values
 pub record Many (text roles features : List ℕ) : Type 0 where

@@ -34,21 +34,21 @@ ghost use lib.ListN.{length};
 ghost use Rattle.declarations.specs.Names.{counted, declared, isKnown, soundNames};
 ghost use Rattle.declarations.specs.Passes.{countsOf};
 ghost use Rattle.frames.specs.Rows.{putAt};
-ghost use Rattle.meaning.specs.Limits.{mostText};
+ghost use Rattle.meaning.specs.Limits.{mostRoles, mostText};
 ghost use Rattle.meaning.specs.Lists.{all};
 ghost use Rattle.meaning.specs.Operations.{outputAfter};
-ghost use Rattle.meaning.specs.Vocabulary.{namesBy, unnamed, vocabularyWords};
+ghost use Rattle.meaning.specs.Vocabulary.{vocabularyWords};
 ghost use Rattle.name_table.specs.Numbers.{numberOf};
-ghost use Rattle.owl.specs.Owl.{OwlPost, axiomsIn, vocabularyIn};
-ghost use Rattle.owl.specs.Passes.{Begins, Here, Many, NamesWithin, Ready, axioms, firstNumber, naming, secondNumber};
+ghost use Rattle.owl.specs.Owl.{OwlPost, axiomsBy, axiomsIn, vocabularyIn};
+ghost use Rattle.owl.specs.Passes.{Begins, Here, Many, Noted, Ready, axioms, firstNumber, naming, secondNumber};
 ghost use Rattle.owl.specs.Passes.{statementsOf};
 ghost use Rattle.records.specs.Written.{Room, RoomFor, Written, linkAt};
 ghost use Rattle.statements.specs.Forms.{class, feature, ontology, role};
 ghost use Rattle.statements.specs.Found.{Within, itemAt};
 ghost use Rattle.tokens.specs.Places.{part};
 ghost use Rattle.tokens.specs.Tokens.{tokens};
-ghost use Rattle.words.specs.Members.{members};
-ghost use Rattle.words.specs.Sets.{capacity, includingAll};
+ghost use Rattle.words.specs.Members.{members, othersOf};
+ghost use Rattle.words.specs.Sets.{capacity};
 
 // ---- names looked up, 0 where none is declared
 
@@ -107,33 +107,52 @@ fn second_number(text: &[u8], table: &[u32], c: Counts, s: Item) -> u32
     }
 }
 
-// ---- 42
+// ---- 42, and who is functional
 
-// Whether an axiom's names are declared; a declaration needs none.
-fn is_known(text: &[u8], table: &[u32], c: Counts, s: Item) -> bool
+// Whether an axiom's names are declared; a declaration needs none. A role or a feature that it makes functional goes into a set.
+fn is_known(
+    text: &[u8],
+    table: &[u32],
+    c: Counts,
+    s: Item,
+    roles: &mut [u32],
+    features: &mut [u32],
+) -> bool
     requires { ⌜ Ready (now text) (now table) c × Here (now text) s ⌝ }
     ensures { λ r. ⌜ r ≡ isKnown (statementsOf (now (text .entry))) (itemAt (now (text .entry)) s) ⌝ }
+    ensures { λ r. ⌜ (r ≡ true → Noted (axiomsBy (statementsOf (now (text .entry))) (itemAt (now (text .entry)) s)) (now (roles .entry)) (now (roles .exit)) (now (features .entry)) (now (features .exit))) ⌝ }
 {
     let kind = s.kind;
     if 6 <= kind {
         return true;
     }
-    if first_number(text, table, c, s) == 0 {
+    let a = first_number(text, table, c, s);
+    if a == 0 {
         return false;
     }
     if kind == 3 {
+        insert(roles, a);
         return true;
     }
     if kind == 4 {
+        insert(features, a);
         return true;
     }
     second_number(text, table, c, s) != 0
 }
 
-// Whether the names of every axiom are declared.
-fn are_known(text: &[u8], start: usize, table: &[u32], c: Counts) -> bool
+// Whether the names of every axiom are declared. On the way the functional ones are noted, so that the text is not read again for them.
+fn are_known(
+    text: &[u8],
+    start: usize,
+    table: &[u32],
+    c: Counts,
+    roles: &mut [u32],
+    features: &mut [u32],
+) -> bool
     requires { ⌜ Ready (now text) (now table) c × Begins (now text) start ⌝ }
     ensures { λ r. ⌜ r ≡ all (isKnown (statementsOf (now (text .entry)))) (statementsOf (now (text .entry))) ⌝ }
+    ensures { λ r. ⌜ (r ≡ true → Noted (axiomsIn (statementsOf (now (text .entry)))) (now (roles .entry)) (now (roles .exit)) (now (features .entry)) (now (features .exit))) ⌝ }
 {
     let mut at = start;
     loop {
@@ -141,7 +160,7 @@ fn are_known(text: &[u8], start: usize, table: &[u32], c: Counts) -> bool
         if s.kind == END {
             return true;
         }
-        if !is_known(text, table, c, s) {
+        if !is_known(text, table, c, s, roles, features) {
             return false;
         }
         at = s.next;
@@ -149,23 +168,31 @@ fn are_known(text: &[u8], start: usize, table: &[u32], c: Counts) -> bool
 }
 
 // No name is declared twice in a sort, and every axiom's names are declared.
-fn are_sound(text: &[u8], start: usize, table: &[u32], c: Counts) -> bool
+fn are_sound(
+    text: &[u8],
+    start: usize,
+    table: &[u32],
+    c: Counts,
+    roles: &mut [u32],
+    features: &mut [u32],
+) -> bool
     requires { ⌜ Ready (now text) (now table) c × Begins (now text) start ⌝ }
     ensures { λ r. ⌜ r ≡ soundNames (statementsOf (now (text .entry))) ⌝ }
+    ensures { λ r. ⌜ (r ≡ true → Noted (axiomsIn (statementsOf (now (text .entry)))) (now (roles .entry)) (now (roles .exit)) (now (features .entry)) (now (features .exit))) ⌝ }
 {
-    let classes = c.classes;
-    let roles = c.roles;
-    let features = c.features;
-    if has_repeats(text, table, 0, classes) {
+    let class_count = c.classes;
+    let role_count = c.roles;
+    let feature_count = c.features;
+    if has_repeats(text, table, 0, class_count) {
         return false;
     }
-    if has_repeats(text, table, ROLES, roles) {
+    if has_repeats(text, table, ROLES, role_count) {
         return false;
     }
-    if has_repeats(text, table, FEATURES, features) {
+    if has_repeats(text, table, FEATURES, feature_count) {
         return false;
     }
-    are_known(text, start, table, c)
+    are_known(text, start, table, c, roles, features)
 }
 
 // Whether the counts are a vocabulary's.
@@ -184,44 +211,13 @@ fn are_counted(c: Counts) -> bool
     c.features <= MOST_FEATURES as usize
 }
 
-// ---- who has many values
-
-// Puts the first name of every axiom of a kind into a set.
-fn insert_named(text: &[u8], start: usize, table: &[u32], c: Counts, kind: u32, names: &mut [u32])
-    requires { ⌜ Ready (now text) (now table) c × Begins (now text) start × (kind < 6) ⌝ }
-    ensures { λ _. ⌜ now (names .exit) ≡ includingAll (now (names .entry)) (namesBy kind (axiomsIn (statementsOf (now (text .entry))))) ⌝ }
+// The numbers 1 to n that a set lacks.
+fn find_others(names: &[u32], n: u32) -> [u32; NAME_WORDS]
+    requires { ⌜ n ≤ mostRoles ⌝ }
+    ensures { λ r. ⌜ members r ≡ othersOf (now (names .entry)) n ⌝ }
 {
-    let mut at = start;
-    loop {
-        let s = next_item(text, at);
-        let found = s.kind;
-        if found == END {
-            return;
-        }
-        at = s.next;
-        if found != kind {
-            continue;
-        }
-        insert(names, first_number(text, table, c, s));
-    }
-}
-
-// The names 1 to n that no axiom of a kind names first.
-fn find_unnamed(
-    text: &[u8],
-    start: usize,
-    table: &[u32],
-    c: Counts,
-    kind: u32,
-    n: u32,
-) -> [u32; NAME_WORDS]
-    requires { ⌜ Ready (now text) (now table) c × Begins (now text) start × NamesWithin (now text) kind n ⌝ }
-    ensures { λ r. ⌜ members r ≡ unnamed kind (axiomsIn (statementsOf (now (text .entry)))) n ⌝ }
-{
-    let mut names = [0u32; NAME_WORDS];
     let mut others = [0u32; NAME_WORDS];
-    insert_named(text, start, table, c, kind, &mut names[..]);
-    insert_others(&mut others[..], &names[..], n);
+    insert_others(&mut others[..], names, n);
     others
 }
 
@@ -346,12 +342,23 @@ fn finish(text: &[u8], start: usize, table: &[u32], c: Counts, out: &mut [u32]) 
     requires { ⌜ Ready (now text) (now table) c × Begins (now text) start × (length (now text) ≤ mostText) ⌝ }
     ensures { λ r. ⌜ OwlPost (now (text .entry)) (now (out .entry)) (now (out .exit)) r ⌝ }
 {
-    if !are_sound(text, start, table, c) {
+    let mut roles = [0u32; NAME_WORDS];
+    let mut features = [0u32; NAME_WORDS];
+    if !are_sound(text, start, table, c, &mut roles[..], &mut features[..]) {
         return Filling::Refused(42);
     }
-    let roles = find_unnamed(text, start, table, c, 3, c.roles as u32);
-    let features = find_unnamed(text, start, table, c, 4, c.features as u32);
-    write(text, start, table, c, &roles[..], &features[..], out)
+    // Who is not functional has many values.
+    let many_roles = find_others(&roles[..], c.roles as u32);
+    let many_features = find_others(&features[..], c.features as u32);
+    write(
+        text,
+        start,
+        table,
+        c,
+        &many_roles[..],
+        &many_features[..],
+        out,
+    )
 }
 
 // Three words for each name that a vocabulary may have.
