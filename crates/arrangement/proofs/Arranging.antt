@@ -9,7 +9,6 @@ use Rattle.arrangement.proofs.Inserting.{Low, insert-item, runs-low}
 use Rattle.arrangement.specs.Insertion.{arranged, insertItem}
 use Rattle.arrangement.specs.Runs.{Fronted, chainItems, classKey, classesOf, itemsBelow, listedItem, roleItem, runOf, runsOf}
 use Rattle.entries.specs.Entries.{Item}
-use Rattle.theory.proofs.Rules.{all-append, all-at, all-of, head, tail}
 use Rattle.meaning.specs.Intervals.{Constraint}
 use Rattle.meaning.specs.Lists.{All, cons, nil}
 use Rattle.meaning.specs.NormalForm.{Node, Successors, none, successor}
@@ -18,6 +17,7 @@ use Rattle.spelling.proofs.Keys.{key-apart}
 use Rattle.spelling.proofs.Rising.{place-out}
 use Rattle.spelling.specs.Order.{place, sorted}
 use Rattle.spelling.specs.Spelling.{Conjunct, isIn, key, putAll, putInOrder, reaches, rolesOf, stated, within, withinOf}
+use Rattle.theory.proofs.Rules.{all-append, all-at, all-of, head, tail}
 
 -- ---- one after another, the last one first
 

@@ -11,11 +11,11 @@ use Rattle.arrangement.specs.Insertion.{behind, deeper, insertItem, inse
 use Rattle.arrangement.specs.Runs.{chainItems, runOf, runsOf}
 use Rattle.entries.specs.Entries.{Item, runKey}
 use Rattle.entries.specs.Order.{orderOf}
-use Rattle.theory.proofs.Rules.{all-append, head, tail}
 use Rattle.meaning.specs.Lists.{All, cons, nil}
 use Rattle.meaning.specs.Policy.{Chain, class, end, impossible, interval, some}
 use Rattle.spelling.specs.Order.{isBefore, place}
 use Rattle.spelling.specs.Spelling.{Conjunct, isIn, key, reaches, within}
+use Rattle.theory.proofs.Rules.{all-append, head, tail}
 
 -- ---- runs
 

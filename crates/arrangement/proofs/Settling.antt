@@ -12,9 +12,9 @@ use Rattle.entries.proofs.Runs.{items-none, items-split}
 use Rattle.entries.specs.Entries.{Item, itemAt, itemsIn}
 use Rattle.frames.proofs.Rows.{length-put, length-row}
 use Rattle.frames.specs.Rows.{putAt, rowAt}
-use Rattle.theory.proofs.Rules.{all-append}
 use Rattle.meaning.specs.Limits.{mostRecords}
 use Rattle.meaning.specs.Lists.{All, cons, nil}
+use Rattle.theory.proofs.Rules.{all-append}
 
 -- ---- every word below a number, as a list
 

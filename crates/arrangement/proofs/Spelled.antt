@@ -5,13 +5,13 @@ use Rattle.arrangement.proofs.Arranging.{arranged-roles, roles-have-run
 use Rattle.arrangement.proofs.Comparing.{HasRun}
 use Rattle.arrangement.specs.Insertion.{arranged}
 use Rattle.arrangement.specs.Runs.{Fronted, itemsBelow, policyItems, runsOf}
-use Rattle.theory.proofs.Rules.{map-all}
 use Rattle.meaning.specs.Lists.{All, filter}
 use Rattle.meaning.specs.NormalForm.{possible}
 use Rattle.meaning.specs.Policy.{Policy}
 use Rattle.meaning.specs.Vocabulary.{Vocabulary}
 use Rattle.spelling.proofs.Arranging.{forest, forest-sorted}
 use Rattle.spelling.specs.Spelling.{reaches, rolesOf, spelled}
+use Rattle.theory.proofs.Rules.{map-all}
 
 pub arranged-spelled : (K : Vocabulary) (P : Policy) → arranged (itemsBelow 0 (forest K (filter (possible K) P))) ≡ policyItems (spelled K P)
 arranged-spelled K P = arranged-roles (forest K (filter (possible K) P)) ∙ ap (runsOf 0) (forest-sorted K P)

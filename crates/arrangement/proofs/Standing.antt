@@ -15,7 +15,6 @@ use Rattle.entries.specs.Entries.{Item, classesAt, depthAt, fieldsAt, itemAt, o
 use Rattle.layout.proofs.Filling.{held-range, own-held, parts}
 use Rattle.layout.specs.Tables.{ConstraintsStand, Held, RowStands, RowsStand, constraintAt, heldAt, heldBelow, heldBy, holderAt, parentAt, setAt}
 use Rattle.layout.specs.declared.Tables.{Tables}
-use Rattle.theory.proofs.Rules.{any-in, any-mono, any-out, eqb-of, isTrue, or-left, order, same-test}
 use Rattle.meaning.specs.Countermodel.{size}
 use Rattle.meaning.specs.Intervals.{Constraint}
 use Rattle.meaning.specs.Limits.{mostRecords}
@@ -27,6 +26,7 @@ use Rattle.meaning.specs.Vocabulary.{Vocabulary}
 use Rattle.spelling.proofs.Rising.{Same, rising-same, same-trans, sorted-rising, sorted-same}
 use Rattle.spelling.specs.Order.{isBefore, sorted}
 use Rattle.spelling.specs.Ordered.{Rising}
+use Rattle.theory.proofs.Rules.{any-in, any-mono, any-out, eqb-of, isTrue, or-left, order, same-test}
 use Rattle.words.proofs.Laws.{in-listed, in-zeros, listed-in, members-rising}
 use Rattle.words.proofs.Lists as words
 use Rattle.words.specs.Members.{members}

@@ -12,8 +12,8 @@ use Rattle.carriers.specs.Carriers.{Carrier, HasCarrier, Listed, Unliste
 use Rattle.layout.specs.Nesting.{Nested}
 use Rattle.layout.specs.Tables.{Standing, parentAt}
 use Rattle.layout.specs.declared.Tables.{Tables}
-use Rattle.theory.proofs.Rules.{order}
 use Rattle.meaning.specs.Limits.{mostRecords}
+use Rattle.theory.proofs.Rules.{order}
 
 -- the rows from k on are listed, and no other
 pub record Linking (c w : List ℕ) (n k : ℕ) : Type 0 where

@@ -13,16 +13,16 @@ use Rattle.closure.proofs.Rows.{joined-still, row-length}
 use Rattle.closure.specs.Rows.{Closed, begun, empty, joined, lift, lifted, rowOf}
 use Rattle.frames.proofs.Frames.{only-span, only-then}
 use Rattle.frames.specs.Frames.{Only, Span}
-use Rattle.theory.proofs.Bounds.{bounded, subclasses-named}
-use Rattle.theory.proofs.Closure.{Steps, below-bounded, below-iff, below-refl, below-subclass, below-trans, start, then}
-use Rattle.theory.proofs.Rules.{T-or, all-at, any-cases, any-none, isTrue, or-left, same-test}
-use Rattle.theory.proofs.Stated.{subclass-stated}
-use Rattle.theory.proofs.Wellformed.{accepted-counts}
 use Rattle.meaning.specs.Limits.{mostClasses}
 use Rattle.meaning.specs.Lists.{_∈_, here, there}
 use Rattle.meaning.specs.Records.{Name, isName}
 use Rattle.meaning.specs.Stated.{isBelow, subclass, subclasses}
 use Rattle.meaning.specs.Vocabulary.{Axiom, classCount, vocabularyOf, vocabularyRefusal}
+use Rattle.theory.proofs.Bounds.{bounded, subclasses-named}
+use Rattle.theory.proofs.Closure.{Steps, below-bounded, below-iff, below-refl, below-subclass, below-trans, start, then}
+use Rattle.theory.proofs.Rules.{T-or, all-at, any-cases, any-none, isTrue, or-left, same-test}
+use Rattle.theory.proofs.Stated.{subclass-stated}
+use Rattle.theory.proofs.Wellformed.{accepted-counts}
 use Rattle.vocabulary.proofs.Chain.{foldl-flatMap}
 use Rattle.words.proofs.Growth.{covered}
 use Rattle.words.proofs.Laws.{in-including, in-zeros, length-including, named-within}

@@ -11,9 +11,6 @@ use Rattle.closure.proofs.Steps.{lifted-length}
 use Rattle.closure.specs.Index.{Entry, Heads, Met, Nexts, Raisable, Raised, Rises, raised-more, raised-none, records}
 use Rattle.closure.specs.Rows.{Closed, Grown, begun, lifted}
 use Rattle.frames.proofs.Frames.{only-none, only-then}
-use Rattle.theory.proofs.Rules.{all-at, head}
-use Rattle.theory.proofs.Stated.{subclass-at, subclass-named}
-use Rattle.theory.proofs.Wellformed.{accepted-axioms, accepted-counts, accepted-size, axiom-named}
 use Rattle.meaning.specs.Limits.{mostAxioms, mostClasses}
 use Rattle.meaning.specs.Lists.{All, _∈_, here, there}
 use Rattle.meaning.specs.Records.{Name, Onward, falling, lastOf}
@@ -21,6 +18,9 @@ use Rattle.meaning.specs.Vocabulary.{Axiom, axiomAt, axiomFits, axiomKind, axio
 use Rattle.meaning.specs.Vocabulary.{vocabularyOf, vocabularyRefusal}
 use Rattle.records.proofs.Chains.{Walking, walking-falls, walking-found, walking-named, walking-on, walking-onward, walking-sound}
 use Rattle.records.proofs.Chains.{walking-starts}
+use Rattle.theory.proofs.Rules.{all-at, head}
+use Rattle.theory.proofs.Stated.{subclass-at, subclass-named}
+use Rattle.theory.proofs.Wellformed.{accepted-axioms, accepted-counts, accepted-size, axiom-named}
 use Rattle.vocabulary.proofs.Chain.{axiomLinks, axioms-along}
 use Rattle.words.proofs.Growth.{sum-most}
 use Rattle.words.proofs.Laws.{zeros-at}

@@ -12,14 +12,14 @@ use Rattle.closure.specs.Rows.{ClosedRows, RangeRows, Ranged, RolePlaces
 use Rattle.frames.proofs.Frames.{only-span, only-then, row-before}
 use Rattle.frames.specs.Frames.{Only, Span}
 use Rattle.layout.specs.Places.{roleRow, rowPlace}
-use Rattle.theory.proofs.Bounds.{rangePairs-named}
-use Rattle.theory.proofs.Rules.{head, tail}
-use Rattle.theory.proofs.Wellformed.{accepted-counts}
 use Rattle.meaning.specs.Limits.{mostClasses}
 use Rattle.meaning.specs.Lists.{All, any}
 use Rattle.meaning.specs.Records.{Name}
 use Rattle.meaning.specs.Stated.{isBelow, rangePair, rangePairs, ranges, rangesIn}
 use Rattle.meaning.specs.Vocabulary.{classCount, roleCount, vocabularyOf, vocabularyRefusal}
+use Rattle.theory.proofs.Bounds.{rangePairs-named}
+use Rattle.theory.proofs.Rules.{head, tail}
+use Rattle.theory.proofs.Wellformed.{accepted-counts}
 use Rattle.vocabulary.proofs.Chain.{foldl-flatMap}
 use Rattle.words.proofs.Laws.{in-zeros}
 use Rattle.words.specs.Rows.{classWords}

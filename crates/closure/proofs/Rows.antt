@@ -14,8 +14,8 @@ use Rattle.frames.proofs.Rows.{length-put, length-row, put-row, put-self}
 use Rattle.frames.specs.Frames.{Only, Span}
 use Rattle.frames.specs.Rows.{rowAt}
 use Rattle.layout.specs.Places.{rowPlace}
-use Rattle.theory.proofs.Rules.{order}
 use Rattle.meaning.specs.Records.{Name}
+use Rattle.theory.proofs.Rules.{order}
 use Rattle.words.proofs.Growth.{sum-put, union-grows, union-same}
 use Rattle.words.proofs.Laws.{in-union, length-union}
 use Rattle.words.specs.Rows.{classWords}

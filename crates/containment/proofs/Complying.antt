@@ -13,8 +13,6 @@ use Rattle.frames.proofs.Work.{Done}
 use Rattle.frames.specs.Frames.{Only, Span}
 use Rattle.functional.specs.declared.Functional.{Functional}
 use Rattle.layout.specs.Places.{pairsEnd}
-use Rattle.theory.proofs.Compliance.{compliance-told, no-escape}
-use Rattle.theory.proofs.Interpretations.{tested-finite}
 use Rattle.meaning.specs.Answers.{VerdictResult, compliant, outside, result, verdictAnswer}
 use Rattle.meaning.specs.Containment.{Decision, Refutes, contained, crowded, escapes, resolve}
 use Rattle.meaning.specs.Countermodel.{countermodel}
@@ -29,6 +27,8 @@ use Rattle.meaning.specs.declared.Verdict.{Verdict}
 use Rattle.preparation.specs.Prepared.{Prepared}
 use Rattle.short_way.specs.Stops.{PreparedPair}
 use Rattle.meaning.specs.declared.Verdict.the-variants as verdict
+use Rattle.theory.proofs.Compliance.{compliance-told, no-escape}
+use Rattle.theory.proofs.Interpretations.{tested-finite}
 
 -- ---- what is ready
 

@@ -8,7 +8,6 @@ use lib.ListN.{length}
 use Rattle.containment.specs.Verdicts.{PossiblePost}
 use Rattle.frames.proofs.Work.{Done}
 use Rattle.functional.specs.declared.Functional.{Functional}
-use Rattle.theory.proofs.Refusals.{orElse-assoc, orElse-zero, says-unless}
 use Rattle.meaning.specs.Answers.{PossibilityResult, firstPossible, possibilityAnswer, refused, result}
 use Rattle.meaning.specs.NormalForm.{possible}
 use Rattle.meaning.specs.Operations.{Outcome, possibility, possibleFrom, says, unless, workRefusal}
@@ -17,6 +16,7 @@ use Rattle.meaning.specs.Records.{orElse}
 use Rattle.meaning.specs.Vocabulary.{Vocabulary, vocabularyOf, vocabularyRefusal}
 use Rattle.meaning.specs.declared.Possibility.{Possibility}
 use Rattle.preparation.specs.Prepared.{Accepting, Prepared}
+use Rattle.theory.proofs.Refusals.{orElse-assoc, orElse-zero, says-unless}
 
 -- ---- the first that is possible
 

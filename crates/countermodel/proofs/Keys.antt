@@ -9,12 +9,12 @@ use native.Mathlib.Omega.{arith}
 use lib.Dec.{ltb}
 use borrow.Author.Tests.{eq-eqb, le-ltb, lt-ltb, ltb-false, ltb-true, ne-eqb}
 use Rattle.countermodel.specs.Facts.{valueFact}
-use Rattle.theory.proofs.Pairs.{pairs-in, pairs-out}
-use Rattle.theory.proofs.Rules.{all-at, all-map, all-of, any-map, any-mono, head, order, tail}
 use Rattle.meaning.specs.Countermodel.{insertPair, pairBefore, pairs, samePair}
 use Rattle.meaning.specs.Intervals.{Constraint, valueOf}
 use Rattle.meaning.specs.Lists.{All, _∈_, filter, here}
 use Rattle.meaning.specs.Model.{Fact, value}
+use Rattle.theory.proofs.Pairs.{pairs-in, pairs-out}
+use Rattle.theory.proofs.Rules.{all-at, all-map, all-of, any-map, any-mono, head, order, tail}
 use Rattle.words.proofs.Lists.{Rising, above-first, above-least, above-rest, filter-from}
 
 -- ---- rising numbers above c

@@ -12,8 +12,6 @@ use Rattle.layout.specs.Combination.{Combined, Individual, Kin}
 use Rattle.layout.specs.Places.{individualPlace}
 use Rattle.layout.specs.Tables.{Above, Standing, pieceAt, setAt}
 use Rattle.layout.specs.declared.Tables.{Tables}
-use Rattle.theory.proofs.Closure.{below-bounded}
-use Rattle.theory.proofs.Rules.{all-any, any-out, isTrue}
 use Rattle.meaning.specs.Countermodel.{canonicalModel, classesAbove, countermodel, recordsBelow, recordsOf, size}
 use Rattle.meaning.specs.Limits.{mostClasses}
 use Rattle.meaning.specs.Lists.{All, any}
@@ -23,6 +21,8 @@ use Rattle.meaning.specs.NormalForm.{Form, Node, Successors, none, successor}
 use Rattle.meaning.specs.Records.{Name, isName}
 use Rattle.meaning.specs.Stated.{isBelow}
 use Rattle.meaning.specs.Vocabulary.{Vocabulary}
+use Rattle.theory.proofs.Closure.{below-bounded}
+use Rattle.theory.proofs.Rules.{all-any, any-out, isTrue}
 use Rattle.words.proofs.Laws.{members-are, named-within}
 use Rattle.words.specs.Members.{members}
 use Rattle.words.specs.Rows.{classWords}

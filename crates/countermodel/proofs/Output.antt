@@ -7,11 +7,11 @@ use lib.ListN.{length, length-set, set, take}
 use lib.Seq.{sets-eq}
 use Rattle.countermodel.specs.Written.{facts}
 use Rattle.frames.specs.Rows.{putAt}
-use Rattle.theory.proofs.ModelWords.{fact-length}
 use Rattle.meaning.specs.Model.{Fact, modelWords}
 use Rattle.meaning.specs.Operations.{outputAfter}
 use Rattle.records.proofs.Writing.{headed-written, link-last, recorded-length}
 use Rattle.records.specs.Written.{linkAt, recorded}
+use Rattle.theory.proofs.ModelWords.{fact-length}
 
 -- ---- five words, one after another
 

@@ -14,11 +14,11 @@ use Rattle.countermodel.specs.Facts.{isAbove, isBetter, pairsAbove, valu
 use Rattle.layout.specs.Combination.{chosenFrom, piecesFrom, piecesOf}
 use Rattle.layout.specs.Places.{constraintPlace}
 use Rattle.layout.specs.Tables.{holderAt, pieceAt}
-use Rattle.theory.proofs.Rules.{all-at, head, order, tail}
 use Rattle.meaning.specs.Countermodel.{pairBefore, pairs}
 use Rattle.meaning.specs.Intervals.{Constraint, valueOf}
 use Rattle.meaning.specs.Lists.{All, _∈_, cons, filter, here, nil, there}
 use Rattle.meaning.specs.Model.{Fact}
+use Rattle.theory.proofs.Rules.{all-at, head, order, tail}
 use Rattle.words.specs.Sets.{wordSum}
 
 -- a number above every word

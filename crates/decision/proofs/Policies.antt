@@ -16,13 +16,6 @@ use Rattle.layout.specs.Combination.{Combined}
 use Rattle.layout.specs.Places.{InTables}
 use Rattle.layout.specs.Tables.{Standing}
 use Rattle.layout.specs.declared.Tables.{Tables}
-use Rattle.theory.proofs.Bounds.{bounded, chain-bounded}
-use Rattle.theory.proofs.Containment.{witness}
-use Rattle.theory.proofs.ModelWords.{model-length}
-use Rattle.theory.proofs.Normal.{BoundedChain}
-use Rattle.theory.proofs.Rules.{isTrue}
-use Rattle.theory.proofs.ShortWay.{decide-behind, resolve-decide, short-agrees, short-uncrowded, split-crowded}
-use Rattle.theory.proofs.Wellformed.{accepted-counts}
 use Rattle.meaning.specs.Accepted.{ChainOf}
 use Rattle.meaning.specs.Answers.{VerdictResult, outside, result}
 use Rattle.meaning.specs.Containment.{contained, crowded, decide, decideFrom, escapes, firstFailure, orEscape, passes, resolve, tooMany}
@@ -46,6 +39,13 @@ use Rattle.tabulation.specs.Tabulation.{Tabulated}
 use Rattle.meaning.specs.declared.Verdict.the-variants as verdict
 use Rattle.trial.specs.Trials as Tries
 use Rattle.decision.proofs.Terms.{pieces-tables}
+use Rattle.theory.proofs.Bounds.{bounded, chain-bounded}
+use Rattle.theory.proofs.Containment.{witness}
+use Rattle.theory.proofs.ModelWords.{model-length}
+use Rattle.theory.proofs.Normal.{BoundedChain}
+use Rattle.theory.proofs.Rules.{isTrue}
+use Rattle.theory.proofs.ShortWay.{decide-behind, resolve-decide, short-agrees, short-uncrowded, split-crowded}
+use Rattle.theory.proofs.Wellformed.{accepted-counts}
 
 -- ---- the first term to fail
 

@@ -15,8 +15,6 @@ use Rattle.layout.proofs.Nesting.{tabled-nested}
 use Rattle.layout.specs.Places.{InTables}
 use Rattle.layout.specs.Tables.{Pieces}
 use Rattle.layout.specs.declared.Tables.{Tables}
-use Rattle.theory.proofs.Rules.{order}
-use Rattle.theory.proofs.Sizes.{normal-intervals}
 use Rattle.meaning.specs.Accepted.{ChainOf, intervalCount}
 use Rattle.meaning.specs.Containment.{firstFailure, tooMany}
 use Rattle.meaning.specs.Limits.{mostCombinations, mostRecords}
@@ -34,6 +32,8 @@ use Rattle.tabulation.specs.Clean.{DecidesClean, cleanForm}
 use Rattle.tabulation.specs.Tabulation.{Shaped, Tabulated}
 use Rattle.trial.specs.Trials.{Triable, Tried}
 use Rattle.meaning.specs.declared.Verdict.the-variants as verdict
+use Rattle.theory.proofs.Rules.{order}
+use Rattle.theory.proofs.Sizes.{normal-intervals}
 use Rattle.trial.specs.Trials as Tries
 
 -- ---- 22: too many combinations

@@ -11,8 +11,6 @@ use borrow.Author.Tests.{ltb-false}
 use Rattle.demands.proofs.Orders.{Follows, answering, refusing}
 use Rattle.demands.specs.Refusals.{FirstRefusal, here, inputOrder, later, modelCheckOrder, possibleOrder}
 use Rattle.demands.specs.Slices.{WorkCleared, WritesFirst}
-use Rattle.theory.proofs.Refusals.{model-early, policy-early, second-early, vocabulary-early, work-early}
-use Rattle.theory.proofs.Rules.{all-at}
 use Rattle.meaning.specs.Answers.{Answer, ComparisonResult, VerdictResult, differs, outside, refused, result}
 use Rattle.meaning.specs.Limits.{workSize}
 use Rattle.meaning.specs.Lists.{All, _∈_, cons, nil}
@@ -21,6 +19,8 @@ use Rattle.meaning.specs.Policy.{Policy}
 use Rattle.meaning.specs.Promises.{CorrectComparison, CorrectVerdict, IsRefusal, agreed, escaped, same, side1, side2, unsaidComparison}
 use Rattle.meaning.specs.Promises.{unsaidVerdict}
 use Rattle.meaning.specs.Vocabulary.{Vocabulary}
+use Rattle.theory.proofs.Refusals.{model-early, policy-early, second-early, vocabulary-early, work-early}
+use Rattle.theory.proofs.Rules.{all-at}
 
 -- ---- a work slice that is full
 

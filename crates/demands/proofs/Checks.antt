@@ -9,10 +9,6 @@ use Rattle.containment.specs.Verdicts.{CompliancePost}
 use Rattle.decision.proofs.Policies.{taken}
 use Rattle.demands.proofs.Afterwards.{comparison-written, verdict-written}
 use Rattle.equality.specs.Comparisons.{EqualityPost}
-use Rattle.theory.proofs.Checking.{check-right}
-use Rattle.theory.proofs.Compliance.{compliance-told}
-use Rattle.theory.proofs.Equality.{equality-compared}
-use Rattle.theory.proofs.Written.{first-checked, second-checked, written-checked}
 use Rattle.meaning.specs.Answers.{checkedAnswer, result, yes}
 use Rattle.meaning.specs.Limits.{workSize}
 use Rattle.meaning.specs.Operations.{compliance, equality, modelCheck}
@@ -22,6 +18,10 @@ use Rattle.model_check.specs.Judging.{ModelCheckPost}
 use Rattle.meaning.specs.declared.Checked.the-variants as checked
 use Rattle.meaning.specs.declared.Comparison.the-variants as comparison
 use Rattle.meaning.specs.declared.Verdict.the-variants as verdict
+use Rattle.theory.proofs.Checking.{check-right}
+use Rattle.theory.proofs.Compliance.{compliance-told}
+use Rattle.theory.proofs.Equality.{equality-compared}
+use Rattle.theory.proofs.Written.{first-checked, second-checked, written-checked}
 
 is-yes : (r : Checked) → checkedAnswer r ≡ result yes → r ≡ checked.Yes
 is-yes checked.Yes e = refl

@@ -15,8 +15,6 @@ use Rattle.demands.proofs.Verdicts.{compliant-only, compliant-where}
 use Rattle.demands.specs.Enough.{Answers, BothUncrowded, BothWithinLimits, Comparable, Compares, Long, LongEither}
 use Rattle.demands.specs.Sides.{NamesASide}
 use Rattle.equality.specs.Comparisons.{EqualityPost}
-use Rattle.theory.proofs.Apart.{indistinct-not-told-apart, refutes-apart, uncrowded-equal-iff}
-use Rattle.theory.proofs.Equality.{equal-right, indistinct-right}
 use Rattle.meaning.specs.Answers.{ComparisonResult, comparisonAnswer, differs, equal, refused, result}
 use Rattle.meaning.specs.Containment.{Decision, Indistinct, ToldApart, contained, escapes, resolve}
 use Rattle.meaning.specs.Countermodel.{countermodel}
@@ -29,6 +27,8 @@ use Rattle.meaning.specs.declared.Comparison.{Comparison}
 use Rattle.meaning.specs.declared.Verdict.{Verdict}
 use Rattle.meaning.specs.declared.Comparison.the-variants as comparison
 use Rattle.meaning.specs.declared.Verdict.the-variants as verdict
+use Rattle.theory.proofs.Apart.{indistinct-not-told-apart, refutes-apart, uncrowded-equal-iff}
+use Rattle.theory.proofs.Equality.{equal-right, indistinct-right}
 
 is-equal : (r : Comparison) → comparisonAnswer r ≡ result equal → r ≡ comparison.Equal
 is-equal comparison.Equal e = refl

@@ -2,9 +2,9 @@
 use Prim.Native.Nat.{ℕ}
 use mathlib.Core.List.{List}
 use Rattle.demands.specs.Enough.{BothUncrowded, BothWithinLimits, Uncrowded, WithinLimits}
-use Rattle.theory.proofs.ShortWay.{few-uncrowded}
 use Rattle.meaning.specs.Policy.{policyOf}
 use Rattle.meaning.specs.Vocabulary.{vocabularyOf}
+use Rattle.theory.proofs.ShortWay.{few-uncrowded}
 
 -- where no term of the first policy has too many combinations Compliance gives no 22
 pub limits-uncrowded : {v p q : List ℕ} {w : ℕ} → WithinLimits v p q w → Uncrowded v p q w

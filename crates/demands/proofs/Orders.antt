@@ -9,7 +9,6 @@ use lib.ListN.{length}
 use native.Mathlib.Omega.{arith}
 use Rattle.demands.specs.Refusals.{FirstRefusal, complianceOrder, equalityOrder, here, inputOrder, later, manyRefusal, modelCheckOrder, policyOrder, possibleOrder}
 use Rattle.demands.specs.Refusals.{secondPolicyOrder, shortRefusal, vocabularyOrder}
-use Rattle.theory.proofs.Refusals.{cond-all}
 use Rattle.meaning.specs.Answers.{Answer, CheckResult, accepted, compliant, differs, equal, no, outside, refused, result, yes}
 use Rattle.meaning.specs.Containment.{Decision, contained, crowded, escapes, resolve}
 use Rattle.meaning.specs.Countermodel.{countermodel}
@@ -21,6 +20,7 @@ use Rattle.meaning.specs.Operations.{readSecondPolicy, readVocabulary, refuses,
 use Rattle.meaning.specs.Policy.{policyOf, policyRefusal, secondRefusal}
 use Rattle.meaning.specs.Records.{orElse}
 use Rattle.meaning.specs.Vocabulary.{Vocabulary, vocabularyOf, vocabularyRefusal}
+use Rattle.theory.proofs.Refusals.{cond-all}
 
 -- ---- the first of several numbers
 

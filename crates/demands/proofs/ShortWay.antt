@@ -12,8 +12,6 @@ use Rattle.demands.proofs.Refusals.{verdict-refused}
 use Rattle.demands.proofs.Verdicts.{compliant-iff-uncrowded, is-compliant}
 use Rattle.demands.specs.Splitting.{splitCompliance, splitEquality}
 use Rattle.equality.specs.Comparisons.{EqualityPost}
-use Rattle.theory.proofs.Apart.{contained-not-apart}
-use Rattle.theory.proofs.ShortWay.{resolve-decide, short-agrees, short-contained, short-uncrowded, split-crowded}
 use Rattle.meaning.specs.Answers.{ComparisonResult, VerdictResult, comparisonAnswer, compliant, refused, result, verdictAnswer}
 use Rattle.meaning.specs.Containment.{crowded, shortWay, tooMany}
 use Rattle.meaning.specs.Limits.{workSize}
@@ -26,6 +24,8 @@ use Rattle.meaning.specs.declared.Comparison.{Comparison}
 use Rattle.meaning.specs.declared.Verdict.{Verdict}
 use Rattle.meaning.specs.declared.Comparison.the-variants as comparison
 use Rattle.meaning.specs.declared.Verdict.the-variants as verdict
+use Rattle.theory.proofs.Apart.{contained-not-apart}
+use Rattle.theory.proofs.ShortWay.{resolve-decide, short-agrees, short-contained, short-uncrowded, split-crowded}
 
 -- ---- what passes unsplit
 

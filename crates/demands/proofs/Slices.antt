@@ -14,8 +14,6 @@ use Rattle.demands.proofs.Refusals.{compliance-refused-iff, equality-re
 use Rattle.demands.specs.Enough.{Answers, Compares}
 use Rattle.demands.specs.Slices.{WorkCleared, WritesFirst}
 use Rattle.equality.specs.Comparisons.{EqualityPost}
-use Rattle.theory.proofs.Compliance.{compliance-told}
-use Rattle.theory.proofs.Equality.{equality-compared}
 use Rattle.meaning.specs.Answers.{checkedAnswer, comparisonAnswer, differs, outside, possibilityAnswer, refused, result, verdictAnswer}
 use Rattle.meaning.specs.Operations.{Early, compliance, equality, isLate, outputAfter}
 use Rattle.meaning.specs.Promises.{IsRefusal}
@@ -29,6 +27,8 @@ use Rattle.meaning.specs.declared.Checked.the-variants as checked
 use Rattle.meaning.specs.declared.Comparison.the-variants as comparison
 use Rattle.meaning.specs.declared.Possibility.the-variants as possibility
 use Rattle.meaning.specs.declared.Verdict.the-variants as verdict
+use Rattle.theory.proofs.Compliance.{compliance-told}
+use Rattle.theory.proofs.Equality.{equality-compared}
 
 -- ---- Compliance
 

@@ -13,8 +13,6 @@ use Rattle.demands.proofs.Orders.{Follows, answering, follows-here, fol
 use Rattle.demands.proofs.Owl.{filling-refused}
 use Rattle.demands.specs.Refusals.{FirstRefusal, spellOrder}
 use Rattle.demands.specs.Slices.{WorkCleared, WritesFirst}
-use Rattle.theory.proofs.Refusals.{policy-early, vocabulary-early, work-early}
-use Rattle.theory.proofs.Unreached.{counted, policy-read, policy-refused, vocabulary-read, vocabulary-refused}
 use Rattle.meaning.specs.Answers.{FillingResult, accepted, equal, fillingAnswer, refused, result, wrote}
 use Rattle.meaning.specs.Containment.{Indistinct}
 use Rattle.meaning.specs.Lists.{cons, nil}
@@ -32,6 +30,8 @@ use Rattle.spelling.specs.Spelling.{spelled, tooLong}
 use Rattle.spelling.specs.Words.{policyWords}
 use Rattle.meaning.specs.Lists as lists
 use Rattle.meaning.specs.declared.Filling.the-variants as filling
+use Rattle.theory.proofs.Refusals.{policy-early, vocabulary-early, work-early}
+use Rattle.theory.proofs.Unreached.{counted, policy-read, policy-refused, vocabulary-read, vocabulary-refused}
 
 -- ---- the order of refusals
 

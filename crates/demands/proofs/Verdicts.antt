@@ -11,8 +11,6 @@ use borrow.Author.Tests.{le-leb, le-ltb}
 use Rattle.containment.specs.Verdicts.{CompliancePost}
 use Rattle.demands.proofs.Limits.{limits-uncrowded}
 use Rattle.demands.specs.Enough.{Answerable, Answers, Long, Uncrowded, WithinLimits}
-use Rattle.theory.proofs.Apart.{compliant-iff-not-apart, uncrowded-compliant-iff}
-use Rattle.theory.proofs.Compliance.{compliant-right, contained-right}
 use Rattle.meaning.specs.Answers.{compliant, outside, refused, result, verdictAnswer}
 use Rattle.meaning.specs.Containment.{Apart, Contained, Decision, contained, escapes, resolve}
 use Rattle.meaning.specs.Countermodel.{countermodel}
@@ -23,6 +21,8 @@ use Rattle.meaning.specs.Promises.{IsRefusal}
 use Rattle.meaning.specs.Vocabulary.{Vocabulary, vocabularyOf}
 use Rattle.meaning.specs.declared.Verdict.{Verdict}
 use Rattle.meaning.specs.declared.Verdict.the-variants as verdict
+use Rattle.theory.proofs.Apart.{compliant-iff-not-apart, uncrowded-compliant-iff}
+use Rattle.theory.proofs.Compliance.{compliant-right, contained-right}
 
 pub is-compliant : (r : Verdict) → verdictAnswer r ≡ result compliant → r ≡ verdict.Compliant
 is-compliant verdict.Compliant e = refl

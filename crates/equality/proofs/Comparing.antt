@@ -16,10 +16,6 @@ use Rattle.frames.proofs.Work.{Done, outputs-none}
 use Rattle.frames.specs.Frames.{Only}
 use Rattle.functional.specs.declared.Functional.{Functional}
 use Rattle.layout.specs.Places.{InTables}
-use Rattle.theory.proofs.Compliance.{no-escape}
-use Rattle.theory.proofs.Equality.{equality-compared}
-use Rattle.theory.proofs.Interpretations.{tested-finite}
-use Rattle.theory.proofs.ShortWay.{resolve-decide, short-agrees, short-uncrowded}
 use Rattle.meaning.specs.Answers.{ComparisonResult, comparisonAnswer, compliant, differs, equal, outside, refused, result, verdictAnswer}
 use Rattle.meaning.specs.Containment.{Decision, Refutes, contained, crowded, escapes, resolve, tooMany}
 use Rattle.meaning.specs.Countermodel.{countermodel}
@@ -35,6 +31,10 @@ use Rattle.short_way.specs.Stops.{PreparedPair, StopsBy}
 use Rattle.short_way.specs.declared.Stop.{Stop}
 use Rattle.meaning.specs.declared.Comparison.the-variants as comparison
 use Rattle.meaning.specs.declared.Verdict.the-variants as verdict
+use Rattle.theory.proofs.Compliance.{no-escape}
+use Rattle.theory.proofs.Equality.{equality-compared}
+use Rattle.theory.proofs.Interpretations.{tested-finite}
+use Rattle.theory.proofs.ShortWay.{resolve-decide, short-agrees, short-uncrowded}
 
 -- ---- the sides
 

@@ -16,8 +16,6 @@ use Rattle.extension.specs.Depths.{Known, Passes, isDue, rank}
 use Rattle.extension.specs.Sets.{Charted, Linked, onward}
 use Rattle.frames.proofs.Frames.{only-none, row-before, row-behind}
 use Rattle.frames.specs.Frames.{Cleared, Only, Span}
-use Rattle.theory.proofs.Links.{onward-le, tests}
-use Rattle.theory.proofs.Refusals.{cond-all}
 use Rattle.meaning.specs.Accepted.{depth}
 use Rattle.meaning.specs.Limits.{mostIndividuals, mostRecords, mostRoles}
 use Rattle.meaning.specs.Lists.{any, counting}
@@ -29,6 +27,8 @@ use Rattle.policy.specs.Terms.{conjunctsAt}
 use Rattle.satisfaction.proofs.Rows.{none-in}
 use Rattle.satisfaction.specs.Places.{putIn, recordWords}
 use Rattle.spans.proofs.Rows.{Row, row-inside, row-put, shuffle}
+use Rattle.theory.proofs.Links.{onward-le, tests}
+use Rattle.theory.proofs.Refusals.{cond-all}
 use Rattle.words.proofs.Laws.{named-within}
 use Rattle.words.specs.Sets.{inSet}
 

@@ -6,7 +6,6 @@ use mathlib.Core.Path.{_≡_, refl, sym}
 use native.Mathlib.Omega.{arith}
 use lib.Dec.{eqb}
 use Rattle.extension.specs.Sets.{Charted, edgeInto, own, reached}
-use Rattle.theory.proofs.Terms.{chain-at}
 use Rattle.meaning.specs.Accepted.{ChainOf, Here, Reads, depth, reads-class, reads-end, reads-impossible, reads-interval, reads-some}
 use Rattle.meaning.specs.Limits.{mostDepth, mostRoles}
 use Rattle.meaning.specs.Lists.{any}
@@ -18,6 +17,7 @@ use Rattle.meaning.specs.Vocabulary.{roleCount}
 use Rattle.policy.specs.Terms.{conjunctsAt}
 use Rattle.satisfaction.specs.Classes.{ownerOf}
 use Rattle.spans.specs.Values.{valueWithin, valued}
+use Rattle.theory.proofs.Terms.{chain-at}
 
 -- ---- of whom a conjunct holds
 

@@ -8,7 +8,6 @@ use lib.ListN.{length}
 use native.Mathlib.Omega.{arith}
 use borrow.Author.Tests.{not-false, not-true}
 use Rattle.extension.specs.Columns.{EdgeMarked, columnOf, columnPlace, columnsEnd, hands, maskOf, maskPlace}
-use Rattle.theory.proofs.Links.{tests}
 use Rattle.meaning.specs.Limits.{mostIndividuals, mostRoles, workSize}
 use Rattle.meaning.specs.Model.{factAt, factKind, factName, factOther, factOwner}
 use Rattle.meaning.specs.Records.{Name, isName}
@@ -17,6 +16,7 @@ use Rattle.satisfaction.proofs.Facts.{by-kind}
 use Rattle.satisfaction.specs.Places.{recordWords, setPlace}
 use Rattle.spans.proofs.Joining.{handed-none, joined-handed, owner-few}
 use Rattle.spans.specs.Joining.{Joinable, Joined}
+use Rattle.theory.proofs.Links.{tests}
 use Rattle.words.specs.Sets.{inSet}
 
 pub edge-joinable : (c w : List ℕ) {o j r at from mask : ℕ} → workSize ≤ length w → columnsEnd ≤ length c → Name mostIndividuals o → at ≡ setPlace o →

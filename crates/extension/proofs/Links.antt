@@ -8,8 +8,8 @@ use lib.Dec.{ltb}
 use native.Mathlib.Omega.{arith}
 use borrow.Author.Tests.{le-leb, le-ltb, lt-leb, lt-ltb}
 use Rattle.extension.specs.Sets.{Linked, Sized, onward}
-use Rattle.theory.proofs.Rules.{order}
 use Rattle.meaning.specs.Records.{Onward, lastOf}
+use Rattle.theory.proofs.Rules.{order}
 
 module _ (p : List ℕ) (k x : ℕ) where
   back : x ≤ k → 0 ≡ onward p k x

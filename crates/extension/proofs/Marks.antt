@@ -10,9 +10,6 @@ use borrow.Author.Tests.{eq-eqb, eqb-false, eqb-true, le-leb, lt-ltb, ne-eqb}
 use Rattle.extension.specs.Sets.{ClassMarked, MarkedTo, MembersMarked, Sized, early, inClass, marked, markedMember}
 use Rattle.frames.proofs.Frames.{only-none, only-span}
 use Rattle.frames.specs.Frames.{Cleared, Only, Span}
-use Rattle.theory.proofs.Counting.{in-counting}
-use Rattle.theory.proofs.Refusals.{cond-all}
-use Rattle.theory.proofs.Rules.{T-and, and-T, any-at, any-in, any-out, at-any, same-test}
 use Rattle.meaning.specs.Limits.{mostIndividuals, mostRecords}
 use Rattle.meaning.specs.Lists.{any, counting}
 use Rattle.meaning.specs.Model.{individualCount}
@@ -25,6 +22,9 @@ use Rattle.satisfaction.specs.Places.{classesOf, heightsAt, putIn, recordWords,
 use Rattle.spans.proofs.Joining.{at-set}
 use Rattle.spans.proofs.Rows.{row-inside, row-put, shuffle}
 use Rattle.spans.specs.Values.{ValuesMarked, valued}
+use Rattle.theory.proofs.Counting.{in-counting}
+use Rattle.theory.proofs.Refusals.{cond-all}
+use Rattle.theory.proofs.Rules.{T-and, and-T, any-at, any-in, any-out, at-any, same-test}
 use Rattle.words.specs.Sets.{inSet}
 
 -- ---- put in or not, by the test b

@@ -10,7 +10,6 @@ use Rattle.extension.proofs.Conjuncts.{Cut, cut, no-more}
 use Rattle.extension.proofs.Links.{link-same, onward-goes}
 use Rattle.extension.specs.Depths.{Known, Passes, rank}
 use Rattle.extension.specs.Sets.{Charted, Linked}
-use Rattle.theory.proofs.Links.{falls, onward-le}
 use Rattle.meaning.specs.Accepted.{depth}
 use Rattle.meaning.specs.Model.{factsOf, individualCount}
 use Rattle.meaning.specs.ModelCheck.{holds}
@@ -18,6 +17,7 @@ use Rattle.meaning.specs.Policy.{childOf, kindOf, nextOf}
 use Rattle.meaning.specs.Records.{Name, falling, lastOf}
 use Rattle.policy.specs.Terms.{conjunctsAt}
 use Rattle.satisfaction.specs.Places.{recordsOf}
+use Rattle.theory.proofs.Links.{falls, onward-le}
 use Rattle.words.specs.Sets.{inSet}
 
 -- record k waits no longer than its chain is deep

@@ -11,9 +11,6 @@ use Rattle.extension.specs.Depths.{AllMeasured, Passes, Settled, Topped}
 use Rattle.extension.specs.Sets.{AllMarked, Charted, Extended, Sized, Taken}
 use Rattle.frames.proofs.Frames.{only-span, only-then}
 use Rattle.frames.specs.Frames.{Only, Span}
-use Rattle.theory.proofs.Links.{passed, tests}
-use Rattle.theory.proofs.Rules.{order}
-use Rattle.theory.proofs.Wellformed.{accepted, accepted-counts}
 use Rattle.meaning.specs.Accepted.{depth}
 use Rattle.meaning.specs.Limits.{mostRoles}
 use Rattle.meaning.specs.Model.{factsOf}
@@ -24,6 +21,9 @@ use Rattle.meaning.specs.Vocabulary.{roleCount}
 use Rattle.policy.proofs.Terms.{Asking, asking-ends, asking-falls, asking-found, asking-on, asking-starts, asking-term}
 use Rattle.policy.specs.Terms.{conjunctsAt}
 use Rattle.satisfaction.specs.Places.{setsAt, setsEnd}
+use Rattle.theory.proofs.Links.{passed, tests}
+use Rattle.theory.proofs.Rules.{order}
+use Rattle.theory.proofs.Wellformed.{accepted, accepted-counts}
 
 long : (v p : List ℕ) → policyRefusal v p ≡ 0 → 6 ≤ length p
 unfolding policyRefusal

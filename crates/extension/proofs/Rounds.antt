@@ -16,8 +16,6 @@ use Rattle.extension.specs.Columns.{AllFilled, EdgesMarked, below, colum
 use Rattle.extension.specs.Depths.{AllMeasured, Measured, NoneDueTo, Settled, heightOf, isDue, rank}
 use Rattle.extension.specs.Sets.{AllMarked, Charted, Sized, early, edgeInto, onward, own, reached}
 use Rattle.frames.proofs.Frames.{only-behind, row-before}
-use Rattle.theory.proofs.Links.{tests}
-use Rattle.theory.proofs.Rules.{order}
 use Rattle.meaning.specs.Accepted.{depth}
 use Rattle.meaning.specs.Limits.{mostRoles}
 use Rattle.meaning.specs.Lists.{any}
@@ -30,6 +28,8 @@ use Rattle.satisfaction.proofs.Facts.{by-kind}
 use Rattle.satisfaction.specs.Classes.{Interpreted, ownerOf}
 use Rattle.satisfaction.specs.Places.{heightPlace, recordWords, recordsOf, setPlace}
 use Rattle.spans.proofs.Joining.{any-stated, never}
+use Rattle.theory.proofs.Links.{tests}
+use Rattle.theory.proofs.Rules.{order}
 use Rattle.words.proofs.Laws.{named-within}
 use Rattle.words.specs.Sets.{inSet}
 

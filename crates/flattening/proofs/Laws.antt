@@ -10,8 +10,6 @@ use native.Mathlib.Omega.{arith}
 use borrow.Author.Tests.{eq-eqb, le-leb}
 use Rattle.flattening.proofs.Steps.{word-beside, word-early}
 use Rattle.flattening.specs.Flat.{flatWordAt, flatWords}
-use Rattle.theory.proofs.Wellformed.{accepted-size}
-use Rattle.theory.proofs.Rules.{order}
 use Rattle.meaning.specs.Accepted.{ChainOf}
 use Rattle.meaning.specs.Lists.{counting}
 use Rattle.meaning.specs.NormalForm.{normalForm}
@@ -20,6 +18,8 @@ use Rattle.meaning.specs.Stated.{isBelow}
 use Rattle.meaning.specs.Vocabulary.{axiomKind, axiomLeft, axiomRight, classCount, featureCount, roleCount, vocabularyOf}
 use Rattle.meaning.specs.Vocabulary.{vocabularyRefusal}
 use Rattle.spelling.proofs.Flattened.{Flat, flat-accepted, flat-vocabulary, flattened, flattened-below, flattened-normal}
+use Rattle.theory.proofs.Wellformed.{accepted-size}
+use Rattle.theory.proofs.Rules.{order}
 
 -- ---- the words
 

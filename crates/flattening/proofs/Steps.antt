@@ -8,8 +8,8 @@ use native.Mathlib.Numerals.{add-one}
 use native.Mathlib.Omega.{arith}
 use borrow.Author.Tests.{eq-eqb, le-leb, lt-leb, ne-eqb}
 use Rattle.flattening.specs.Flat.{Flattens, flatWordAt, flatWords}
-use Rattle.theory.proofs.Counting.{counted-more}
 use Rattle.meaning.specs.Lists.{counting}
+use Rattle.theory.proofs.Counting.{counted-more}
 
 -- ---- `flat_word`: a word of the header, none that is a second name, one in a record of another kind, one of kind 1
 

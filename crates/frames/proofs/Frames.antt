@@ -7,9 +7,9 @@ use native.Mathlib.Omega.{arith}
 use lib.ListN.{drop, getD, length, length-drop, length-set, length-take, set}
 use lib.Seq.{ext-getD, getD-drop, getD-set-other, getD-take}
 use Rattle.frames.specs.Frames.{Only, Span}
-use Rattle.theory.proofs.Rules.{order}
 use Rattle.frames.proofs.Rows.{length-put, put-drop, put-take}
 use Rattle.frames.specs.Rows.{putAt, rowAt}
+use Rattle.theory.proofs.Rules.{order}
 
 -- ---- any places
 

@@ -11,12 +11,12 @@ use native.Mathlib.Omega.{arith}
 use borrow.Author.Tests.{eqb-false, eqb-true, le-ltb, lt-ltb}
 use Rattle.frames.proofs.Frames.{only-behind, only-none, only-set, only-span}
 use Rattle.frames.specs.Frames.{Cleared, Only, Span}
-use Rattle.theory.proofs.Refusals.{orElse-early, orElse-first, orElse-zero, work-early}
-use Rattle.theory.proofs.Rules.{order}
 use Rattle.meaning.specs.Answers.{Answer, refused}
 use Rattle.meaning.specs.Limits.{workSize}
 use Rattle.meaning.specs.Operations.{Early, Outcome, comesLate, outputAfter, refuses, unless, workAfter, workRefusal, zeroed}
 use Rattle.meaning.specs.Records.{orElse}
+use Rattle.theory.proofs.Refusals.{orElse-early, orElse-first, orElse-zero, work-early}
+use Rattle.theory.proofs.Rules.{order}
 
 -- ---- 21
 

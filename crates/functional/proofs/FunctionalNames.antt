@@ -6,12 +6,12 @@ use mathlib.Core.List.{List}
 use mathlib.Core.Path.{_∙_, _≡_, ap, sym}
 use native.Mathlib.Omega.{arith}
 use Rattle.functional.specs.FunctionalNames.{FunctionalNames}
-use Rattle.theory.proofs.Defaults.{accepted-feature, accepted-role}
-use Rattle.theory.proofs.Wellformed.{accepted-counts, vocabulary-sound}
 use Rattle.meaning.specs.Limits.{mostRoles}
 use Rattle.meaning.specs.Records.{isName}
 use Rattle.meaning.specs.Stated.{isManyFeature, isManyRole}
 use Rattle.meaning.specs.Vocabulary.{axiomsOf, featureCount, isNamed, roleCount, vocabularyOf, vocabularyRefusal}
+use Rattle.theory.proofs.Defaults.{accepted-feature, accepted-role}
+use Rattle.theory.proofs.Wellformed.{accepted-counts, vocabulary-sound}
 use Rattle.vocabulary.proofs.Names.{Settable, many-features, many-roles, names-in}
 use Rattle.vocabulary.specs.Names.{Noted}
 use Rattle.words.proofs.Others.{in-others}

@@ -3,8 +3,8 @@ use Prim.Native.Nat.{ℕ}
 use lib.Dec.{T, leb, leb→le, le→leb}
 use native.Mathlib.Omega.{arith}
 use Rattle.intervals.specs.Touching.{touches}
-use Rattle.theory.proofs.Rules.{T-and, and-T}
 use Rattle.meaning.specs.Intervals.{NonEmpty, isInside}
+use Rattle.theory.proofs.Rules.{T-and, and-T}
 
 pub part-touches : (lo hi low high from to : ℕ) → NonEmpty from to → T (isInside low high from to) → T (isInside lo hi from to) → T (touches lo hi low high)
 part-touches lo hi low high from to n s t =

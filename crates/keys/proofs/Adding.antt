@@ -7,10 +7,10 @@ use lib.Arith.{lt-of-le-ne}
 use lib.ListN.{drop, drop-of-length-le, getD, length, length-append, length-set, length-take, set, take}
 use lib.Seq.{append-snoc, drop-cons, getD-set-other, getD-take, take-suc-set, take-take}
 use borrow.Author.Tests.{eq-eqb, le-ltb, lt-ltb, ne-eqb}
-use Rattle.theory.proofs.Points.{inserts-sorted}
 use Rattle.meaning.specs.Splitting.{Sorted, insert, insertAll}
 use Rattle.keys.proofs.Ranking.{smaller}
 use Rattle.keys.specs.Keys.{Gathered, Ranked}
+use Rattle.theory.proofs.Points.{inserts-sorted}
 
 -- ---- keys after keys
 

@@ -6,9 +6,9 @@ use mathlib.Core.Path.{_≡_, refl, sym}
 use native.Mathlib.Omega.{arith}
 use lib.Dec.{eqb}
 use Rattle.keys.specs.Keys.{keyOf, valueCount}
+use Rattle.meaning.specs.Intervals.{isWithin}
 use Rattle.theory.proofs.Links.{tests}
 use Rattle.theory.proofs.Rules.{order}
-use Rattle.meaning.specs.Intervals.{isWithin}
 
 pub same-key : (f x g y : ℕ) → x < valueCount → y < valueCount → keyOf f x ≡ keyOf g y → (f ≡ g) × (x ≡ y)
 same-key f x g y a b e = go (order f g) (order g f)

@@ -6,11 +6,11 @@ use mathlib.Core.Path.{_∙_, _≡_, refl}
 use native.Mathlib.Omega.{arith}
 use lib.ListN.{getD, length, length-take, take}
 use lib.Seq.{getD-take}
-use Rattle.theory.proofs.Points.{above}
-use Rattle.theory.proofs.Rules.{any-cases, any-none, order}
 use Rattle.meaning.specs.Lists.{_∈_, here, there}
 use Rattle.meaning.specs.Splitting.{Rising, Sorted}
 use Rattle.keys.specs.Keys.{Ranked}
+use Rattle.theory.proofs.Points.{above}
+use Rattle.theory.proofs.Rules.{any-cases, any-none, order}
 
 -- ---- by halving
 

@@ -13,13 +13,13 @@ use Rattle.layout.proofs.Entries.{held-below-length, held-length}
 use Rattle.layout.specs.Combination.{BelowBy, Combined, CombinedBy, chosenFrom}
 use Rattle.layout.specs.Tables.{ConstraintsStand, Held, RowsStand, Tabled, heldBelow, heldBy, holderAt, pieceAt}
 use Rattle.layout.specs.declared.Tables.{Tables}
-use Rattle.theory.proofs.Digits.{fill, fillConstraints, fillSuccessors}
-use Rattle.theory.proofs.Rules.{order}
 use Rattle.meaning.specs.Countermodel.{size}
 use Rattle.meaning.specs.Intervals.{Constraint}
 use Rattle.meaning.specs.NormalForm.{Form, Successors, none, successor}
 use Rattle.meaning.specs.Splitting.{constraintsBelow}
 use Rattle.meaning.specs.Vocabulary.{Vocabulary}
+use Rattle.theory.proofs.Digits.{fill, fillConstraints, fillSuccessors}
+use Rattle.theory.proofs.Rules.{order}
 
 pub intervals-split : (w : List ℕ) (m : ℕ) (l k : List Held) → ConstraintsStand w m (l ++ k) → ConstraintsStand w m l × ConstraintsStand w (m + length l) k
 intervals-split w m [] k s = (tt, subst (λ (i : ℕ). ConstraintsStand w i k) (omega arith) s)

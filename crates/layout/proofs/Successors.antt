@@ -8,11 +8,11 @@ use borrow.Author.Tests.{eq-eqb, le-ltb, lt-ltb, ne-eqb}
 use Rattle.layout.specs.Combination.{BelowBy, IndividualBy, Kin, nextSuccessor}
 use Rattle.layout.specs.Tables.{parentAt}
 use Rattle.layout.specs.declared.Tables.{Tables}
-use Rattle.theory.proofs.Rules.{order}
 use Rattle.meaning.specs.Countermodel.{size}
 use Rattle.meaning.specs.Intervals.{Constraint}
 use Rattle.meaning.specs.NormalForm.{Node, Successors, none, successor}
 use Rattle.meaning.specs.Vocabulary.{Vocabulary}
+use Rattle.theory.proofs.Rules.{order}
 
 -- ---- one row after another
 

@@ -1,4 +1,4 @@
-// The three series of names, and the answers of the operations. The definitions stand in specs/, the theorems in proofs/.
+// The three series of names, and the answers of the operations. The definitions stand in specs/, the theorems about them in crate theory.
 
 pub mod limits;
 

@@ -8,8 +8,6 @@ use lib.Dec.{eqb}
 use lib.ListN.{length}
 use native.Mathlib.Omega.{arith}
 use borrow.Author.Tests.{eqb-true}
-use Rattle.theory.proofs.Links.{falling-le, passed, tests}
-use Rattle.theory.proofs.Wellformed.{accepted-counts}
 use Rattle.meaning.specs.Limits.{mostClasses}
 use Rattle.meaning.specs.Model.{Fact, factAt, factFits, factKind, factName, factNext, factOther, factsOf, firstFact, individualCount}
 use Rattle.meaning.specs.Model.{modelRefusal, soundFact}
@@ -18,6 +16,8 @@ use Rattle.meaning.specs.Vocabulary.{classCount, featureCount, roleCount, vocab
 use Rattle.model.specs.Chain.{Readable, Stated, factLinks}
 use Rattle.records.proofs.Chains.{Walking, read-along, walking-ends, walking-falls, walking-on, walking-sound}
 use Rattle.records.proofs.Chains.{walking-starts}
+use Rattle.theory.proofs.Links.{falling-le, passed, tests}
+use Rattle.theory.proofs.Wellformed.{accepted-counts}
 
 module _ (v m : List ℕ) (most : classCount v ≤ mostClasses) where
   kind-named : (k : ℕ) → factFits v m k ≡ true → Name 3 (factKind m k)

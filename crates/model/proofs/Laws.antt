@@ -7,13 +7,13 @@ use lib.Dec.{eqb, leb}
 use lib.ListN.{getD, length}
 use native.Mathlib.Omega.{arith}
 use borrow.Author.Tests.{ne-eqb, not-false, not-true}
-use Rattle.theory.proofs.Links.{bounds, falling-le, tests}
 use Rattle.meaning.specs.Limits.{mostIndividuals, mostModelWords}
 use Rattle.meaning.specs.Model.{factFits, factKind, factName, factNext, factOther, factOwner, factsRefusal, firstFact, headedModel}
 use Rattle.meaning.specs.Model.{individualCount, modelRefusal, soundFact}
 use Rattle.meaning.specs.Records.{Onward, falling, isName, isOnward, isSized, lastOf}
 use Rattle.meaning.specs.Vocabulary.{classCount, featureCount, roleCount}
 use Rattle.records.proofs.Chains.{Reading, reading-ends, reading-falls, reading-on, reading-starts, reading-stops}
+use Rattle.theory.proofs.Links.{bounds, falling-le, tests}
 
 -- ---- a record
 

@@ -10,9 +10,6 @@ use Rattle.extension.specs.Sets.{Extended}
 use Rattle.frames.proofs.Frames.{only-span, only-then}
 use Rattle.frames.proofs.Work.{Done, done-answered, done-before, done-full, done-refused, in-order, outputs-none}
 use Rattle.frames.specs.Frames.{Cleared, Only, Span}
-use Rattle.theory.proofs.Checking.{check-judged}
-use Rattle.theory.proofs.Refusals.{accepted-input, input-early, model-early, orElse-assoc, orElse-early, orElse-first, orElse-zero}
-use Rattle.theory.proofs.Refusals.{says-unless}
 use Rattle.meaning.specs.Answers.{CheckResult, checkedAnswer, no, result, yes}
 use Rattle.meaning.specs.Limits.{workSize}
 use Rattle.meaning.specs.Model.{modelRefusal}
@@ -24,6 +21,9 @@ use Rattle.meaning.specs.declared.Checked.{Checked}
 use Rattle.model_check.specs.Judging.{Checkable, ModelCheckPost, Parted, isRefuted, tablesRefusal}
 use Rattle.satisfaction.specs.Classes.{Satisfied}
 use Rattle.meaning.specs.declared.Checked.the-variants as checked
+use Rattle.theory.proofs.Checking.{check-judged}
+use Rattle.theory.proofs.Refusals.{accepted-input, input-early, model-early, orElse-assoc, orElse-early, orElse-first, orElse-zero}
+use Rattle.theory.proofs.Refusals.{says-unless}
 
 -- ---- what is refuted
 

@@ -13,7 +13,6 @@ use Rattle.frames.proofs.Frames.{only-none, only-set, only-then, only-wider}
 use Rattle.layout.proofs.Entries.{constraints-kept}
 use Rattle.layout.specs.Places.{individualsAt, pendingAt, rowPlace, tablesEnd}
 use Rattle.layout.specs.Tables.{heldBy, intervalOf}
-use Rattle.theory.proofs.Rules.{all-append}
 use Rattle.meaning.specs.Intervals.{Constraint}
 use Rattle.meaning.specs.Limits.{mostClasses, mostRecords}
 use Rattle.meaning.specs.Lists.{any, cons, nil}
@@ -25,6 +24,7 @@ use Rattle.normal_form.specs.Parts.{Arm, armAt}
 use Rattle.normal_form.specs.Parts.{live, wordsAt}
 use Rattle.normal_form.specs.Steps.{Adds, Entry, Fresh, Placed, Sure, Told, constrained, front, pended}
 use Rattle.normal_form.specs.declared.Draft.{Draft}
+use Rattle.theory.proofs.Rules.{all-append}
 use Rattle.words.specs.Sets.{inSet}
 
 -- ---- adding

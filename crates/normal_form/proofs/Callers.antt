@@ -5,12 +5,12 @@ use mathlib.Core.Path.{_≡_}
 use lib.ListN.{length}
 use native.Mathlib.Omega.{arith}
 use Rattle.layout.specs.Places.{tablesEnd}
-use Rattle.theory.proofs.Wellformed.{accepted-counts}
 use Rattle.meaning.specs.Accepted.{NamedChain}
 use Rattle.meaning.specs.Policy.{Chain, class, end, impossible, interval, some, termAt}
 use Rattle.meaning.specs.Vocabulary.{vocabularyRefusal}
 use Rattle.normal_form.specs.Tables.{Fit}
 use Rattle.policy.specs.Terms.{TermOf}
+use Rattle.theory.proofs.Wellformed.{accepted-counts}
 
 named-more : {N R F N′ R′ F′ : ℕ} → N ≤ N′ → R ≤ R′ → F ≤ F′ → (c : Chain) → NamedChain N R F c → NamedChain N′ R′ F′ c
 named-more n r f end h = tt

@@ -12,9 +12,6 @@ use Rattle.closure.specs.Rows.{rowOf}
 use Rattle.functional.specs.declared.Functional.{Functional}
 use Rattle.layout.specs.Places.{roleRow, rowPlace, tablesEnd}
 use Rattle.layout.specs.Tables.{Above}
-use Rattle.theory.proofs.Bounds.{rangePairs-named}
-use Rattle.theory.proofs.Rules.{all-append, any-join, head, tail}
-use Rattle.theory.proofs.Wellformed.{accepted-counts}
 use Rattle.meaning.specs.Accepted.{ChainOf, count}
 use Rattle.meaning.specs.Intervals.{Constraint}
 use Rattle.meaning.specs.Limits.{mostClasses, mostFeatures, mostRoles}
@@ -29,6 +26,9 @@ use Rattle.normal_form.specs.Parts.{Arm, bottomHere, bottomHereAll, clas
 use Rattle.normal_form.specs.Parts.{intervalsAll, intervalsIn, joins, parts, placeAll, roles, rolesAll, successorsOf, weigh}
 use Rattle.normal_form.specs.Steps.{ArmOf, Told, front, startOf}
 use Rattle.preparation.specs.Prepared.{Prepared}
+use Rattle.theory.proofs.Bounds.{rangePairs-named}
+use Rattle.theory.proofs.Rules.{all-append, any-join, head, tail}
+use Rattle.theory.proofs.Wellformed.{accepted-counts}
 use Rattle.words.proofs.Laws.{in-zeros}
 use Rattle.words.specs.Rows.{classWords}
 use Rattle.words.specs.Sets.{inSet}

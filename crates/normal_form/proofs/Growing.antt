@@ -11,7 +11,6 @@ use Rattle.functional.specs.declared.Functional.{Functional}
 use Rattle.layout.proofs.Entries.{constraints-append, constraints-kept, held-below-length, held-length, row-stays, rows-kept}
 use Rattle.layout.specs.Tables.{ConstraintsStand, RowStands, RowsStand, heldBelow, heldBy}
 use Rattle.layout.specs.declared.Tables.{Tables}
-use Rattle.theory.proofs.Rules.{head, tail}
 use Rattle.meaning.specs.Countermodel.{size}
 use Rattle.meaning.specs.Limits.{mostRecords}
 use Rattle.meaning.specs.Lists.{All, cons, filter}
@@ -34,6 +33,7 @@ use Rattle.preparation.proofs.Laws.{prepared-kept}
 use Rattle.preparation.specs.Prepared.{Prepared}
 use Rattle.words.specs.Sets.{inSet}
 use Rattle.normal_form.proofs.Nodes.{Sums, number, sums}
+use Rattle.theory.proofs.Rules.{head, tail}
 
 -- ---- an individual, those below it and those after it
 

@@ -14,7 +14,6 @@ use Rattle.frames.specs.Frames.{Only, Span}
 use Rattle.functional.specs.declared.Functional.{Functional}
 use Rattle.layout.proofs.Entries.{constraints-kept}
 use Rattle.layout.specs.Tables.{ConstraintsStand, heldBy}
-use Rattle.theory.proofs.Rules.{head, tail}
 use Rattle.meaning.specs.Intervals.{Constraint}
 use Rattle.meaning.specs.Lists.{cons, filter}
 use Rattle.meaning.specs.Policy.{Chain, childOf}
@@ -26,6 +25,7 @@ use Rattle.normal_form.specs.Parts.{roles, rolesAll, wordsAt}
 use Rattle.normal_form.specs.Steps.{Adding, Adds, Entry, Gathering, Good, HasRoomFor, HasRoomForAll, Gathered, Gatherable, Sure, front, restAt}
 use Rattle.normal_form.specs.Steps.{struck}
 use Rattle.normal_form.specs.declared.Draft.{Draft}
+use Rattle.theory.proofs.Rules.{head, tail}
 use Rattle.words.specs.Sets.{inSet}
 
 -- ---- the pending words

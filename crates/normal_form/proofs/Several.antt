@@ -15,13 +15,13 @@ use Rattle.frames.specs.Rows.{putAt, rowAt}
 use Rattle.functional.specs.declared.Functional.{Functional}
 use Rattle.layout.specs.Places.{InTables, pendingAt}
 use Rattle.layout.specs.declared.Tables.{Tables}
-use Rattle.theory.proofs.Rules.{head, tail}
 use Rattle.meaning.specs.Lists.{All, cons, nil}
 use Rattle.normal_form.proofs.Laws.{in-tables}
 use Rattle.normal_form.specs.Parts.{Arm, armAt, live, weigh, wordsAt}
 use Rattle.normal_form.specs.Steps.{Built, Entry, Room, Sure, restAt}
 use Rattle.normal_form.specs.Tables.{FitAll, NormalisedAll}
 use Rattle.preparation.proofs.Laws.{prepared-kept}
+use Rattle.theory.proofs.Rules.{head, tail}
 
 words-row : (w : List ℕ) (b n : ℕ) → b + n ≤ length w → wordsAt w b n ≡ rowAt n w b
 words-row w b zero h = refl

@@ -8,8 +8,6 @@ use native.Mathlib.Omega.{arith}
 use lib.ListN.{getD, length, length-set, set}
 use lib.Seq.{getD-set-other, getD-set-same}
 use Rattle.layout.specs.Tables.{HasEntry, constraintAt, intervalOf}
-use Rattle.theory.proofs.Count.{pieces-some, product-some}
-use Rattle.theory.proofs.Rules.{order}
 use Rattle.meaning.specs.Intervals.{NonEmpty}
 use Rattle.meaning.specs.Limits.{mostCombinations}
 use Rattle.meaning.specs.Lists.{counting}
@@ -18,6 +16,8 @@ use Rattle.meaning.specs.Splitting.{pieces, product}
 use Rattle.odometer.specs.Odometer.{Counted, PiecesCountable}
 use Rattle.splitting.specs.Ends.{Ends}
 use Rattle.splitting.specs.Constraints.{firstConstraints, pieceCount}
+use Rattle.theory.proofs.Count.{pieces-some, product-some}
+use Rattle.theory.proofs.Rules.{order}
 
 -- one factor is at most the product
 pub factor-most : (Q : Policy) (w : List ℕ) (n i : ℕ) → i < n → pieceCount Q w i ≤ product Q (firstConstraints w n)

@@ -10,15 +10,15 @@ use borrow.Author.Tests.{ltb-true}
 use lib.Dec.{leb, leb→le, ltb}
 use lib.ListN.{length}
 use lib.Pow.{pow-mono}
-use Rattle.theory.proofs.Count.{count-pieces, pieces-some}
-use Rattle.theory.proofs.Points.{insert-all, insert-here, inserts-all, inserts-there, lo-point, points-sorted}
-use Rattle.theory.proofs.Rules.{T-and, all-filter, all-mono, any-cases, any-none, head, order, tail}
 use Rattle.meaning.specs.Limits.{mostCombinations}
 use Rattle.meaning.specs.Splitting.{wideNeighbours}
 use Rattle.meaning.specs.Intervals.{Constraint, Within}
 use Rattle.meaning.specs.Lists.{All, _∈_, cons, filter, flatMap, nil}
 use Rattle.meaning.specs.Policy.{Policy}
 use Rattle.meaning.specs.Splitting.{Sorted, ends, insert, pieces, points, product}
+use Rattle.theory.proofs.Count.{count-pieces, pieces-some}
+use Rattle.theory.proofs.Points.{insert-all, insert-here, inserts-all, inserts-there, lo-point, points-sorted}
+use Rattle.theory.proofs.Rules.{T-and, all-filter, all-mono, any-cases, any-none, head, order, tail}
 
 two-members : (l : List ℕ) (a b : ℕ) → a ∈ l → b ∈ l → a < b → 2 ≤ length l
 two-members [] a b p q h = absurd (any-none p)

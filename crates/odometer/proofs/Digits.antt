@@ -10,9 +10,9 @@ use borrow.Author.Tests.{eq-eqb}
 use lib.Bits.{bitOr}
 use lib.Dec.{T, eqb, eqb→eq}
 use lib.ListN.{getD, length}
+use Rattle.odometer.specs.Digits.{Agree, Behind, Covers, Valid, inMask}
 use Rattle.theory.proofs.Counting.{below-some, some-below}
 use Rattle.theory.proofs.Rules.{T-and, isTrue, order, same-test}
-use Rattle.odometer.specs.Digits.{Agree, Behind, Covers, Valid, inMask}
 use Rattle.words.proofs.Bits.{bit-or}
 use Rattle.words.specs.Sets.{testBit}
 

@@ -11,13 +11,13 @@ use lib.Dec.{ltb}
 use lib.ListN.{List·getD-append, getD, length, length-append, length-set, set, take}
 use lib.Seq.{getD-append-add, take-suc-set}
 use Rattle.layout.specs.Tables.{constraintAt}
-use Rattle.theory.proofs.Counting.{counted-more, counting-append}
-use Rattle.theory.proofs.Rules.{order}
 use Rattle.meaning.specs.Intervals.{Constraint}
 use Rattle.meaning.specs.Lists.{counting}
 use Rattle.odometer.proofs.Dials.{dialCount, dials-few}
 use Rattle.odometer.specs.Odometer.{Dialled, DialsFound, Limited, mostDials}
 use Rattle.splitting.specs.Constraints.{firstConstraints}
+use Rattle.theory.proofs.Counting.{counted-more, counting-append}
+use Rattle.theory.proofs.Rules.{order}
 
 -- ---- how many there are
 

@@ -9,9 +9,9 @@ use native.Mathlib.Nat.{add-mul, add-suc, add-zero, div-add-mod', div-lt-iff-lt-
 use native.Mathlib.Omega.{arith}
 use borrow.Author.Tests.{eq-eqb, ne-eqb}
 use lib.Dec.{eqb}
-use Rattle.theory.proofs.Rules.{order}
 use Rattle.meaning.specs.Lists.{At, atHere, atThere, firstFailing, found, nowhere}
 use Rattle.odometer.specs.Digits.{span, value}
+use Rattle.theory.proofs.Rules.{order}
 
 -- ---- digits
 

@@ -11,8 +11,6 @@ use lib.ListN.{getD, length}
 use Rattle.frames.proofs.Frames.{only-none}
 use Rattle.frames.specs.Frames.{Only}
 use Rattle.layout.specs.Tables.{Pieces, constraintAt}
-use Rattle.theory.proofs.Odometer.{at-lt}
-use Rattle.theory.proofs.Rules.{order}
 use Rattle.meaning.specs.Limits.{mostCombinations}
 use Rattle.meaning.specs.Policy.{Policy}
 use Rattle.meaning.specs.Splitting.{pieces}
@@ -25,6 +23,8 @@ use Rattle.splitting.proofs.Callers.{splittable-kept}
 use Rattle.splitting.proofs.Storing.{constraint-kept, constraints-kept}
 use Rattle.splitting.specs.Ends.{Ends}
 use Rattle.splitting.specs.Constraints.{pieceCount}
+use Rattle.theory.proofs.Odometer.{at-lt}
+use Rattle.theory.proofs.Rules.{order}
 
 -- where dial d stands; behind the last, the end
 abbrev pub bound : List ℕ → ℕ → ℕ → ℕ

@@ -15,8 +15,6 @@ use Rattle.frames.proofs.Frames.{only-then, only-wider}
 use Rattle.frames.specs.Frames.{Only}
 use Rattle.layout.proofs.Entries.{piece-same}
 use Rattle.layout.specs.Tables.{Pieces, constraintAt, pieceAt}
-use Rattle.theory.proofs.Odometer.{at-lt}
-use Rattle.theory.proofs.Rules.{order}
 use Rattle.meaning.specs.Limits.{mostCombinations}
 use Rattle.meaning.specs.Lists.{At}
 use Rattle.meaning.specs.Policy.{Policy}
@@ -31,6 +29,8 @@ use Rattle.odometer.specs.Odometer.{Outcome, Skippable, Skipped, Standin
 use Rattle.splitting.proofs.Storing.{constraint-kept}
 use Rattle.splitting.specs.Ends.{Ends}
 use Rattle.splitting.specs.Constraints.{pieceCount}
+use Rattle.theory.proofs.Odometer.{at-lt}
+use Rattle.theory.proofs.Rules.{order}
 use Rattle.words.specs.Sets.{testBit}
 
 -- the digits c of the constraints before i, the next piece at i, and 0 from there on

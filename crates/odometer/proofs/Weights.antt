@@ -5,12 +5,12 @@ use mathlib.Core.Path.{_∙_, _≡_, ap, refl, sym}
 use native.Mathlib.Nat.{add-suc, add-zero, mul-assoc, mul-comm, mul-le-mul-right, mul-pos, one-mul}
 use native.Mathlib.Omega.{arith}
 use Rattle.layout.specs.Tables.{constraintAt}
-use Rattle.theory.proofs.Count.{pieces-some}
 use Rattle.meaning.specs.Lists.{counting}
 use Rattle.meaning.specs.Policy.{Policy}
 use Rattle.meaning.specs.Splitting.{product}
 use Rattle.odometer.specs.Digits.{span}
 use Rattle.splitting.specs.Constraints.{firstConstraints, pieceCount}
+use Rattle.theory.proofs.Count.{pieces-some}
 
 module _ (s : ℕ → ℕ) where
   pub span-front : (m k : ℕ) → span s m (suc k) ≡ s m * span s (suc m) k

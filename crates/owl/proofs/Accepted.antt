@@ -8,7 +8,6 @@ use lib.ListN.{getD, length}
 use native.Mathlib.Omega.{arith}
 use borrow.Author.Tests.{eqb-false, not-true}
 use Rattle.declarations.specs.Names.{declared, isKnown, numberIn, soundNames}
-use Rattle.theory.proofs.Links.{bounds}
 use Rattle.meaning.specs.Accepted.{NamedAxiom}
 use Rattle.meaning.specs.Lists.{All, all, cons, flatMap, nil}
 use Rattle.meaning.specs.Program.{bytes}
@@ -19,6 +18,7 @@ use Rattle.owl.specs.Owl.{axiomOf, axiomsBy, axiomsIn}
 use Rattle.statements.specs.Forms.{Front, Parsed, Symbol, Row, Sort, Statement, Taken, Use, after, afterOpening, ahead, class, declares, exactly, feature}
 use Rattle.statements.specs.Forms.{firstForm, forms, front, frontOf, isLast, left, name, none, nothing, ontology, opening, orLater, parsed, role}
 use Rattle.statements.specs.Forms.{statements, statementsFrom, states, taken, takeSymbols, withName, wrong}
+use Rattle.theory.proofs.Links.{bounds}
 use Rattle.tokens.specs.Tokens.{Token, isNameToken, sameBytes}
 
 -- ---- the sorts of a statement's names are those of its form's places

@@ -6,17 +6,17 @@ use mathlib.Core.List.{List, [], _++_, append-nil, map}
 use mathlib.Core.Path.{_∙_, _≡_, ap, ap₂, refl}
 use lib.Dec.{T, eqb, eqb→eq}
 use lib.Ieee.Bits.{is-false, is-true}
-use Rattle.theory.proofs.Defaults.{functional-feature, functional-role, in-unnamed, unnamed-names}
-use Rattle.theory.proofs.Links.{bounds}
-use Rattle.theory.proofs.Rules.{T-and, all-append, all-at, all-flatMap, all-map, all-mono, any-at, any-in, any-mono, any-out, eqb-of, isFalse, isTrue}
-use Rattle.theory.proofs.Rules.{flatMap-append, notTrue, same-test}
-use Rattle.theory.proofs.Stated.{functional-feature-named, functional-role-named}
 use Rattle.meaning.specs.Accepted.{NamedAxiom}
 use Rattle.meaning.specs.Lists.{All, _∈_, any}
 use Rattle.meaning.specs.Records.{Name, isName}
 use Rattle.meaning.specs.Stated.{isFunctionalFeature, isFunctionalRole, isManyFeature, isManyRole}
 use Rattle.meaning.specs.Vocabulary.{Axiom, isNamed, isOpposed, manyFeature, manyRole, nameBy, namesBy, unnamed}
 use Rattle.owl.proofs.Lists.{flatMap-again, flatMap-none}
+use Rattle.theory.proofs.Defaults.{functional-feature, functional-role, in-unnamed, unnamed-names}
+use Rattle.theory.proofs.Links.{bounds}
+use Rattle.theory.proofs.Rules.{T-and, all-append, all-at, all-flatMap, all-map, all-mono, any-at, any-in, any-mono, any-out, eqb-of, isFalse, isTrue}
+use Rattle.theory.proofs.Rules.{flatMap-append, notTrue, same-test}
+use Rattle.theory.proofs.Stated.{functional-feature-named, functional-role-named}
 
 -- ---- one series: L makes functional what l does, and many-valued all else of its n names
 

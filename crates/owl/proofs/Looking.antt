@@ -11,7 +11,6 @@ use Rattle.declarations.proofs.Passing.{by-axiom, by-declaration}
 use Rattle.declarations.specs.Names.{declared, isKnown, needed, numberIn}
 use Rattle.declarations.specs.Passes.{Sorted, baseOf}
 use Rattle.declarations.specs.declared.Counts.{Counts}
-use Rattle.theory.proofs.Links.{bounds}
 use Rattle.meaning.specs.Limits.{mostClasses, mostFeatures, mostRoles}
 use Rattle.name_table.proofs.Numbers.{number-of-range}
 use Rattle.name_table.specs.Numbers.{numberOf}
@@ -20,6 +19,7 @@ use Rattle.owl.specs.Passes.{Here, Ready, firstNumber, secondNumber, sta
 use Rattle.statements.specs.Forms.{Sort, Statement, class, feature, role}
 use Rattle.statements.specs.Found.{itemAt, statementOf}
 use Rattle.statements.specs.declared.Item.{Item}
+use Rattle.theory.proofs.Links.{bounds}
 use Rattle.tokens.specs.Places.{part}
 use Rattle.tokens.specs.Tokens.{Token}
 

@@ -8,7 +8,6 @@ use native.Mathlib.Omega.{arith}
 use borrow.Author.Tests.{eq-eqb, ne-eqb}
 use Rattle.declarations.proofs.Passing.{by-statement}
 use Rattle.declarations.specs.Names.{isKnown}
-use Rattle.theory.proofs.Rules.{flatMap-append}
 use Rattle.meaning.specs.Lists.{flatMap}
 use Rattle.meaning.specs.Vocabulary.{Axiom, nameBy, namesBy}
 use Rattle.owl.proofs.Looking.{firstOf, known-both, known-declared, known-feature, known-missing, known-role}
@@ -17,6 +16,7 @@ use Rattle.owl.specs.Passes.{Here, Noted, firstNumber, secondNumber, sta
 use Rattle.statements.specs.Forms.{Statement}
 use Rattle.statements.specs.Found.{itemAt, statementOf}
 use Rattle.statements.specs.declared.Item.{Item}
+use Rattle.theory.proofs.Rules.{flatMap-append}
 use Rattle.tokens.specs.Tokens.{Token}
 use Rattle.words.specs.Sets.{including, includingAll}
 

@@ -8,7 +8,6 @@ use lib.ListN.{length, replicate}
 use native.Mathlib.Omega.{arith}
 use Rattle.declarations.specs.Names.{soundNames}
 use Rattle.declarations.specs.declared.Counts.{Counts}
-use Rattle.theory.proofs.Rules.{all-mono}
 use Rattle.meaning.specs.Limits.{mostRoles}
 use Rattle.meaning.specs.Lists.{All, any, counting}
 use Rattle.meaning.specs.Records.{Name}
@@ -19,6 +18,7 @@ use Rattle.owl.proofs.Lists.{filter-alike}
 use Rattle.owl.proofs.Looking.{feature-size, role-size, sizes-small}
 use Rattle.owl.specs.Owl.{axiomsIn}
 use Rattle.owl.specs.Passes.{Many, Noted, Ready, statementsOf}
+use Rattle.theory.proofs.Rules.{all-mono}
 use Rattle.tokens.specs.Tokens.{tokens}
 use Rattle.words.proofs.Others.{in-all, others-members}
 use Rattle.words.specs.Members.{members, othersOf}

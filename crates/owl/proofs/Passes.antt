@@ -11,7 +11,6 @@ use Rattle.declarations.specs.Names.{isKnown}
 use Rattle.declarations.specs.Passes.{Parses, listOf, statementsAt}
 use Rattle.declarations.specs.declared.Counts.{Counts}
 use Rattle.frames.specs.Rows.{putAt}
-use Rattle.theory.proofs.VocabularyWords.{axiom-length}
 use Rattle.meaning.specs.Lists.{all, flatMap}
 use Rattle.meaning.specs.Vocabulary.{Axiom, axiomWords, namesBy}
 use Rattle.owl.specs.Owl.{axiomsBy, axiomsIn}
@@ -23,6 +22,7 @@ use Rattle.records.specs.Written.{Room, RoomFor, Written, linkAt}
 use Rattle.statements.specs.Forms.{Statement, ontology, parsed}
 use Rattle.statements.specs.Found.{Next, itemAt, statementOf}
 use Rattle.statements.specs.declared.Item.{Item}
+use Rattle.theory.proofs.VocabularyWords.{axiom-length}
 use Rattle.tokens.specs.Places.{part}
 use Rattle.tokens.specs.Tokens.{Token, tokens}
 use Rattle.words.proofs.Others.{length-includingAll}

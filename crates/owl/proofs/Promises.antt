@@ -9,9 +9,6 @@ use native.Mathlib.Omega.{arith}
 use borrow.Author.Tests.{le-leb, not-true}
 use Rattle.declarations.specs.Names.{counted, declared, declaredWell, numberIn, soundNames}
 use Rattle.declarations.specs.Passes.{listOf}
-use Rattle.theory.proofs.Links.{bounds, passed}
-use Rattle.theory.proofs.Refusals.{orElse-zero}
-use Rattle.theory.proofs.VocabularyWords.{vocabulary-words-accepted, vocabulary-words-read}
 use Rattle.meaning.specs.Answers.{accepted, result, wrote}
 use Rattle.meaning.specs.Limits.{mostAxioms, mostText}
 use Rattle.meaning.specs.Accepted.{NamedAxiom}
@@ -26,6 +23,9 @@ use Rattle.owl.proofs.Adding.{added-apart, added-feature, added-named, 
 use Rattle.owl.specs.Owl.{axiomsIn, manyIn, owlRefusal, owlWords, parsedRefusal, parsedWords, readOwl, vocabularyIn}
 use Rattle.owl.specs.Passes.{statementsOf}
 use Rattle.statements.specs.Forms.{Parsed, Sort, Statement, class, feature, ontology, parsed, role, wrong}
+use Rattle.theory.proofs.Links.{bounds, passed}
+use Rattle.theory.proofs.Refusals.{orElse-zero}
+use Rattle.theory.proofs.VocabularyWords.{vocabulary-words-accepted, vocabulary-words-read}
 use Rattle.tokens.specs.Tokens.{Token, tokens}
 
 -- ---- where words are written, nothing was refused

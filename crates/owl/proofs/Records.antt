@@ -6,7 +6,6 @@ use lib.ListN.{length, length-append, length-map}
 use native.Mathlib.Omega.{arith}
 use Rattle.declarations.specs.declared.Counts.{Counts}
 use Rattle.frames.specs.Rows.{putAt}
-use Rattle.theory.proofs.VocabularyWords.{axiom-length}
 use Rattle.meaning.specs.Operations.{outputAfter}
 use Rattle.meaning.specs.Vocabulary.{Axiom, axiomWords, manyFeature, manyRole, vocabularyWords}
 use Rattle.owl.proofs.Looking.{class-size, feature-size, role-size}
@@ -14,6 +13,7 @@ use Rattle.owl.specs.Owl.{axiomsIn, manyIn, vocabularyIn}
 use Rattle.owl.specs.Passes.{Many, Ready, axioms, naming, statementsOf}
 use Rattle.records.proofs.Writing.{headed-written, link-last, room-same, three-written}
 use Rattle.records.specs.Written.{RoomFor, Written, linkAt, linkedWords, recorded}
+use Rattle.theory.proofs.VocabularyWords.{axiom-length}
 use Rattle.words.specs.Members.{members}
 use Rattle.words.specs.Sets.{capacity}
 

@@ -10,8 +10,6 @@ use borrow.Author.Tests.{le-leb, lt-leb, not-false, not-true}
 use Rattle.declarations.specs.Names.{counted, declared, declaredWell, isKnown, soundNames}
 use Rattle.declarations.specs.Passes.{Fits, Tabled, axiomCount, countsOf, listOf, parsedAt, statementsAt, tableSize}
 use Rattle.declarations.specs.declared.Counts.{Counts}
-use Rattle.theory.proofs.Links.{bounds}
-use Rattle.theory.proofs.VocabularyWords.{vocabulary-length}
 use Rattle.meaning.specs.Answers.{result, wrote}
 use Rattle.meaning.specs.Limits.{mostAxioms, mostClasses, mostFeatures, mostRoles, mostText}
 use Rattle.meaning.specs.Lists.{all, flatMap}
@@ -30,6 +28,8 @@ use Rattle.records.specs.Written.{RoomFor}
 use Rattle.statements.specs.Forms.{Parsed, Statement, class, declares, feature, ontology, parsed, role, states, wrong}
 use Rattle.statements.specs.Found.{Opened}
 use Rattle.statements.specs.declared.Step.{Step}
+use Rattle.theory.proofs.Links.{bounds}
+use Rattle.theory.proofs.VocabularyWords.{vocabulary-length}
 use Rattle.tokens.specs.Tokens.{tokens}
 use Rattle.words.proofs.Laws.{members-few}
 use Rattle.words.specs.Members.{members}

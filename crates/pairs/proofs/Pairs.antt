@@ -10,16 +10,16 @@ use native.Mathlib.Omega.{arith}
 use Rattle.frames.proofs.Frames.{only-before, only-none, only-set, only-then, only-wider}
 use Rattle.frames.specs.Frames.{Only, Span}
 use Rattle.layout.specs.Places.{mostPairs, pairPlace, pairsAt, pairsEnd}
-use Rattle.theory.proofs.Counting.{counted-more, counted-same}
-use Rattle.theory.proofs.Links.{falling-le}
-use Rattle.theory.proofs.Wellformed.{accepted-size}
-use Rattle.theory.proofs.Stated.{disjointPair-at, disjointPair-one, disjointPair-other}
 use Rattle.meaning.specs.Lists.{counting, flatMap}
 use Rattle.meaning.specs.Records.{falling, lastOf}
 use Rattle.meaning.specs.Stated.{disjointPair, disjointPairs}
 use Rattle.meaning.specs.Vocabulary.{Axiom, axiomAt, axiomKind, axiomLeft, axiomNext, axiomRight, firstAxiom, vocabularyOf}
 use Rattle.meaning.specs.Vocabulary.{vocabularyRefusal}
 use Rattle.pairs.specs.Pairs.{Listed, PairRoom, PairRows, enlisted, hasBoth, pairAt, pairCount, pairsIn, withPair}
+use Rattle.theory.proofs.Counting.{counted-more, counted-same}
+use Rattle.theory.proofs.Links.{falling-le}
+use Rattle.theory.proofs.Wellformed.{accepted-size}
+use Rattle.theory.proofs.Stated.{disjointPair-at, disjointPair-one, disjointPair-other}
 use Rattle.vocabulary.proofs.Chain.{Folding, folding-ends, folding-falls, folding-on, folding-starts}
 use Rattle.words.specs.Sets.{inSet}
 

@@ -6,13 +6,13 @@ use mathlib.Core.List.{List}
 use mathlib.Core.Path.{_≡_, refl, subst}
 use lib.Dec.{eqb}
 use native.Mathlib.Omega.{arith}
-use Rattle.theory.proofs.Terms.{chain-at}
 use Rattle.meaning.specs.Accepted.{Reads, depth, reads-class, reads-end, reads-impossible, reads-interval, reads-some}
 use Rattle.meaning.specs.Policy.{Chain, childOf, class, conjunctAt, end, hiOf, impossible, interval, kindOf, loOf, nameOf, nextOf, some}
 use Rattle.meaning.specs.Records.{falling, lastOf}
 use Rattle.policy.specs.Terms.{ConjunctOf, conjunctLinks, conjunctOf, conjunctsAt}
 use Rattle.records.proofs.Chains.{Walking, walking-ends, walking-falls, walking-found, walking-on, walking-sound, walking-starts}
 use Rattle.records.specs.Chains.{Along, along-end, along-more}
+use Rattle.theory.proofs.Terms.{chain-at}
 
 -- what holds of each kind of conjunct alone, and before others, holds of record k's
 pub conjunct-kinds : (Q : Chain → Chain → Type 0) (p : List ℕ) (k : ℕ) (child next : Chain) → ((a : ℕ) → Q (class a end) (class a next)) → Q (impossible end) (impossible next) →

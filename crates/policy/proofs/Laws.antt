@@ -7,8 +7,6 @@ use lib.Dec.{eqb, leb}
 use lib.ListN.{getD, length, replicate}
 use native.Mathlib.Omega.{arith}
 use borrow.Author.Tests.{eqb-true, ne-eqb, not-false, not-true}
-use Rattle.theory.proofs.Links.{falling-le, tests}
-use Rattle.theory.proofs.Refusals.{orElse-assoc, orElse-first, policyRefusal-≤}
 use Rattle.meaning.specs.Answers.{Answer, ReadingResult, accepted, refused, result}
 use Rattle.meaning.specs.Limits.{mostPolicyWords, mostRecords}
 use Rattle.meaning.specs.Operations.{inputRefusal, readPolicy, readSecondPolicy, unless}
@@ -18,6 +16,8 @@ use Rattle.meaning.specs.Records.{isName, isOnward, isSized, lastOf, orElse}
 use Rattle.meaning.specs.Vocabulary.{classCount, featureCount, roleCount, vocabularyRefusal}
 use Rattle.policy.specs.Numbers.{numbered}
 use Rattle.policy.specs.Trails.{Arrived, Follows, going, levels, stopped, trailWords}
+use Rattle.theory.proofs.Links.{falling-le, tests}
+use Rattle.theory.proofs.Refusals.{orElse-assoc, orElse-first, policyRefusal-≤}
 use Rattle.words.proofs.Laws.{in-zeros}
 
 -- ---- a record

@@ -5,9 +5,6 @@ use mathlib.Core.List.{List, [], _∷_}
 use mathlib.Core.Path.{_≡_, subst}
 use lib.ListN.{length}
 use native.Mathlib.Omega.{arith}
-use Rattle.theory.proofs.Rules.{head, tail}
-use Rattle.theory.proofs.Terms.{chain-at}
-use Rattle.theory.proofs.Wellformed.{accepted}
 use Rattle.meaning.specs.Accepted.{ChainOf, ReadsTerms, depth, reads-none, reads-term, total}
 use Rattle.meaning.specs.Limits.{mostDepth, mostRecords}
 use Rattle.meaning.specs.Lists.{All}
@@ -16,6 +13,9 @@ use Rattle.meaning.specs.Records.{falling, lastOf}
 use Rattle.policy.specs.Terms.{TermOf, termLinks}
 use Rattle.records.proofs.Chains.{Walking, walking-ends, walking-falls, walking-found, walking-on, walking-sound, walking-starts}
 use Rattle.records.specs.Chains.{Along, along-end, along-more}
+use Rattle.theory.proofs.Rules.{head, tail}
+use Rattle.theory.proofs.Terms.{chain-at}
+use Rattle.theory.proofs.Wellformed.{accepted}
 
 pub total-length : (P : Policy) → length P ≤ total P
 total-length [] = omega arith

@@ -6,15 +6,15 @@ use mathlib.Core.Path.{_∙_, _≡_, refl, sym}
 use lib.Dec.{eqb}
 use native.Mathlib.Omega.{arith}
 use borrow.Author.Tests.{eq-eqb, eqb-false, ne-eqb, not-false, not-true}
-use Rattle.theory.proofs.Links.{enough-end, falls, onward-le, tests}
-use Rattle.theory.proofs.Refusals.{unless-some}
-use Rattle.theory.proofs.Terms.{child-enough, next-enough}
 use Rattle.meaning.specs.Accepted.{Here}
 use Rattle.meaning.specs.Limits.{mostRecords}
 use Rattle.meaning.specs.Operations.{unless}
 use Rattle.meaning.specs.Policy.{Walk, childOf, fault, nextOf, onward, soundRecord, walk}
 use Rattle.meaning.specs.Records.{Enough, falling, lastOf}
 use Rattle.policy.specs.Trails.{Arrived, Follows, Marks, depthAt, faultAt, going, levels, stopped}
+use Rattle.theory.proofs.Links.{enough-end, falls, onward-le, tests}
+use Rattle.theory.proofs.Refusals.{unless-some}
+use Rattle.theory.proofs.Terms.{child-enough, next-enough}
 use Rattle.words.proofs.Laws.{in-including, length-including, named-within}
 use Rattle.words.specs.Sets.{capacity, inSet, including}
 

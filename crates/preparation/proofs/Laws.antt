@@ -11,12 +11,12 @@ use Rattle.frames.specs.Frames.{Only, Span}
 use Rattle.functional.specs.FunctionalNames.{FunctionalNames}
 use Rattle.functional.specs.declared.Functional.{Functional}
 use Rattle.layout.specs.Places.{InTables, pairsEnd, roleRow}
-use Rattle.theory.proofs.Wellformed.{accepted-counts}
 use Rattle.meaning.specs.Limits.{workSize}
 use Rattle.meaning.specs.Vocabulary.{classCount, roleCount, vocabularyRefusal}
 use Rattle.pairs.proofs.Pairs.{pairs-kept}
 use Rattle.pairs.specs.Pairs.{Listed}
 use Rattle.preparation.specs.Prepared.{Prepared}
+use Rattle.theory.proofs.Wellformed.{accepted-counts}
 use Rattle.words.specs.Rows.{classWords}
 
 module _ (v w : List ℕ) (a : vocabularyRefusal v ≡ 0) (full : workSize ≤ length w) where

@@ -7,9 +7,9 @@ use mathlib.Core.Path.{_∙_, _≡_, refl, sym}
 use lib.Dec.{eqb}
 use native.Mathlib.Omega.{arith}
 use borrow.Author.Tests.{eqb-false, eqb-true, ne-eqb}
-use Rattle.theory.proofs.Links.{choose, enough-end, falls, onward-le, passed}
 use Rattle.meaning.specs.Records.{Enough, Name, Onward, falling, listAlong, refusalAlong}
 use Rattle.records.specs.Chains.{Along, Links, along-end, along-more, listed}
+use Rattle.theory.proofs.Links.{choose, enough-end, falls, onward-le, passed}
 
 -- ---- a chain that was read
 

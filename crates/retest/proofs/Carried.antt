@@ -11,9 +11,6 @@ use lib.Dec.{eqb, eqb→eq}
 use Rattle.carriers.specs.Carriers.{Carrier, besideOf, slotOf, underOf}
 use Rattle.layout.specs.Tables.{parentAt, roleAt}
 use Rattle.layout.specs.declared.Tables.{Tables}
-use Rattle.theory.proofs.Counting.{none-below, some-below}
-use Rattle.theory.proofs.Links.{falls}
-use Rattle.theory.proofs.Rules.{isTrue, order}
 use Rattle.meaning.specs.Intervals.{Constraint}
 use Rattle.meaning.specs.Records.{falling}
 use Rattle.policy.specs.Terms.{conjunctsAt}
@@ -23,6 +20,9 @@ use Rattle.retest.specs.Memory.{Below, TellsCarried, TellsRow}
 use Rattle.retest.specs.Reasons.{Agrees, Choice, hasCarried, isCarried}
 use Rattle.subsumption.specs.Tests.{holdsAt}
 use Rattle.retest.specs.declared.Reason.{Reason}
+use Rattle.theory.proofs.Counting.{none-below, some-below}
+use Rattle.theory.proofs.Links.{falls}
+use Rattle.theory.proofs.Rules.{isTrue, order}
 
 abbrev passing : (ℕ → Constraint) → List ℕ → List ℕ → List ℕ → Tables → ℕ → ℕ → ℕ → ℕ → Bool
 passing v q c w t k x r = isCarried c w x r (holdsAt v w t (conjunctsAt q k))

@@ -14,15 +14,15 @@ use lib.ListN.{getD, length}
 use Rattle.intervals.specs.Touching.{touches}
 use Rattle.layout.specs.Tables.{HasEntry, constraintAt, holderAt, pieceAt}
 use Rattle.layout.specs.declared.Tables.{Tables}
-use Rattle.theory.proofs.Counting.{none-below, some-below}
-use Rattle.theory.proofs.Intervals.{inside-of}
-use Rattle.theory.proofs.Rules.{T-and, and-T, eqb-of, isTrue, order, same-test}
 use Rattle.meaning.specs.Intervals.{Constraint, isInside}
 use Rattle.meaning.specs.Subsumption.{includes}
 use Rattle.retest.proofs.Spans.{chosen-may}
 use Rattle.retest.specs.Reasons.{Agrees, Choice, TellsDial, TellsPiece, Testing, mayPass}
 use Rattle.subsumption.specs.Tests.{hasPiece, hasWhole, isPieceInside}
 use Rattle.retest.specs.declared.Reason.{Reason}
+use Rattle.theory.proofs.Counting.{none-below, some-below}
+use Rattle.theory.proofs.Intervals.{inside-of}
+use Rattle.theory.proofs.Rules.{T-and, and-T, eqb-of, isTrue, order, same-test}
 use Rattle.words.proofs.Bits.{bit-or, bit-pow}
 use Rattle.words.specs.Sets.{testBit}
 

@@ -8,9 +8,6 @@ use borrow.Author.Tests.{ne-eqb}
 use lib.Dec.{T, eqb, eqb→eq}
 use Rattle.layout.specs.Tables.{constraintAt, holderAt}
 use Rattle.layout.specs.declared.Tables.{Tables}
-use Rattle.theory.proofs.Counting.{below-some, some-below}
-use Rattle.theory.proofs.Intervals.{isInside-trans}
-use Rattle.theory.proofs.Rules.{T-and, and-T, eqb-of, isTrue, same-test}
 use Rattle.meaning.specs.Intervals.{Constraint, isInside}
 use Rattle.meaning.specs.Policy.{hiOf, kindOf, loOf, nameOf}
 use Rattle.meaning.specs.Subsumption.{includes}
@@ -21,6 +18,9 @@ use Rattle.retest.specs.Memory.{Pending, Sure, TellsOne, remembered}
 use Rattle.retest.specs.Reasons.{Choice, Spanned, TellsPiece}
 use Rattle.subsumption.specs.Tests.{hasPiece, hasWhole, holdsAt, isPieceInside}
 use Rattle.retest.specs.declared.Reason.{Reason}
+use Rattle.theory.proofs.Counting.{below-some, some-below}
+use Rattle.theory.proofs.Intervals.{isInside-trans}
+use Rattle.theory.proofs.Rules.{T-and, and-T, eqb-of, isTrue, same-test}
 
 -- what lies inside what lies from lo to hi does too
 inside-includes : (f lo hi : ℕ) (s p : Constraint) → T (includes f lo hi s) → T (includes (s .feature) (s .lo) (s .hi) p) → T (includes f lo hi p)

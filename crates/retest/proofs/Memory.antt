@@ -10,7 +10,6 @@ use lib.Dec.{T, eqb}
 use lib.ListN.{getD, length, set}
 use lib.Seq.{getD-set-other, getD-set-same}
 use Rattle.layout.specs.declared.Tables.{Tables}
-use Rattle.theory.proofs.Rules.{order}
 use Rattle.meaning.specs.Intervals.{Constraint}
 use Rattle.policy.specs.Terms.{conjunctOf}
 use Rattle.retest.specs.Memory.{State, Sure, entryOf, memoryPlace, recalled, remembered}
@@ -18,6 +17,7 @@ use Rattle.subsumption.specs.Tests.{Individual}
 use Rattle.retest.specs.Reasons.{Choice, Tells}
 use Rattle.subsumption.specs.Tests.{holdsAt}
 use Rattle.retest.specs.declared.Reason.{Reason}
+use Rattle.theory.proofs.Rules.{order}
 use Rattle.words.proofs.Bits.{bit-none}
 
 -- ---- one entry

@@ -12,12 +12,12 @@ use Rattle.intervals.specs.Touching.{touches}
 use Rattle.layout.specs.Nesting.{Nested}
 use Rattle.layout.specs.Tables.{constraintAt, holderAt}
 use Rattle.layout.specs.declared.Tables.{Tables}
-use Rattle.theory.proofs.Counting.{none-below, some-below}
-use Rattle.theory.proofs.Rules.{T-and, and-T, eqb-of, isTrue, order, same-test}
 use Rattle.meaning.specs.Intervals.{Constraint}
 use Rattle.meaning.specs.Subsumption.{includes}
 use Rattle.retest.specs.Reasons.{Choice, Spanned, SpannedBy, mayPass}
 use Rattle.subsumption.specs.Tests.{FirstOf, hasPiece, isPieceInside}
+use Rattle.theory.proofs.Counting.{none-below, some-below}
+use Rattle.theory.proofs.Rules.{T-and, and-T, eqb-of, isTrue, order, same-test}
 
 -- ---- whether a piece may lie inside
 

@@ -12,8 +12,6 @@ use Rattle.carriers.specs.Carriers.{slotOf}
 use Rattle.layout.specs.Combination.{nextSuccessor}
 use Rattle.layout.specs.Tables.{parentAt, roleAt}
 use Rattle.layout.specs.declared.Tables.{Tables}
-use Rattle.theory.proofs.Counting.{none-below, some-below}
-use Rattle.theory.proofs.Rules.{order}
 use Rattle.meaning.specs.Intervals.{Constraint}
 use Rattle.policy.specs.Terms.{conjunctsAt}
 use Rattle.retest.proofs.Masks.{agrees-left, agrees-right}
@@ -22,6 +20,8 @@ use Rattle.subsumption.proofs.Successors.{next-least, next-parent, next-passes}
 use Rattle.retest.specs.Reasons.{Agrees, Choice, hasStill, isStill}
 use Rattle.subsumption.specs.Tests.{holdsAt}
 use Rattle.retest.specs.declared.Reason.{Reason}
+use Rattle.theory.proofs.Counting.{none-below, some-below}
+use Rattle.theory.proofs.Rules.{order}
 
 -- ---- one row
 

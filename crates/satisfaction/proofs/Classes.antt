@@ -10,7 +10,6 @@ use native.Mathlib.Omega.{arith}
 use borrow.Author.Tests.{eqb-false, eqb-true}
 use Rattle.frames.proofs.Frames.{only-none, only-span, only-then, row-before, row-behind}
 use Rattle.frames.specs.Frames.{Cleared, Only, Span}
-use Rattle.theory.proofs.Rules.{order}
 use Rattle.meaning.specs.Limits.{mostClasses, mostIndividuals, workSize}
 use Rattle.meaning.specs.Lists.{any}
 use Rattle.meaning.specs.Model.{Fact, edge, factAt, factsOf, individualCount, member, value}
@@ -21,6 +20,7 @@ use Rattle.satisfaction.proofs.Facts.{by-kind}
 use Rattle.satisfaction.proofs.Rows.{none-in, put-in, put-inside, put-only, put-size}
 use Rattle.satisfaction.specs.Classes.{AllEntered, Interpreted, entered}
 use Rattle.satisfaction.specs.Places.{classPlace, classesEnd, classesOf}
+use Rattle.theory.proofs.Rules.{order}
 use Rattle.words.specs.Rows.{classWords}
 use Rattle.words.specs.Sets.{inSet}
 

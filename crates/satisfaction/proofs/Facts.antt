@@ -7,7 +7,6 @@ use mathlib.Core.Path.{_∙_, _≡_, refl, subst, sym}
 use native.Mathlib.Omega.{arith}
 use borrow.Author.Tests.{eq-eqb, eqb-false, eqb-true, ne-eqb, not-false, not-true}
 use lib.Dec.{eqb}
-use Rattle.theory.proofs.Links.{split, tests}
 use Rattle.meaning.specs.Limits.{mostFeatures, mostIndividuals, mostRoles}
 use Rattle.meaning.specs.Lists.{All, cons, nil}
 use Rattle.meaning.specs.Model.{Fact, edge, factAt, factKind, factName, factOther, factOwner, factsOf, individualCount}
@@ -18,6 +17,7 @@ use Rattle.records.specs.Chains.{Along, along-end, along-more}
 use Rattle.satisfaction.specs.Classes.{Interpreted, entered, follows, isRanged, ownerOf}
 use Rattle.satisfaction.specs.Links.{numberOf, otherOf}
 use Rattle.satisfaction.specs.Places.{classPlace, classesOf, putIn, seriesCount}
+use Rattle.theory.proofs.Links.{split, tests}
 use Rattle.words.specs.Rows.{classWords}
 use Rattle.words.specs.Sets.{inSet}
 

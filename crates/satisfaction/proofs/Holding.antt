@@ -10,11 +10,6 @@ use native.Mathlib.Omega.{arith}
 use borrow.Author.Tests.{eqb-false, eqb-true, le-leb, leb-false, leb-true, lt-leb, not-false, not-true}
 use Rattle.frames.proofs.Frames.{only-none, only-span, only-then}
 use Rattle.frames.specs.Frames.{Cleared, Only, Span}
-use Rattle.theory.proofs.Defaults.{accepted-feature, accepted-role}
-use Rattle.theory.proofs.Links.{tests}
-use Rattle.theory.proofs.Rules.{T-and, all-at, all-fst, all-in, all-mono, all-of, all-out, isFalse, isTrue, notTrue, same-test}
-use Rattle.theory.proofs.Stated.{AllStated, all-stated, axiom-stated, functionalFeature-stated, functionalRole-stated, stated-more}
-use Rattle.theory.proofs.Wellformed.{accepted-counts}
 use Rattle.meaning.specs.Limits.{mostFeatures, mostRoles}
 use Rattle.meaning.specs.Lists.{_∈_, all}
 use Rattle.meaning.specs.Model.{Fact, factsOf}
@@ -32,6 +27,11 @@ use Rattle.satisfaction.specs.Holding.{AllSingle, Askable, NumbersHeld, 
 use Rattle.satisfaction.specs.Links.{BlockCompared, Single, Telling, Tells, linkOf}
 use Rattle.satisfaction.specs.Places.{clashWords, clashesAt, clashesOf, rangesAt, rangesEnd, seriesCount, valuesEnd}
 use Rattle.satisfaction.specs.Ranges.{RangedIf, RangesMade}
+use Rattle.theory.proofs.Defaults.{accepted-feature, accepted-role}
+use Rattle.theory.proofs.Links.{tests}
+use Rattle.theory.proofs.Rules.{T-and, all-at, all-fst, all-in, all-mono, all-of, all-out, isFalse, isTrue, notTrue, same-test}
+use Rattle.theory.proofs.Stated.{AllStated, all-stated, axiom-stated, functionalFeature-stated, functionalRole-stated, stated-more}
+use Rattle.theory.proofs.Wellformed.{accepted-counts}
 use Rattle.words.specs.Sets.{inSet}
 
 -- ---- one record after another

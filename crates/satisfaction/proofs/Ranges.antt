@@ -15,8 +15,6 @@ use borrow.Author.Tests.{eqb-false, eqb-true, not-false, not-true}
 use Rattle.frames.proofs.Frames.{only-none, only-set, only-span, only-then, row-before, row-behind, row-word}
 use Rattle.frames.specs.Frames.{Only, Span}
 use Rattle.frames.specs.Rows.{rowAt}
-use Rattle.theory.proofs.Links.{tests}
-use Rattle.theory.proofs.Rules.{order}
 use Rattle.meaning.specs.Limits.{mostClasses, mostIndividuals, mostRoles, workSize}
 use Rattle.meaning.specs.Lists.{all}
 use Rattle.meaning.specs.Model.{Fact, factAt, factKind, factName, factOther, factsOf}
@@ -29,6 +27,8 @@ use Rattle.satisfaction.proofs.Facts.{other-role, ranged-into, unranged
 use Rattle.satisfaction.specs.Classes.{Interpreted, isRanged}
 use Rattle.satisfaction.specs.Places.{classPlace, rangePlace, rangeWords, rangesAt, rangesEnd, rangesOf}
 use Rattle.satisfaction.specs.Ranges.{Intersected, Narrowed, Opened, Ranged, RangedIf, RangesMade}
+use Rattle.theory.proofs.Links.{tests}
+use Rattle.theory.proofs.Rules.{order}
 use Rattle.words.proofs.Bits.{bit-suc, bit-zero}
 use Rattle.words.proofs.Laws.{named-within}
 use Rattle.words.specs.Rows.{classWords}

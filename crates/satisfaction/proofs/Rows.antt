@@ -13,9 +13,9 @@ use Rattle.frames.proofs.Frames.{only-none, only-put, row-word}
 use Rattle.frames.proofs.Rows.{length-row, put-row}
 use Rattle.frames.specs.Frames.{Only, Span}
 use Rattle.frames.specs.Rows.{rowAt}
-use Rattle.theory.proofs.Rules.{order}
 use Rattle.meaning.specs.Records.{Name, isName}
 use Rattle.satisfaction.specs.Places.{putIn}
+use Rattle.theory.proofs.Rules.{order}
 use Rattle.words.proofs.Bits.{bit-none}
 use Rattle.words.proofs.Laws.{in-including, length-including, named-within}
 use Rattle.words.specs.Sets.{inSet, including, testBit}

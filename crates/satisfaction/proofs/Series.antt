@@ -6,8 +6,6 @@ use mathlib.Core.Path.{_∙_, _≡_, ap, refl}
 use lib.Dec.{T, eqb, eqb→eq}
 use native.Mathlib.Omega.{arith}
 use borrow.Author.Tests.{eq-eqb}
-use Rattle.theory.proofs.ModelCheck.{obeys-iff}
-use Rattle.theory.proofs.Rules.{any-mono}
 use Rattle.meaning.specs.Limits.{mostFeatures, mostRoles}
 use Rattle.meaning.specs.Lists.{_∈_}
 use Rattle.meaning.specs.Model.{Fact, edge, member, value}
@@ -17,6 +15,8 @@ use Rattle.meaning.specs.Vocabulary.{functionalFeature, functionalRole}
 use Rattle.satisfaction.proofs.Facts.{named-number}
 use Rattle.satisfaction.proofs.Values.{said}
 use Rattle.satisfaction.specs.Links.{Gives, Link, Single, link, linkOf, numberOf}
+use Rattle.theory.proofs.ModelCheck.{obeys-iff}
+use Rattle.theory.proofs.Rules.{any-mono}
 use Rattle.words.proofs.Laws.{named-within}
 
 -- ---- the facts of a role, and of a feature

@@ -8,11 +8,6 @@ use lib.Dec.{T, T-not, eqb, not-T}
 use native.Mathlib.Numerals.{add-one}
 use native.Mathlib.Omega.{arith}
 use borrow.Author.Tests.{ne-eqb, not-false, not-true}
-use Rattle.theory.proofs.ModelCheck.{is-member, member-is, obeys-iff}
-use Rattle.theory.proofs.Counting.{in-counting}
-use Rattle.theory.proofs.Rules.{all-at, all-in, all-out, any-in, any-mono, any-out, imp-in, imp-out, same-test}
-use Rattle.theory.proofs.Links.{split, tests}
-use Rattle.theory.proofs.Wellformed.{accepted-counts}
 use Rattle.meaning.specs.Limits.{mostClasses, mostRoles}
 use Rattle.meaning.specs.Lists.{All, _∈_, all, any, cons, counting, nil}
 use Rattle.meaning.specs.Model.{Fact, factsOf, individualCount, member}
@@ -27,6 +22,11 @@ use Rattle.satisfaction.specs.Classes.{Classed, Interpreted, follows}
 use Rattle.satisfaction.specs.Holding.{Askable, isHeld}
 use Rattle.satisfaction.specs.Places.{classesOf}
 use Rattle.satisfaction.specs.Ranges.{Ranged}
+use Rattle.theory.proofs.ModelCheck.{is-member, member-is, obeys-iff}
+use Rattle.theory.proofs.Counting.{in-counting}
+use Rattle.theory.proofs.Rules.{all-at, all-in, all-out, any-in, any-mono, any-out, imp-in, imp-out, same-test}
+use Rattle.theory.proofs.Links.{split, tests}
+use Rattle.theory.proofs.Wellformed.{accepted-counts}
 use Rattle.vocabulary.proofs.Chain.{axiomLinks, axioms-along}
 use Rattle.words.specs.Sets.{inSet}
 

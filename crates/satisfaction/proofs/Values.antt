@@ -11,7 +11,6 @@ use native.Mathlib.Omega.{arith}
 use borrow.Author.Tests.{eq-eqb, eqb-false, eqb-true, ne-eqb}
 use Rattle.frames.proofs.Frames.{only-behind, only-none, only-set, only-span, only-then, row-before}
 use Rattle.frames.specs.Frames.{Cleared, Only, Span}
-use Rattle.theory.proofs.Rules.{all-any}
 use Rattle.meaning.specs.Limits.{mostIndividuals, workSize}
 use Rattle.meaning.specs.Model.{Fact, factAt, factOther, factOwner, factsOf, individualCount}
 use Rattle.meaning.specs.Records.{Name}
@@ -24,6 +23,7 @@ use Rattle.satisfaction.specs.Classes.{ownerOf}
 use Rattle.satisfaction.specs.Links.{BlockCompared, Comparable, Compared, Gives, InBlock, Single, Telling, clash, first}
 use Rattle.satisfaction.specs.Links.{firstOf, link, linkOf, none, numberOf, otherOf, outside, same}
 use Rattle.satisfaction.specs.Places.{blockSize, clashWords, clashesAt, clashesOf, putIn, seriesCount, valuePlace, valuesAt, valuesEnd}
+use Rattle.theory.proofs.Rules.{all-any}
 use Rattle.words.specs.Sets.{inSet}
 
 -- what is said by a choice

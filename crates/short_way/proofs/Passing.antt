@@ -12,8 +12,6 @@ use Rattle.layout.proofs.Nesting.{tabled-nested}
 use Rattle.layout.specs.Places.{InTables}
 use Rattle.layout.specs.Tables.{constraintAt}
 use Rattle.layout.specs.declared.Tables.{Tables}
-use Rattle.theory.proofs.Digits.{fill}
-use Rattle.theory.proofs.Rules.{all-append, all-in, all-out, all-snd, head, isFalse, isTrue, notTrue, same-test}
 use Rattle.meaning.specs.Accepted.{ChainOf}
 use Rattle.meaning.specs.Containment.{passes, passesWhole, shortWay}
 use Rattle.meaning.specs.Lists.{All, all, any, cons, nil}
@@ -30,6 +28,8 @@ use Rattle.subsumption.specs.Tests.{holdsWhole}
 use Rattle.tabulation.proofs.Laws.{term-ready}
 use Rattle.tabulation.specs.Clean.{DecidesClean}
 use Rattle.tabulation.specs.Tabulation.{Shaped}
+use Rattle.theory.proofs.Digits.{fill}
+use Rattle.theory.proofs.Rules.{all-append, all-in, all-out, all-snd, head, isFalse, isTrue, notTrue, same-test}
 use Rattle.trial.proofs.Trying.{passes-held}
 use Rattle.trial.specs.Trials.{Formed}
 

@@ -12,14 +12,14 @@ use Rattle.keys.proofs.Adding.{gathered-none, gathered-two}
 use Rattle.keys.proofs.Order.{same-truth}
 use Rattle.keys.proofs.Ranking.{nearest}
 use Rattle.keys.specs.Keys.{Gathered, Holds, Ranked}
-use Rattle.theory.proofs.Links.{tests}
-use Rattle.theory.proofs.Points.{inserts-here, inserts-sorted}
-use Rattle.theory.proofs.Rules.{any-left, any-right, order}
 use Rattle.meaning.specs.Intervals.{isWithin}
 use Rattle.meaning.specs.Lists.{_∈_, here, there}
 use Rattle.meaning.specs.Policy.{kindOf}
 use Rattle.meaning.specs.Splitting.{Sorted}
 use Rattle.spans.specs.Cuts.{AllCut, cutsAt, highKey, lowKey}
+use Rattle.theory.proofs.Links.{tests}
+use Rattle.theory.proofs.Points.{inserts-here, inserts-sorted}
+use Rattle.theory.proofs.Rules.{any-left, any-right, order}
 
 -- ---- which spans hold a key
 

@@ -11,11 +11,11 @@ use borrow.Author.Tests.{eqb-false, eqb-true}
 use Rattle.frames.proofs.Frames.{row-before, row-behind}
 use Rattle.frames.specs.Frames.{Only, Span}
 use Rattle.frames.specs.Rows.{rowAt}
-use Rattle.theory.proofs.Rules.{order}
 use Rattle.meaning.specs.Limits.{mostRecords}
 use Rattle.meaning.specs.Records.{Name}
 use Rattle.satisfaction.proofs.Rows.{put-in, put-inside, put-only}
 use Rattle.satisfaction.specs.Places.{putIn, recordWords}
+use Rattle.theory.proofs.Rules.{order}
 use Rattle.words.specs.Sets.{inSet}
 
 pub shuffle : (e s r : Bool) → (e || s) || r ≡ s || (e || r)

@@ -10,8 +10,6 @@ use native.Mathlib.Omega.{arith}
 use borrow.Author.Tests.{eq-eqb, eqb-false, eqb-true, le-leb, le-ltb, lt-leb, lt-ltb, ltb-true, ne-eqb}
 use Rattle.frames.specs.Frames.{Cleared}
 use Rattle.keys.specs.Keys.{Ranked}
-use Rattle.theory.proofs.Links.{tests}
-use Rattle.theory.proofs.Rules.{order}
 use Rattle.meaning.specs.Intervals.{isWithin}
 use Rattle.meaning.specs.Policy.{kindOf}
 use Rattle.satisfaction.proofs.Rows.{none-in, put-size}
@@ -20,6 +18,8 @@ use Rattle.spans.proofs.Cuts.{cut-within}
 use Rattle.spans.proofs.Rows.{Row, row-put}
 use Rattle.spans.specs.Cuts.{AllCut, Rowed, SpanMarkable, SpanMarked, Tabled, highKey, isAmong, lowKey, rowMarked, rowOf, rowPlace}
 use Rattle.spans.specs.Cuts.{spansAmong}
+use Rattle.theory.proofs.Links.{tests}
+use Rattle.theory.proofs.Rules.{order}
 use Rattle.words.specs.Sets.{inSet}
 
 -- ---- one row

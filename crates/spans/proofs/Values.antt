@@ -11,7 +11,6 @@ use borrow.Author.Tests.{le-leb, le-ltb, lt-ltb}
 use Rattle.frames.proofs.Frames.{only-none, only-then}
 use Rattle.keys.proofs.Order.{key-within}
 use Rattle.keys.specs.Keys.{Ranked, keyOf, valueCount}
-use Rattle.theory.proofs.Rules.{order}
 use Rattle.meaning.specs.Limits.{mostIndividuals}
 use Rattle.meaning.specs.Lists.{any}
 use Rattle.meaning.specs.Model.{factAt, factKind, factName, factOther, factOwner, factsOf}
@@ -26,6 +25,7 @@ use Rattle.spans.proofs.Tables.{among-none, among-out, tabled}
 use Rattle.spans.specs.Cuts.{AllCut, Tabled, isAmong, rowOf, rowPlace, spansAmong}
 use Rattle.spans.specs.Joining.{AllHanded, Joinable, Joined}
 use Rattle.spans.specs.Values.{ValueMarkable, ValueMarked, ValuesMarked, shows, valueWithin, valued}
+use Rattle.theory.proofs.Rules.{order}
 use Rattle.words.specs.Sets.{inSet}
 
 -- ---- one fact

@@ -8,8 +8,6 @@ use lib.ListN.{length, length-set, set, take}
 use lib.Seq.{getD-set-same, take-set-le, take-suc}
 use native.Mathlib.Numerals.{add-one}
 use native.Mathlib.Omega.{arith}
-use Rattle.theory.proofs.Rules.{all-append}
-use Rattle.theory.proofs.Wellformed.{accepted}
 use Rattle.meaning.specs.Limits.{mostRecords}
 use Rattle.meaning.specs.Lists.{All, cons, filter, nil}
 use Rattle.meaning.specs.NormalForm.{possible}
@@ -20,6 +18,8 @@ use Rattle.policy.proofs.Terms.{terms-along, total-length}
 use Rattle.policy.specs.Terms.{TermOf, termLinks}
 use Rattle.records.proofs.Chains.{Walking, walking-ends, walking-falls, walking-found, walking-on, walking-sound, walking-starts}
 use Rattle.spell.specs.Filing.{Collected}
+use Rattle.theory.proofs.Rules.{all-append}
+use Rattle.theory.proofs.Wellformed.{accepted}
 
 -- what is collected, with what is to be collected of the terms l
 abbrev Rest : List ℕ → List ℕ → List ℕ → ℕ → Policy → Type 0

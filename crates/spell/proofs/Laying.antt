@@ -14,9 +14,6 @@ use Rattle.functional.specs.declared.Functional.{Functional}
 use Rattle.layout.proofs.Nesting.{rows-from}
 use Rattle.layout.specs.Places.{tablesEnd}
 use Rattle.layout.specs.declared.Tables.{Tables}
-use Rattle.theory.proofs.Rules.{head, tail}
-use Rattle.theory.proofs.Sizes.{normal-weight, weight}
-use Rattle.theory.proofs.Wellformed.{accepted}
 use Rattle.meaning.specs.Accepted.{count, total}
 use Rattle.meaning.specs.Countermodel.{size}
 use Rattle.meaning.specs.Limits.{mostRecords}
@@ -35,6 +32,9 @@ use Rattle.policy.specs.Terms.{TermOf}
 use Rattle.preparation.specs.Prepared.{Prepared}
 use Rattle.spell.specs.Filing.{Collected, LaidOut}
 use Rattle.spelling.proofs.Arranging.{forest, forest-placed, placeTerms}
+use Rattle.theory.proofs.Rules.{head, tail}
+use Rattle.theory.proofs.Sizes.{normal-weight, weight}
+use Rattle.theory.proofs.Wellformed.{accepted}
 use Rattle.words.specs.Sets.{inSet}
 
 -- ---- terms that are dropped make a policy no longer

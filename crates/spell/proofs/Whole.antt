@@ -6,7 +6,6 @@ use mathlib.Core.Path.{_∙_, _≡_, ap, refl, sym}
 use lib.Dec.{leb}
 use lib.ListN.{length}
 use Rattle.frames.proofs.Work.{Done}
-use Rattle.theory.proofs.Refusals.{orElse-assoc}
 use Rattle.meaning.specs.Answers.{FillingResult, fillingAnswer, result, wrote}
 use Rattle.meaning.specs.Operations.{Outcome, comesLate, outputAfter, refuses, unless, workRefusal}
 use Rattle.meaning.specs.Policy.{Policy, policyOf, policyRefusal}
@@ -16,6 +15,7 @@ use Rattle.meaning.specs.declared.Filling.{Filling}
 use Rattle.spelling.specs.Operation.{SpellPost, filed, spell, spellOf}
 use Rattle.spelling.specs.Spelling.{spelled, tooLong}
 use Rattle.spelling.specs.Words.{policyWords}
+use Rattle.theory.proofs.Refusals.{orElse-assoc}
 
 -- 43, 23 and the words come after 21
 pub filed-late : (P : Policy) (o : ℕ) → comesLate (filed P o .answer) ≡ true

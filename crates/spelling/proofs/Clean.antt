@@ -6,8 +6,6 @@ use mathlib.Core.Logic.{_↔_, ⊎-elim}
 use mathlib.Core.Path.{subst, sym}
 use lib.Dec.{T}
 use native.Mathlib.Omega.{arith}
-use Rattle.theory.proofs.Rules.{T-and, all-append, all-at, all-fst, all-in, all-of, all-out, all-snd, and-T, and-not, any-append, any-left}
-use Rattle.theory.proofs.Rules.{head, map-all, tail}
 use Rattle.meaning.specs.Intervals.{Constraint, isNonEmpty}
 use Rattle.meaning.specs.Lists.{All, _∈_, all, cons, nil}
 use Rattle.meaning.specs.NormalForm.{Form, Node, Successors, areNonEmpty, clash, cleanNode, cleanSuccessors, compatible, hasBottom, none}
@@ -24,6 +22,8 @@ use Rattle.spelling.specs.Order.{sorted}
 use Rattle.spelling.specs.Ordered.{OrderedBelow, conjuncts}
 use Rattle.spelling.specs.Spelling.{Conjunct, conjunctsOf, isIn, key, putAll, putInOrder, reaches, rolesOf, spelledTerm, spelling}
 use Rattle.spelling.specs.Spelling.{stated, within, withinOf}
+use Rattle.theory.proofs.Rules.{T-and, all-append, all-at, all-fst, all-in, all-of, all-out, all-snd, and-T, and-not, any-append, any-left}
+use Rattle.theory.proofs.Rules.{head, map-all, tail}
 
 module _ (K : Vocabulary) where
   -- rule 7 at no two classes

@@ -6,7 +6,6 @@ use mathlib.Core.Logic.{inl, inr, ⊎-elim}
 use mathlib.Core.Path.{_∙_, _≡_, ap, refl, subst, sym}
 use lib.Dec.{T, eqb, eqb→eq}
 use native.Mathlib.Omega.{arith}
-use Rattle.theory.proofs.Rules.{T-and, and-T, eqb-of, isFalse, isTrue, notTrue}
 use Rattle.meaning.specs.Intervals.{Constraint, meet}
 use Rattle.meaning.specs.Lists.{_∈_}
 use Rattle.meaning.specs.NormalForm.{Form, Successors, add, bare, graft, none, placeConstraint, placeSuccessor, successor}
@@ -17,6 +16,7 @@ use Rattle.spelling.proofs.Members.{add-same, spelling-same}
 use Rattle.spelling.proofs.Placing.{Placed, Tidy, addOne, functional-slot, isFunctional, meetAt, new-slot, newOf, placed, slot}
 use Rattle.spelling.proofs.Placing.{startAt, tidy-add, tidy-addOne, tidy-start}
 use Rattle.spelling.specs.Spelling.{Conjunct, conjunctsOf, isIn, reaches, spelling, within, withinOf}
+use Rattle.theory.proofs.Rules.{T-and, and-T, eqb-of, isFalse, isTrue, notTrue}
 
 -- ---- conjuncts of different names
 

@@ -3,9 +3,6 @@ use Prim.Native.Nat.{ℕ}
 use mathlib.Core.List.{List, [], _++_, _∷_, map}
 use mathlib.Core.Path.{_≡_, subst}
 use lib.Dec.{T}
-use Rattle.theory.proofs.Forms.{HoldsForm, HoldsNode, HoldsSuccessors}
-use Rattle.theory.proofs.Rewriting.{holds-possible, normal-in, normal-out}
-use Rattle.theory.proofs.Rules.{all-append, all-at, all-fst, all-map, all-of, all-snd, any-at, at-any, head, in-filter, map-all, tail}
 use Rattle.meaning.specs.Containment.{Indistinct}
 use Rattle.meaning.specs.Interpretation.{Holds, Interpretation, Satisfies}
 use Rattle.meaning.specs.Intervals.{Within}
@@ -19,6 +16,9 @@ use Rattle.spelling.proofs.Rising.{sorted-same}
 use Rattle.spelling.specs.Order.{sorted}
 use Rattle.spelling.specs.Spelling.{Conjunct, conjunctsOf, isIn, key, putAll, putInOrder, reaches, rolesOf, spelled, spelledTerm}
 use Rattle.spelling.specs.Spelling.{spelling, stated, termKey, within, withinOf}
+use Rattle.theory.proofs.Forms.{HoldsForm, HoldsNode, HoldsSuccessors}
+use Rattle.theory.proofs.Rewriting.{holds-possible, normal-in, normal-out}
+use Rattle.theory.proofs.Rules.{all-append, all-at, all-fst, all-map, all-of, all-snd, any-at, at-any, head, in-filter, map-all, tail}
 
 -- ---- an individual
 

@@ -8,8 +8,6 @@ use lib.ListN.{getD, length}
 use native.Mathlib.Omega.{arith}
 use borrow.Author.Tests.{eqb-false}
 use mathlib.Core.Logic.{⊎-elim}
-use Rattle.theory.proofs.Rules.{T-and, T-or, and-T, eqb-of, flatMap-append, or-left, same-test}
-use Rattle.theory.proofs.Wellformed.{sound-vocabulary, vocabulary-sound}
 use Rattle.meaning.specs.Intervals.{Constraint}
 use Rattle.meaning.specs.Lists.{any, counting, filter, flatMap}
 use Rattle.meaning.specs.NormalForm.{Form, add, bare, normalForm, placeConstraint, placeSuccessor, withClass, withConstraint, withSuccessor}
@@ -21,6 +19,8 @@ use Rattle.meaning.specs.Vocabulary.{Axiom, Vocabulary, axiomAt, axiomFits, axi
 use Rattle.meaning.specs.Vocabulary.{axiomsOf, axiomsRefusal, below, classCount, defaults, disjoint, featureCount, firstAxiom}
 use Rattle.meaning.specs.Vocabulary.{functionalFeature, functionalRole, isNamed, isOpposed, manyFeature, manyRole, nameBy, namesBy}
 use Rattle.meaning.specs.Vocabulary.{range, roleCount, soundAxiom, stated, unnamed, vocabularyOf, vocabularyRefusal}
+use Rattle.theory.proofs.Rules.{T-and, T-or, and-T, eqb-of, flatMap-append, or-left, same-test}
+use Rattle.theory.proofs.Wellformed.{sound-vocabulary, vocabulary-sound}
 
 abbrev pub flatOne : Axiom → Axiom
 flatOne (below a b) = below a a

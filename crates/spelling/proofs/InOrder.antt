@@ -2,7 +2,6 @@
 use mathlib.Core.List.{List, [], _∷_, map}
 use mathlib.Core.Path.{subst, sym}
 use Prim.Native.Nat.{ℕ}
-use Rattle.theory.proofs.Rules.{all-append, all-at, all-of, head, tail}
 use Rattle.meaning.specs.Intervals.{Constraint}
 use Rattle.meaning.specs.Lists.{All, cons, nil}
 use Rattle.meaning.specs.NormalForm.{Form, Node, Successors, none, normalForm, successor}
@@ -16,6 +15,7 @@ use Rattle.spelling.specs.Order.{sorted}
 use Rattle.spelling.specs.Ordered.{Ordered, OrderedBelow, Rising}
 use Rattle.spelling.specs.Spelling.{Conjunct, conjunctsOf, isIn, key, putAll, putInOrder, reaches, rolesOf, spelled, spelledTerm}
 use Rattle.spelling.specs.Spelling.{spelling, stated, within, withinOf}
+use Rattle.theory.proofs.Rules.{all-append, all-at, all-of, head, tail}
 
 abbrev OrderedOne : Conjunct → Type 0
 OrderedOne (isIn a) = Unit {0}

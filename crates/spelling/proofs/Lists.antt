@@ -4,8 +4,8 @@ use mathlib.Core.List.{List, [], _∷_, map}
 use mathlib.Core.Logic.{⊎-elim}
 use mathlib.Core.Path.{_≡_, ap, refl, subst, sym}
 use lib.Dec.{T}
-use Rattle.theory.proofs.Rules.{any-cases, any-none, isTrue}
 use Rattle.meaning.specs.Lists.{_∈_, filter, here, there}
+use Rattle.theory.proofs.Rules.{any-cases, any-none, isTrue}
 
 pub in-map : {A B : Type 0} (f : A → B) {x : A} {l : List A} → x ∈ l → f x ∈ map f l
 in-map f (here e) = here (ap f e)

@@ -6,8 +6,6 @@ use mathlib.Core.Logic.{_⊎_, inl, inr, ⊎-elim}
 use mathlib.Core.Path.{_∙_, _≡_, ap, refl, subst, sym}
 use lib.Dec.{T, eqb, eqb→eq}
 use native.Mathlib.Omega.{arith}
-use Rattle.theory.proofs.Rules.{T-and, all-append, all-at, all-of, and-T, any-append, any-cases, any-left, any-none, any-right, eqb-of}
-use Rattle.theory.proofs.Rules.{head, isTrue, notTrue, tail}
 use Rattle.meaning.specs.Intervals.{Constraint, meet}
 use Rattle.meaning.specs.Lists.{All, _∈_, cons, here, nil, there}
 use Rattle.meaning.specs.Normal.{Distinct, Fresh}
@@ -24,6 +22,8 @@ use Rattle.spelling.specs.Order.{sorted}
 use Rattle.spelling.specs.Ordered.{conjuncts}
 use Rattle.spelling.specs.Spelling.{Conjunct, conjunctsOf, isIn, key, putAll, putInOrder, reaches, rolesOf, spelling, stated, within}
 use Rattle.spelling.specs.Spelling.{withinOf}
+use Rattle.theory.proofs.Rules.{T-and, all-append, all-at, all-of, and-T, any-append, any-cases, any-left, any-none, any-right, eqb-of}
+use Rattle.theory.proofs.Rules.{head, isTrue, notTrue, tail}
 
 -- ---- a spelling is its members
 

@@ -4,10 +4,6 @@ use mathlib.Core.Bool.{Bool, _&&_, cond, false, true}
 use mathlib.Core.List.{List, [], _∷_}
 use mathlib.Core.Path.{_≡_, subst, sym}
 use lib.Dec.{eqb}
-use Rattle.theory.proofs.Rules.{all-append, all-at, all-map, all-of, head, tail}
-use Rattle.theory.proofs.Defaults.{accepted-stated}
-use Rattle.theory.proofs.Stated.{all-stated}
-use Rattle.theory.proofs.Wellformed.{accepted-terms}
 use Rattle.meaning.specs.Accepted.{ChainOf, NamedChain}
 use Rattle.meaning.specs.Intervals.{Constraint, meet}
 use Rattle.meaning.specs.Lists.{All, _∈_, cons, nil}
@@ -23,6 +19,10 @@ use Rattle.spelling.proofs.Rising.{sorted-same}
 use Rattle.spelling.specs.Order.{sorted}
 use Rattle.spelling.specs.Spelling.{Conjunct, conjunctsOf, isIn, key, putAll, putInOrder, reaches, rolesOf, spelled, spelledTerm}
 use Rattle.spelling.specs.Spelling.{spelling, stated, within, withinOf}
+use Rattle.theory.proofs.Rules.{all-append, all-at, all-map, all-of, head, tail}
+use Rattle.theory.proofs.Defaults.{accepted-stated}
+use Rattle.theory.proofs.Stated.{all-stated}
+use Rattle.theory.proofs.Wellformed.{accepted-terms}
 
 module _ (N R F : ℕ) where
   pub record NamedNode (n : Node) : Type 0 where

@@ -6,8 +6,6 @@ use mathlib.Core.Logic.{_↔_, _⊎_, inl, inr, ⊎-elim}
 use mathlib.Core.Path.{_∙_, _≡_, ap, refl, subst, sym}
 use lib.Dec.{T, eqb, eqb→eq}
 use native.Mathlib.Omega.{arith}
-use Rattle.theory.proofs.Normal.{add-normal, unbounded}
-use Rattle.theory.proofs.Rules.{T-and, all-at, all-of, and-T, any-append, any-cases, any-left, any-none, any-right, eqb-of, notTrue}
 use Rattle.meaning.specs.Intervals.{Constraint, meet}
 use Rattle.meaning.specs.Lists.{All, _∈_, cons, here, nil, there}
 use Rattle.meaning.specs.Normal.{Distinct, Fresh, Normal, NormalSuccessors}
@@ -18,6 +16,8 @@ use Rattle.meaning.specs.Stated.{isFunctionalFeature, isFunctionalRole, ranges}
 use Rattle.meaning.specs.Vocabulary.{Vocabulary}
 use Rattle.spelling.specs.Spelling.{Conjunct, conjunctsOf, isIn, put, putInOrder, reaches, rolesOf, spelling, stated, within}
 use Rattle.spelling.specs.Spelling.{withinOf}
+use Rattle.theory.proofs.Normal.{add-normal, unbounded}
+use Rattle.theory.proofs.Rules.{T-and, all-at, all-of, and-T, any-append, any-cases, any-left, any-none, any-right, eqb-of, notTrue}
 
 -- ---- steps
 

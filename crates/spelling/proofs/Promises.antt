@@ -7,9 +7,6 @@ use lib.Dec.{T, leb, ltb}
 use lib.ListN.{length}
 use native.Mathlib.Omega.{arith}
 use borrow.Author.Tests.{leb-true, ltb-false}
-use Rattle.theory.proofs.Equality.{indistinct-right}
-use Rattle.theory.proofs.Links.{split}
-use Rattle.theory.proofs.Refusals.{orElse-zero, unless-all}
 use Rattle.meaning.specs.Accepted.{depth, total}
 use Rattle.meaning.specs.Answers.{FillingResult, accepted, equal, result, wrote}
 use Rattle.meaning.specs.Containment.{Indistinct}
@@ -32,6 +29,9 @@ use Rattle.spelling.specs.Ordered.{Ordered, Rising}
 use Rattle.spelling.specs.Reordered.{ReorderedTerms}
 use Rattle.spelling.specs.Spelling.{spelled, termKey, tooLong}
 use Rattle.spelling.specs.Words.{policyWords}
+use Rattle.theory.proofs.Equality.{indistinct-right}
+use Rattle.theory.proofs.Links.{split}
+use Rattle.theory.proofs.Refusals.{orElse-zero, unless-all}
 
 -- ---- what is not too long
 

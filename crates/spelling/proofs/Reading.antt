@@ -9,10 +9,6 @@ use lib.ListN.{drop, length}
 use native.Mathlib.Nat.{add-zero}
 use native.Mathlib.Omega.{arith}
 use borrow.Author.Tests.{ne-eqb}
-use Rattle.theory.proofs.Chained.{record-after, word-at}
-use Rattle.theory.proofs.Links.{falling-le, onward-le, tests}
-use Rattle.theory.proofs.Rules.{all-mono, head, tail}
-use Rattle.theory.proofs.Terms.{terms-are}
 use Rattle.meaning.specs.Accepted.{ChainOf, Here, Reads, ReadsTerms, count, depth, reads-class, reads-end, reads-impossible, reads-interval}
 use Rattle.meaning.specs.Accepted.{reads-none, reads-some, reads-term, total}
 use Rattle.meaning.specs.Limits.{mostDepth, mostPolicyWords, mostRecords}
@@ -22,6 +18,10 @@ use Rattle.meaning.specs.Policy.{nextOf, policyOf, policyRefusal, reached, some
 use Rattle.meaning.specs.Records.{Name, Onward, isSized, lastOf, linkTo}
 use Rattle.meaning.specs.Vocabulary.{classCount, featureCount, roleCount}
 use Rattle.spelling.specs.Words.{chainLink, chainWords, policyWords, termWords}
+use Rattle.theory.proofs.Chained.{record-after, word-at}
+use Rattle.theory.proofs.Links.{falling-le, onward-le, tests}
+use Rattle.theory.proofs.Rules.{all-mono, head, tail}
+use Rattle.theory.proofs.Terms.{terms-are}
 
 -- ---- lengths
 

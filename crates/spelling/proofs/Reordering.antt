@@ -4,7 +4,6 @@ use mathlib.Core.List.{[], _∷_, map}
 use mathlib.Core.Logic.{_↔_, ⊎-elim}
 use mathlib.Core.Path.{_∙_, _≡_, ap, ap₂, refl, subst, sym}
 use lib.Dec.{T}
-use Rattle.theory.proofs.Rules.{any-cases, same-test}
 use Rattle.meaning.specs.Lists.{_∈_, filter, here, there}
 use Rattle.meaning.specs.NormalForm.{Form, add, bare, hasBottom, normalForm, possible}
 use Rattle.meaning.specs.Policy.{Chain, Policy, impossible}
@@ -18,6 +17,7 @@ use Rattle.spelling.proofs.Rising.{Same, sorted-eq}
 use Rattle.spelling.specs.Reordered.{Reordered, ReorderedTerms, afterClass, afterImpossible, afterInterval, firstTerm, inOrAfterSome}
 use Rattle.spelling.specs.Reordered.{inTurn, lowered, noTerms, raised, swapped, swappedTerms, termsInTurn, unmoved}
 use Rattle.spelling.specs.Spelling.{Conjunct, isIn, put, reaches, spelled, spelledTerm, spelling, termKey, within}
+use Rattle.theory.proofs.Rules.{any-cases, same-test}
 
 -- ---- added to a form
 

@@ -5,7 +5,6 @@ use mathlib.Core.Logic.{inl, inr, ⊎-elim}
 use mathlib.Core.Path.{_∙_, _≡_, ap, refl, sym}
 use lib.Dec.{T, eqb}
 use native.Mathlib.Omega.{arith}
-use Rattle.theory.proofs.Rules.{isTrue, notTrue}
 use Rattle.meaning.specs.Intervals.{Constraint, meet}
 use Rattle.meaning.specs.NormalForm.{Form, add, bare, normalForm}
 use Rattle.meaning.specs.Policy.{Chain, class, end, impossible, interval, some}
@@ -17,6 +16,7 @@ use Rattle.spelling.proofs.Placing.{Tidy, add-put, addOne, isFunctional
 use Rattle.spelling.proofs.Placing.{tidy-bare, tidy-start}
 use Rattle.spelling.proofs.Reordering.{yields-all}
 use Rattle.spelling.specs.Spelling.{Conjunct, isIn, put, reaches, spelledTerm, spelling, within, withinOf}
+use Rattle.theory.proofs.Rules.{isTrue, notTrue}
 
 -- what is reached may be said twice
 abbrev Twice : Vocabulary → Conjunct → Type 0

@@ -6,8 +6,6 @@ use mathlib.Core.Logic.{_⊎_, inl, inr, ⊎-elim}
 use mathlib.Core.Path.{_∙_, _≡_, ap, refl, subst, sym}
 use lib.Dec.{T}
 use native.Mathlib.Omega.{arith}
-use Rattle.theory.proofs.Normal.{normalForm-normal-unbounded}
-use Rattle.theory.proofs.Rules.{all-append, all-at, all-of, any-append, any-cases, any-left, any-none, any-right, head, isTrue, tail}
 use Rattle.meaning.specs.Intervals.{Constraint}
 use Rattle.meaning.specs.Lists.{All, _∈_, cons, filter, here, nil, there}
 use Rattle.meaning.specs.NormalForm.{Form, Successors, add, bare, none, normalForm, possible, successor}
@@ -27,6 +25,8 @@ use Rattle.spelling.specs.Order.{isBefore, sorted}
 use Rattle.spelling.specs.Ordered.{Rising}
 use Rattle.spelling.specs.Spelling.{Conjunct, conjunctsOf, isIn, key, putAll, putInOrder, reaches, rolesOf, spelled, spelledTerm}
 use Rattle.spelling.specs.Spelling.{spelling, stated, termKey, within, withinOf}
+use Rattle.theory.proofs.Normal.{normalForm-normal-unbounded}
+use Rattle.theory.proofs.Rules.{all-append, all-at, all-of, any-append, any-cases, any-left, any-none, any-right, head, isTrue, tail}
 
 -- what a role reaches is spelled
 abbrev pub Stable : Vocabulary → Conjunct → Type 0

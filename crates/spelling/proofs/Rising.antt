@@ -6,11 +6,11 @@ use mathlib.Core.Logic.{_↔_, _⊎_, inl, inr, ⊎-elim}
 use mathlib.Core.Path.{_≡_, refl, subst, sym}
 use lib.Dec.{T, eqb, eqb→eq, ltb, ltb→lt, lt→ltb}
 use native.Mathlib.Omega.{arith}
-use Rattle.theory.proofs.Rules.{T-and, T-or, all-at, all-mono, all-of, and-T, any-cases, any-none, eqb-of, isTrue, notTrue, or-left}
-use Rattle.theory.proofs.Rules.{or-right, order}
 use Rattle.meaning.specs.Lists.{All, _∈_, cons, here, nil, there}
 use Rattle.spelling.specs.Order.{isBefore, place, sorted}
 use Rattle.spelling.specs.Ordered.{Rising}
+use Rattle.theory.proofs.Rules.{T-and, T-or, all-at, all-mono, all-of, and-T, any-cases, any-none, eqb-of, isTrue, notTrue, or-left}
+use Rattle.theory.proofs.Rules.{or-right, order}
 
 -- ---- the comparison of lists is a total order
 

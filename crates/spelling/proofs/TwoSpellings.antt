@@ -4,7 +4,6 @@ use mathlib.Core.List.{[], _∷_}
 use mathlib.Core.Logic.{⊎-elim}
 use mathlib.Core.Path.{_≡_}
 use native.Mathlib.Omega.{arith}
-use Rattle.theory.proofs.Rules.{any-cases, any-none, order}
 use Rattle.meaning.specs.Containment.{Indistinct}
 use Rattle.meaning.specs.Lists.{here, there}
 use Rattle.meaning.specs.NormalForm.{normalForm, possible}
@@ -12,6 +11,7 @@ use Rattle.meaning.specs.Policy.{Policy, end, interval}
 use Rattle.meaning.specs.Stated.{isFunctionalFeature, isFunctionalRole}
 use Rattle.meaning.specs.Vocabulary.{Vocabulary}
 use Rattle.spelling.specs.Spelling.{spelled, spelledTerm, spelling}
+use Rattle.theory.proofs.Rules.{any-cases, any-none, order}
 
 abbrev whole : Policy
 whole = interval 1 0 9 end ∷ []

@@ -11,9 +11,6 @@ use Rattle.frames.specs.Frames.{Only}
 use Rattle.layout.proofs.Entries.{held-constraints, held-in, tabled-kept}
 use Rattle.layout.specs.Tables.{ConstraintsStand, Held, Pieces, Tabled, constraintAt, heldIn}
 use Rattle.layout.specs.declared.Tables.{Tables}
-use Rattle.theory.proofs.Intervals.{isNonEmpty-iff}
-use Rattle.theory.proofs.Picks.{AllNonEmpty, clean-nonEmpty-form}
-use Rattle.theory.proofs.Rules.{T-and, all-map, all-mono, all-out, head, isTrue, tail}
 use Rattle.meaning.specs.Intervals.{NonEmpty, isNonEmpty}
 use Rattle.meaning.specs.Limits.{mostRecords}
 use Rattle.meaning.specs.Lists.{all, counting}
@@ -24,6 +21,9 @@ use Rattle.meaning.specs.Vocabulary.{Vocabulary}
 use Rattle.splitting.proofs.Storing.{full-kept}
 use Rattle.splitting.specs.Ends.{Collectable, endWords}
 use Rattle.splitting.specs.Constraints.{Full, Splittable, firstConstraints}
+use Rattle.theory.proofs.Intervals.{isNonEmpty-iff}
+use Rattle.theory.proofs.Picks.{AllNonEmpty, clean-nonEmpty-form}
+use Rattle.theory.proofs.Rules.{T-and, all-map, all-mono, all-out, head, isTrue, tail}
 pub use Rattle.splitting.proofs.Storing.{constraints-kept}
 pub use Rattle.splitting.proofs.Whole.{whole-form}
 

@@ -8,13 +8,13 @@ use lib.ListN.{length}
 use borrow.Author.Tests.{eqb-false}
 use Rattle.keys.proofs.Adding.{gathered-none, gathered-then}
 use Rattle.keys.specs.Keys.{Gathered, keyOf}
-use Rattle.theory.proofs.Links.{split}
 use Rattle.meaning.specs.Accepted.{count, depth}
 use Rattle.meaning.specs.Policy.{Chain, childOf, conjunctAt, hiOf, kindOf, loOf, nameOf, nextOf}
 use Rattle.policy.proofs.Conjuncts.{Going, child-level, conjunct-kinds, depth-first, going-conjunct, going-ends, going-found, going-on, going-starts}
 use Rattle.policy.specs.Terms.{conjunctOf, conjunctsAt}
 use Rattle.splitting.proofs.Keys.{keys-few}
 use Rattle.splitting.specs.Ends.{Chained, Single, keysOf}
+use Rattle.theory.proofs.Links.{split}
 
 -- ---- a conjunct and what is after it
 

@@ -10,13 +10,13 @@ use lib.ListN.{getD, length, length-append}
 use borrow.Author.Tests.{eq-eqb, eqb-true}
 use Rattle.keys.proofs.Order.{same-key}
 use Rattle.keys.specs.Keys.{keyOf, valueCount}
-use Rattle.theory.proofs.Points.{inserts-all, inserts-here, inserts-sorted}
-use Rattle.theory.proofs.Rules.{all-at, all-of, any-append, any-both, any-cases, any-flatMap, any-left, any-mono, any-none, any-right, flatMap-any}
 use Rattle.meaning.specs.Accepted.{Reads, ReadsTerms, count, reads-class, reads-end, reads-impossible, reads-interval, reads-none, reads-some, reads-term}
 use Rattle.meaning.specs.Lists.{All, _∈_, cons, flatMap, here, nil, there}
 use Rattle.meaning.specs.Policy.{Chain, Policy, class, end, hiOf, impossible, interval, loOf, nameOf, some}
 use Rattle.meaning.specs.Splitting.{ends, insertAll}
 use Rattle.splitting.specs.Ends.{Ends, keysOf}
+use Rattle.theory.proofs.Points.{inserts-all, inserts-here, inserts-sorted}
+use Rattle.theory.proofs.Rules.{all-at, all-of, any-append, any-both, any-cases, any-flatMap, any-left, any-mono, any-none, any-right, flatMap-any}
 
 abbrev pub keysIn : Policy → List ℕ
 keysIn Q = flatMap keysOf Q

@@ -10,9 +10,6 @@ use lib.Dec.{eqb, leb, ltb}
 use lib.ListN.{length}
 use Rattle.keys.proofs.Ranking.{rising-tail}
 use Rattle.keys.specs.Keys.{keyOf}
-use Rattle.theory.proofs.Count.{count-pieces}
-use Rattle.theory.proofs.Points.{above, insert-all, insert-here, insert-sorted, insert-there, inserts-all, points-sorted}
-use Rattle.theory.proofs.Rules.{all-at, all-mono, all-of, any-cases, any-none}
 use Rattle.meaning.specs.Intervals.{Constraint, isWithin}
 use Rattle.meaning.specs.Limits.{mostCombinations}
 use Rattle.meaning.specs.Lists.{_∈_, cons, filter, here, nil, there}
@@ -21,6 +18,9 @@ use Rattle.meaning.specs.Splitting.{Sorted, insert, pieces, points, product, wi
 use Rattle.splitting.proofs.Pieces.{filtered}
 use Rattle.splitting.specs.Ends.{Ends, endsOn}
 use Rattle.splitting.specs.Constraints.{Few}
+use Rattle.theory.proofs.Count.{count-pieces}
+use Rattle.theory.proofs.Points.{above, insert-all, insert-here, insert-sorted, insert-there, inserts-all, points-sorted}
+use Rattle.theory.proofs.Rules.{all-at, all-mono, all-of, any-cases, any-none}
 
 -- ---- X has lo, hi and at most every end
 

@@ -11,11 +11,11 @@ use lib.Seq.{take-length}
 use borrow.Author.Tests.{eq-eqb, ltb-false, ltb-true, ne-eqb}
 use Rattle.keys.proofs.Ranking.{getD-in, nearest}
 use Rattle.keys.specs.Keys.{Ranked, keyOf, valueCount}
-use Rattle.theory.proofs.Rules.{all-of, any-none, head, tail}
 use Rattle.meaning.specs.Lists.{All, _∈_, here, there}
 use Rattle.meaning.specs.Policy.{Policy}
 use Rattle.meaning.specs.Splitting.{Sorted}
 use Rattle.splitting.specs.Ends.{Ends, NextEnd, endsOn, least, upTo, upper}
+use Rattle.theory.proofs.Rules.{all-of, any-none, head, tail}
 
 -- ---- the least member
 

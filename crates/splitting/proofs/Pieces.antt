@@ -9,17 +9,17 @@ use lib.Dec.{T, ltb}
 use lib.ListN.{length}
 use borrow.Author.Tests.{ltb-false, ltb-true}
 use Rattle.layout.specs.Tables.{intervalOf}
-use Rattle.theory.proofs.Intervals.{isWithin-iff}
-use Rattle.theory.proofs.Odometer.{at-lt}
-use Rattle.theory.proofs.Points.{above, insert-all, insert-here, insert-sorted, insert-there, inserts-all, inserts-here}
-use Rattle.theory.proofs.Points.{inserts-sorted, inserts-there}
-use Rattle.theory.proofs.Rules.{all-at, all-mono, all-of, any-cases, any-none, head, in-filter, tail}
 use Rattle.meaning.specs.Intervals.{Constraint, NonEmpty, isWithin}
 use Rattle.meaning.specs.Lists.{All, At, _∈_, atHere, atThere, cons, filter, here, nil}
 use Rattle.meaning.specs.Policy.{Policy}
 use Rattle.meaning.specs.Splitting.{Rising, Sorted, gap, insert, insertAll, only, pieces, piecesAt, piecesFrom}
 use Rattle.splitting.proofs.Nearest.{far-up, least-is, near-up, upper-is}
 use Rattle.splitting.specs.Ends.{endsOn, upper}
+use Rattle.theory.proofs.Intervals.{isWithin-iff}
+use Rattle.theory.proofs.Odometer.{at-lt}
+use Rattle.theory.proofs.Points.{above, insert-all, insert-here, insert-sorted, insert-there, inserts-all, inserts-here}
+use Rattle.theory.proofs.Points.{inserts-sorted, inserts-there}
+use Rattle.theory.proofs.Rules.{all-at, all-mono, all-of, any-cases, any-none, head, in-filter, tail}
 
 -- ---- a run
 

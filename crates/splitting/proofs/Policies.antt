@@ -6,7 +6,6 @@ use native.Mathlib.Omega.{arith}
 use lib.ListN.{getD, length}
 use Rattle.keys.proofs.Adding.{gathered-none, gathered-then}
 use Rattle.keys.specs.Keys.{Gathered, valueCount}
-use Rattle.theory.proofs.Wellformed.{accepted}
 use Rattle.meaning.specs.Accepted.{count, total}
 use Rattle.meaning.specs.Limits.{mostDepth}
 use Rattle.meaning.specs.Policy.{Policy, childOf, firstTerm, nextOf, policyOf, policyRefusal}
@@ -16,6 +15,7 @@ use Rattle.policy.specs.Terms.{conjunctsAt, termLinks}
 use Rattle.records.proofs.Chains.{Walking, walking-ends, walking-falls, walking-found, walking-on, walking-sound, walking-starts}
 use Rattle.splitting.proofs.Keys.{keys-ends, keys-few, keysIn}
 use Rattle.splitting.specs.Ends.{Chained, Collectable, Collected, Ends, keysOf}
+use Rattle.theory.proofs.Wellformed.{accepted}
 
 -- there is room for the terms that are left, and what is done with their keys is done with those of the policy
 pub record Rest (q e₀ e : List ℕ) (n : ℕ) (l : Policy) : Type 0 where

@@ -7,13 +7,13 @@ use native.Mathlib.Numerals.{add-one}
 use native.Mathlib.Omega.{arith}
 use Rattle.frames.proofs.Frames.{only-none, only-then}
 use Rattle.layout.specs.Tables.{PiecePut, constraintAt, intervalOf, pieceAt}
-use Rattle.theory.proofs.Rules.{order}
 use Rattle.meaning.specs.Lists.{At}
 use Rattle.meaning.specs.Policy.{Policy}
 use Rattle.meaning.specs.Splitting.{pieces}
 use Rattle.splitting.proofs.Pieces.{piece-first}
 use Rattle.splitting.proofs.Storing.{constraint-kept, piece-other, pieces-more, put-kept}
 use Rattle.splitting.specs.Constraints.{Splittable, Started}
+use Rattle.theory.proofs.Rules.{order}
 
 pub started-none : (w : List ℕ) → Started 0 w w
 started-none w = record { first = λ Q m h. absurd (omega arith); only = only-none }

@@ -5,7 +5,6 @@ use mathlib.Core.Path.{_∙_, _≡_, refl, sym}
 use native.Mathlib.Omega.{arith}
 use lib.Dec.{eqb}
 use borrow.Author.Tests.{eqb-false}
-use Rattle.theory.proofs.Links.{split}
 use Rattle.meaning.specs.Accepted.{count, depth, intervalCount}
 use Rattle.meaning.specs.Limits.{mostDepth, mostRecords}
 use Rattle.meaning.specs.Policy.{Chain, childOf, class, conjunctAt, end, impossible, interval, kindOf, nextOf, some}
@@ -13,6 +12,7 @@ use Rattle.policy.proofs.Conjuncts.{Going, child-level, conjunct-kinds, depth-f
 use Rattle.policy.specs.Terms.{conjunctOf, conjunctsAt}
 use Rattle.splitting.proofs.Collecting.{count-first}
 use Rattle.splitting.specs.Intervals.{ChainCounted, OneCounted, TermCounted}
+use Rattle.theory.proofs.Links.{split}
 
 intervals-few : (c : Chain) → intervalCount c ≤ count c
 intervals-few end = omega arith

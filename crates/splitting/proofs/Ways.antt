@@ -7,13 +7,13 @@ use native.Mathlib.Numerals.{add-one}
 use native.Mathlib.Omega.{arith}
 use lib.ListN.{length}
 use Rattle.layout.specs.Tables.{constraintAt, intervalOf}
-use Rattle.theory.proofs.Count.{pieces-some, product-append}
-use Rattle.theory.proofs.Counting.{counted-more}
 use Rattle.meaning.specs.Intervals.{Constraint, NonEmpty}
 use Rattle.meaning.specs.Limits.{mostCombinations}
 use Rattle.meaning.specs.Policy.{Policy}
 use Rattle.meaning.specs.Splitting.{pieces, product}
 use Rattle.splitting.specs.Constraints.{Splittable, firstConstraints, pieceCount}
+use Rattle.theory.proofs.Count.{pieces-some, product-append}
+use Rattle.theory.proofs.Counting.{counted-more}
 
 -- how many combinations the first i constraints have
 abbrev pub ways : Policy → List ℕ → ℕ → ℕ

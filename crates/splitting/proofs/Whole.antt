@@ -5,12 +5,12 @@ use mathlib.Core.Path.{_≡_, ap, ap₂, refl, subst, sym}
 use native.Mathlib.Omega.{arith}
 use lib.ListN.{length}
 use Rattle.layout.specs.Tables.{constraintAt}
-use Rattle.theory.proofs.Digits.{fill, fillConstraints, fillNode, fillSuccessors}
 use Rattle.meaning.specs.Intervals.{Constraint}
 use Rattle.meaning.specs.Lists.{counting}
 use Rattle.meaning.specs.NormalForm.{Form, Node, Successors, none, successor}
 use Rattle.meaning.specs.Splitting.{constraintsBelow, constraintsOf}
 use Rattle.splitting.specs.Constraints.{firstConstraints}
+use Rattle.theory.proofs.Digits.{fill, fillConstraints, fillNode, fillSuccessors}
 
 -- v o, v (o + 1), .. are the constraints
 abbrev Same : (ℕ → Constraint) → ℕ → List Constraint → Type 0

@@ -13,9 +13,6 @@ use Rattle.layout.specs.Combination.{IndividualBy, Kin, chosenFrom}
 use Rattle.layout.specs.Nesting.{Nested}
 use Rattle.layout.specs.Tables.{Tabled, holderAt, parentAt, roleAt}
 use Rattle.layout.specs.declared.Tables.{Tables}
-use Rattle.theory.proofs.Counting.{below-some, some-below}
-use Rattle.theory.proofs.Digits.{fill}
-use Rattle.theory.proofs.Rules.{T-and, T-or, and-T, eqb-of, isTrue, or-left, or-right, order, same-test}
 use Rattle.meaning.specs.Countermodel.{size}
 use Rattle.meaning.specs.Intervals.{Constraint}
 use Rattle.meaning.specs.Lists.{any, counting}
@@ -24,6 +21,9 @@ use Rattle.meaning.specs.Policy.{Chain, class, end, impossible, interval, some}
 use Rattle.meaning.specs.Subsumption.{anySuccessor, includes, subsumed}
 use Rattle.meaning.specs.Vocabulary.{Vocabulary}
 use Rattle.subsumption.specs.Tests.{hasPiece, hasSuccessor, holdsAt, isPassing, isPieceInside}
+use Rattle.theory.proofs.Counting.{below-some, some-below}
+use Rattle.theory.proofs.Digits.{fill}
+use Rattle.theory.proofs.Rules.{T-and, T-or, and-T, eqb-of, isTrue, or-left, or-right, order, same-test}
 
 -- ---- the constraints of an individual
 

@@ -9,11 +9,11 @@ use borrow.Author.Tests.{eq-eqb, ne-eqb}
 use Rattle.layout.specs.Nesting.{Nested}
 use Rattle.layout.specs.Tables.{constraintAt, holderAt}
 use Rattle.layout.specs.declared.Tables.{Tables}
-use Rattle.theory.proofs.Counting.{none-below, some-below}
-use Rattle.theory.proofs.Rules.{order}
 use Rattle.meaning.specs.Intervals.{isInside}
 use Rattle.meaning.specs.Subsumption.{includes}
 use Rattle.subsumption.specs.Tests.{FirstOf, hasPiece, hasWhole, isPieceInside}
+use Rattle.theory.proofs.Counting.{none-below, some-below}
+use Rattle.theory.proofs.Rules.{order}
 
 -- ---- one constraint
 

@@ -11,11 +11,11 @@ use Rattle.layout.specs.Combination.{nextSuccessor}
 use Rattle.layout.specs.Nesting.{Nested}
 use Rattle.layout.specs.Tables.{parentAt, roleAt}
 use Rattle.layout.specs.declared.Tables.{Tables}
+use Rattle.policy.specs.Terms.{conjunctsAt}
+use Rattle.subsumption.specs.Tests.{Individual, Testable, hasSuccessor, holdsWhole, isPassing}
 use Rattle.theory.proofs.Counting.{none-below, some-below}
 use Rattle.theory.proofs.Links.{split}
 use Rattle.theory.proofs.Rules.{order}
-use Rattle.policy.specs.Terms.{conjunctsAt}
-use Rattle.subsumption.specs.Tests.{Individual, Testable, hasSuccessor, holdsWhole, isPassing}
 
 -- ---- the next successor
 

@@ -9,8 +9,6 @@ use native.Mathlib.Omega.{arith}
 use Rattle.layout.proofs.Entries.{held-in}
 use Rattle.layout.specs.Tables.{Above, ConstraintsStand, Held, RowsStand, Tabled, constraintAt, heldBelow, heldBy, heldIn, setAt}
 use Rattle.layout.specs.declared.Tables.{Tables}
-use Rattle.theory.proofs.Counting.{counting-append}
-use Rattle.theory.proofs.Rules.{T-and, all-at, all-in, all-of, all-out, and-T, any-at, any-in, any-out, at-any, same-test}
 use Rattle.meaning.specs.Countermodel.{size}
 use Rattle.meaning.specs.Intervals.{Constraint, isNonEmpty}
 use Rattle.meaning.specs.Lists.{Any, _∈_, all, counting}
@@ -19,6 +17,8 @@ use Rattle.meaning.specs.Stated.{disjointPairs, isBelow}
 use Rattle.meaning.specs.Vocabulary.{Vocabulary, vocabularyOf}
 use Rattle.pairs.specs.Pairs.{PairRows, agreeIn, hasBoth, pairAt, pairCount}
 use Rattle.tabulation.specs.Clean.{DecidesClean, agree, cleanForm, nonEmptyAt}
+use Rattle.theory.proofs.Counting.{counting-append}
+use Rattle.theory.proofs.Rules.{T-and, all-at, all-in, all-of, all-out, and-T, any-at, any-in, any-out, at-any, same-test}
 use Rattle.words.specs.Sets.{inSet}
 
 -- ---- all of a list

@@ -8,7 +8,6 @@ use native.Mathlib.Nat.{add-comm}
 use native.Mathlib.Numerals.{add-one}
 use native.Mathlib.Omega.{arith}
 use Rattle.input.proofs.Words.{counted}
-use Rattle.theory.proofs.ModelWords.{model-facts, model-length, stated}
 use Rattle.meaning.specs.Answers.{Answer, VerdictResult}
 use Rattle.meaning.specs.Lists.{counting, flatMap}
 use Rattle.meaning.specs.Model.{Fact, factAt, factKind, factName, factOther, factOwner, factWords, factsOf}
@@ -19,6 +18,7 @@ use Rattle.meaning.specs.declared.Verdict.the-variants.{Outside}
 use Rattle.printing.proofs.Printing.{put-as, put-then}
 use Rattle.printing.specs.Printing.{Put}
 use Rattle.text.specs.Text.{Model, recordsTo, shown}
+use Rattle.theory.proofs.ModelWords.{model-facts, model-length, stated}
 
 -- the line of record k, of the words read
 module _ (m : List ℕ) (k : ℕ) {x a i j : ℕ} (kind : x ≡ factKind m k) (name : a ≡ factName m k) (owner : i ≡ factOwner m k) (other : j ≡ factOther m k) where

@@ -9,7 +9,6 @@ use mathlib.Core.List.{List, []}
 use mathlib.Core.Path.{_∙_, _≡_, ap, refl, subst, sym}
 use native.Mathlib.Omega.{arith}
 use Rattle.input.specs.Input.{decided, decidedWords, exact, partsEnd, thirdPart}
-use Rattle.theory.proofs.Compliance.{compliance-told}
 use Rattle.meaning.specs.Answers.{Answer, VerdictResult, outside, refused, result, verdictAnswer}
 use Rattle.meaning.specs.Countermodel.{canonicalModel, countermodel, individuals}
 use Rattle.meaning.specs.Limits.{mostBytes, outputSize, workSize}
@@ -26,6 +25,7 @@ use Rattle.printing.proofs.Printing.{put-taken, put-within}
 use Rattle.printing.specs.Printing.{Put}
 use Rattle.text.proofs.Facts.{line-printed}
 use Rattle.text.specs.Text.{Shows, shown}
+use Rattle.theory.proofs.Compliance.{compliance-told}
 
 -- ---- what is decided
 

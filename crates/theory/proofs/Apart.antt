@@ -6,13 +6,6 @@ use mathlib.Core.Logic.{_↔_, inl, inr, ⊎-elim}
 use mathlib.Core.Path.{_∙_, _≡_, refl}
 use native.Mathlib.Omega.{arith}
 use borrow.Author.Tests.{le-ltb}
-use Rattle.theory.proofs.Bounds.{bounded, bounded-terms}
-use Rattle.theory.proofs.Compliance.{compliance-told, compliant-right, escape}
-use Rattle.theory.proofs.Containment.{Decided, allComply, decided, someFails, sound}
-use Rattle.theory.proofs.Equality.{both-ways, equal-right, one-way, other-way}
-use Rattle.theory.proofs.Normal.{BoundedChain}
-use Rattle.theory.proofs.Refusals.{accepted-input}
-use Rattle.theory.proofs.ShortWay.{resolve-decide}
 use Rattle.meaning.specs.Answers.{VerdictResult, compliant, equal, result}
 use Rattle.meaning.specs.Containment.{Apart, Contained, Decision, Indistinct, Refutes, ToldApart, contained, crowded, decide, resolve}
 use Rattle.meaning.specs.Limits.{workSize}
@@ -23,6 +16,13 @@ use Rattle.meaning.specs.Operations.{Outcome, compliance, complianceOf, equalit
 use Rattle.meaning.specs.Policy.{Policy, policyOf}
 use Rattle.meaning.specs.Promises.{Complies, CorrectVerdict, IsRefusal, agreed, escaped, unsaidVerdict}
 use Rattle.meaning.specs.Vocabulary.{Vocabulary, vocabularyOf}
+use Rattle.theory.proofs.Bounds.{bounded, bounded-terms}
+use Rattle.theory.proofs.Compliance.{compliance-told, compliant-right, escape}
+use Rattle.theory.proofs.Containment.{Decided, allComply, decided, someFails, sound}
+use Rattle.theory.proofs.Equality.{both-ways, equal-right, one-way, other-way}
+use Rattle.theory.proofs.Normal.{BoundedChain}
+use Rattle.theory.proofs.Refusals.{accepted-input}
+use Rattle.theory.proofs.ShortWay.{resolve-decide}
 
 -- ---- the definitions
 

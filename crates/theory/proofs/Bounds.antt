@@ -2,11 +2,6 @@
 use Prim.Native.Nat.{ℕ}
 use mathlib.Core.List.{List}
 use mathlib.Core.Path.{_≡_}
-use Rattle.theory.proofs.Defaults.{accepted-stated}
-use Rattle.theory.proofs.Normal.{BoundedChain}
-use Rattle.theory.proofs.Rules.{all-mono, all-of}
-use Rattle.theory.proofs.Stated.{all-stated, ranges-in}
-use Rattle.theory.proofs.Wellformed.{accepted-terms}
 use Rattle.meaning.specs.Accepted.{NamedChain}
 use Rattle.meaning.specs.Lists.{All}
 use Rattle.meaning.specs.Normal.{Bounded}
@@ -14,6 +9,11 @@ use Rattle.meaning.specs.Policy.{Chain, class, end, impossible, interval, polic
 use Rattle.meaning.specs.Records.{Name}
 use Rattle.meaning.specs.Stated.{rangePairs, subclasses}
 use Rattle.meaning.specs.Vocabulary.{classCount, featureCount, roleCount, vocabularyOf, vocabularyRefusal}
+use Rattle.theory.proofs.Defaults.{accepted-stated}
+use Rattle.theory.proofs.Normal.{BoundedChain}
+use Rattle.theory.proofs.Rules.{all-mono, all-of}
+use Rattle.theory.proofs.Stated.{all-stated, ranges-in}
+use Rattle.theory.proofs.Wellformed.{accepted-terms}
 
 pub bounded : (v : List ℕ) → vocabularyRefusal v ≡ 0 → Bounded (vocabularyOf v)
 unfolding vocabularyOf

@@ -5,17 +5,6 @@ use mathlib.Core.Logic.{_⊎_, inl, inr}
 use mathlib.Core.Path.{_∙_, _≡_, subst, sym}
 use lib.Dec.{T}
 use native.Mathlib.Omega.{arith}
-use Rattle.theory.proofs.Closure.{below-bounded, below-refl, below-subclass, below-trans}
-use Rattle.theory.proofs.Counting.{in-counting}
-use Rattle.theory.proofs.Forms.{Has, HoldsForm, HoldsNode, HoldsSuccessors}
-use Rattle.theory.proofs.Intervals.{inside-within, value-within}
-use Rattle.theory.proofs.Pairs.{pairs-out}
-use Rattle.theory.proofs.Picks.{Parts, Picked, PickedForm, PickedNode, Consistent, no-clash, no-parts, none-picked, parts}
-use Rattle.theory.proofs.Picks.{picked}
-use Rattle.theory.proofs.Places.{Child, Place, True, places, root}
-use Rattle.theory.proofs.Rules.{all-any, all-append, all-at, all-filter, all-fst, all-map, all-mono, all-of, all-snd}
-use Rattle.theory.proofs.Rules.{any-cases, any-in, any-none, any-out, at-any, head, in-filter, map-all, tail}
-use Rattle.theory.proofs.Stated.{stated-all}
 use Rattle.meaning.specs.Countermodel.{canonicalModel, classesAbove, edges, individuals, pairs, recordsBelow, recordsOf, size}
 use Rattle.meaning.specs.Interpretation.{Proper, Satisfies}
 use Rattle.meaning.specs.Intervals.{Constraint, valueOf}
@@ -28,6 +17,17 @@ use Rattle.meaning.specs.Promises.{inhabited}
 use Rattle.meaning.specs.Records.{Name}
 use Rattle.meaning.specs.Stated.{isBelow, isFunctionalFeature, isFunctionalRole, ranges, subclass}
 use Rattle.meaning.specs.Vocabulary.{Vocabulary}
+use Rattle.theory.proofs.Closure.{below-bounded, below-refl, below-subclass, below-trans}
+use Rattle.theory.proofs.Counting.{in-counting}
+use Rattle.theory.proofs.Forms.{Has, HoldsForm, HoldsNode, HoldsSuccessors}
+use Rattle.theory.proofs.Intervals.{inside-within, value-within}
+use Rattle.theory.proofs.Pairs.{pairs-out}
+use Rattle.theory.proofs.Picks.{Parts, Picked, PickedForm, PickedNode, Consistent, no-clash, no-parts, none-picked, parts}
+use Rattle.theory.proofs.Picks.{picked}
+use Rattle.theory.proofs.Places.{Child, Place, True, places, root}
+use Rattle.theory.proofs.Rules.{all-any, all-append, all-at, all-filter, all-fst, all-map, all-mono, all-of, all-snd}
+use Rattle.theory.proofs.Rules.{any-cases, any-in, any-none, any-out, at-any, head, in-filter, map-all, tail}
+use Rattle.theory.proofs.Stated.{stated-all}
 
 -- the individuals are 1 to n
 abbrev Numbered : ℕ → Fact → Type 0

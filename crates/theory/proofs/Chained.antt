@@ -9,9 +9,9 @@ use lib.ListN.{drop, getD, length, length-append}
 use lib.Seq.{drop-drop, getD-drop}
 use native.Mathlib.Nat.{mul-suc}
 use native.Mathlib.Omega.{arith}
-use Rattle.theory.proofs.Links.{tests}
 use Rattle.meaning.specs.Lists.{All, cons}
 use Rattle.meaning.specs.Records.{Onward, chainedWords, isOnward, linkTo, listAlong, refusalAlong}
+use Rattle.theory.proofs.Links.{tests}
 
 -- record k of the words m begins with the words l
 module _ (width : ℕ) (m : List ℕ) (k : ℕ) {l : List ℕ} (e : drop (width * k) m ≡ l) where

@@ -7,11 +7,6 @@ use mathlib.Core.Path.{_≡_, refl}
 use lib.Dec.{T, eqb}
 use lib.ListN.{length}
 use native.Mathlib.Omega.{arith}
-use Rattle.theory.proofs.Links.{choose, passed, tests}
-use Rattle.theory.proofs.ModelCheck.{refutes-iff}
-use Rattle.theory.proofs.ModelWords.{NamedFact}
-use Rattle.theory.proofs.Refusals.{unless-all}
-use Rattle.theory.proofs.Rules.{all-at, isTrue, notTrue}
 use Rattle.meaning.specs.Answers.{Answer, CheckResult, no, refused, result, yes}
 use Rattle.meaning.specs.Interpretation.{Proper}
 use Rattle.meaning.specs.Limits.{mostIndividuals}
@@ -24,6 +19,11 @@ use Rattle.meaning.specs.Policy.{Policy, policyOf}
 use Rattle.meaning.specs.Promises.{CorrectCheck, Countered, IsRefusal, countered, inhabited, standing, unsaidCheck}
 use Rattle.meaning.specs.Records.{Name, orElse}
 use Rattle.meaning.specs.Vocabulary.{Vocabulary, classCount, featureCount, roleCount, vocabularyOf}
+use Rattle.theory.proofs.Links.{choose, passed, tests}
+use Rattle.theory.proofs.ModelCheck.{refutes-iff}
+use Rattle.theory.proofs.ModelWords.{NamedFact}
+use Rattle.theory.proofs.Refusals.{unless-all}
+use Rattle.theory.proofs.Rules.{all-at, isTrue, notTrue}
 
 module _ (v p q m : List ℕ) where
   pub check-judged : (w : ℕ) → CorrectCheck v p q m (modelCheck v p q m w)

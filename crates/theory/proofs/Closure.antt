@@ -5,14 +5,14 @@ use mathlib.Core.List.{List, [], _∷_}
 use mathlib.Core.Logic.{_↔_, _⊎_, inl, inr}
 use mathlib.Core.Path.{_≡_, refl, subst}
 use lib.Dec.{T, eqb-refl, eqb→eq}
-use Rattle.theory.proofs.Rules.{T-and, T-or, and-T, eqb-of, or-left, or-right}
-use Rattle.theory.proofs.Stated.{all-stated}
 use Rattle.meaning.specs.Interpretation.{Interpretation, Satisfies}
 use Rattle.meaning.specs.Lists.{_∈_, here, there}
 use Rattle.meaning.specs.Normal.{Bounded}
 use Rattle.meaning.specs.Records.{Name}
 use Rattle.meaning.specs.Stated.{closure, isBelow, subclasses}
 use Rattle.meaning.specs.Vocabulary.{Vocabulary}
+use Rattle.theory.proofs.Rules.{T-and, T-or, and-T, eqb-of, or-left, or-right}
+use Rattle.theory.proofs.Stated.{all-stated}
 
 -- ---- the closure of a list of pairs
 

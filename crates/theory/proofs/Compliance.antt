@@ -6,15 +6,6 @@ use mathlib.Core.Path.{_≡_, refl, subst, subst₂, sym}
 use lib.Dec.{leb, leb→le}
 use lib.ListN.{length}
 use native.Mathlib.Omega.{arith}
-use Rattle.theory.proofs.Bounds.{bounded, bounded-terms}
-use Rattle.theory.proofs.Containment.{Decided, allComply, decided, refuted, someFails, sound}
-use Rattle.theory.proofs.First.{first}
-use Rattle.theory.proofs.Interpretations.{contained-finite, tested-finite}
-use Rattle.theory.proofs.ModelWords.{model-facts, model-individuals}
-use Rattle.theory.proofs.Normal.{BoundedChain}
-use Rattle.theory.proofs.Refusals.{accepted-input, cond-all, orElse-zero, unless-all}
-use Rattle.theory.proofs.Rules.{any-right, isTrue}
-use Rattle.theory.proofs.ShortWay.{resolve-decide}
 use Rattle.meaning.specs.Answers.{VerdictResult, compliant, outside, result}
 use Rattle.meaning.specs.Containment.{Contained, ContainedFinite, ContainedTested, Decision, Refutes, crowded, decide, escapes}
 use Rattle.meaning.specs.Containment.{resolve}
@@ -30,6 +21,15 @@ use Rattle.meaning.specs.Policy.{Policy, policyOf}
 use Rattle.meaning.specs.Promises.{Complies, CorrectVerdict, Escape, FirstFailure, IsRefusal, agreed, escaped, unsaidVerdict}
 use Rattle.meaning.specs.Records.{orElse}
 use Rattle.meaning.specs.Vocabulary.{Vocabulary, vocabularyOf}
+use Rattle.theory.proofs.Bounds.{bounded, bounded-terms}
+use Rattle.theory.proofs.Containment.{Decided, allComply, decided, refuted, someFails, sound}
+use Rattle.theory.proofs.First.{first}
+use Rattle.theory.proofs.Interpretations.{contained-finite, tested-finite}
+use Rattle.theory.proofs.ModelWords.{model-facts, model-individuals}
+use Rattle.theory.proofs.Normal.{BoundedChain}
+use Rattle.theory.proofs.Refusals.{accepted-input, cond-all, orElse-zero, unless-all}
+use Rattle.theory.proofs.Rules.{any-right, isTrue}
+use Rattle.theory.proofs.ShortWay.{resolve-decide}
 
 -- where the first policy is contained in the second, in finite interpretations, there is none
 pub no-escape : {K : Vocabulary} {P Q : Policy} {s q : ℕ} {words : List ℕ} → ContainedFinite K P Q → Escape K P Q s q words → ⊥

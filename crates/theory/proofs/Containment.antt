@@ -6,16 +6,6 @@ use mathlib.Core.List.{[], _∷_}
 use mathlib.Core.Path.{_≡_, ap, refl, subst}
 use lib.Dec.{T, T-not}
 use native.Mathlib.Omega.{arith}
-use Rattle.theory.proofs.Canonical.{formed, model-proper, satisfied}
-use Rattle.theory.proofs.First.{Searched, first, never, searched}
-use Rattle.theory.proofs.Forms.{HoldsForm}
-use Rattle.theory.proofs.Links.{split}
-use Rattle.theory.proofs.Normal.{BoundedChain, normalForm-normal}
-use Rattle.theory.proofs.Picks.{PickedForm, Consistent, clean-nonEmpty-form, combinations-picked, consistent-picked}
-use Rattle.theory.proofs.Pieces.{combinations-held}
-use Rattle.theory.proofs.Rewriting.{holds-possible, normal-in, normal-out}
-use Rattle.theory.proofs.Rules.{T-and, all-any, all-at, all-of, any-at, any-in, any-mono, any-out, at-any, isTrue, notTrue}
-use Rattle.theory.proofs.Subsumption.{subsumed-complete, subsumed-sound}
 use Rattle.meaning.specs.Containment.{Contained, ContainedFinite, Decision, Refutes, contained, decide, decideFrom, escapes}
 use Rattle.meaning.specs.Containment.{firstFailure, orEscape, passes}
 use Rattle.meaning.specs.Countermodel.{canonicalModel, individuals}
@@ -30,6 +20,16 @@ use Rattle.meaning.specs.Records.{Name}
 use Rattle.meaning.specs.Splitting.{combinations}
 use Rattle.meaning.specs.Subsumption.{subsumed}
 use Rattle.meaning.specs.Vocabulary.{Vocabulary}
+use Rattle.theory.proofs.Canonical.{formed, model-proper, satisfied}
+use Rattle.theory.proofs.First.{Searched, first, never, searched}
+use Rattle.theory.proofs.Forms.{HoldsForm}
+use Rattle.theory.proofs.Links.{split}
+use Rattle.theory.proofs.Normal.{BoundedChain, normalForm-normal}
+use Rattle.theory.proofs.Picks.{PickedForm, Consistent, clean-nonEmpty-form, combinations-picked, consistent-picked}
+use Rattle.theory.proofs.Pieces.{combinations-held}
+use Rattle.theory.proofs.Rewriting.{holds-possible, normal-in, normal-out}
+use Rattle.theory.proofs.Rules.{T-and, all-any, all-at, all-of, any-at, any-in, any-mono, any-out, at-any, isTrue, notTrue}
+use Rattle.theory.proofs.Subsumption.{subsumed-complete, subsumed-sound}
 
 pub passes-sound : (I : Interpretation) (K : Vocabulary) → Satisfies I K → (Q : Policy) (u : Form) (d : ℕ) → T (passes K Q u) → HoldsForm I u d → In I Q d
 unfolding passes

@@ -7,14 +7,14 @@ use lib.Dec.{ltb}
 use lib.ListN.{length, length-append, length-map}
 use native.Mathlib.Nat.{mul-assoc, mul-pos, one-mul, suc-mul, zero-mul}
 use native.Mathlib.Omega.{arith}
-use Rattle.theory.proofs.Points.{lo-point}
-use Rattle.theory.proofs.Rules.{any-none}
 use Rattle.meaning.specs.Intervals.{Constraint}
 use Rattle.meaning.specs.Lists.{_∈_, flatMap}
 use Rattle.meaning.specs.NormalForm.{Form, Node, Successors, none, successor}
 use Rattle.meaning.specs.Policy.{Policy}
 use Rattle.meaning.specs.Splitting.{choices, combinationCount, combinations, constraintsBelow, constraintsOf, pieces}
 use Rattle.meaning.specs.Splitting.{piecesAt, piecesFrom, points, product, splitNode, splitSuccessors, wide, wideNeighbours}
+use Rattle.theory.proofs.Points.{lo-point}
+use Rattle.theory.proofs.Rules.{any-none}
 
 -- SPECIFICATION 7.2: their number is the size of X plus the neighbours that differ by 2 or more
 count-from : (f x : ℕ) (l : List ℕ) → length (piecesFrom f x l) ≡ suc (length l) + wide x l

@@ -6,9 +6,9 @@ use mathlib.Core.Logic.{_⊎_, inl, inr}
 use mathlib.Core.Path.{_∙_, _≡_, ap, ap₂, refl, sym}
 use native.Mathlib.Numerals.{add-one}
 use native.Mathlib.Omega.{arith}
-use Rattle.theory.proofs.Rules.{all-mono, any-at, any-in, any-out, at-any, isTrue, order, same-test}
 use Rattle.meaning.specs.Lists.{All, _∈_, all, any, cons, counting, here, nil, there}
 use Rattle.meaning.specs.Records.{Name}
+use Rattle.theory.proofs.Rules.{all-mono, any-at, any-in, any-out, at-any, isTrue, order, same-test}
 
 pub counting-append : (k m n : ℕ) → counting k (m + n) ≡ counting k m ++ counting (k + m) n
 counting-append k zero n = rw (zero-add n) (ap (λ (i : ℕ). counting i n) (omega arith))

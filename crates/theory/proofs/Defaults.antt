@@ -10,14 +10,6 @@ use lib.Ieee.Bits.{is-false, is-true}
 use lib.ListN.{length}
 use native.Mathlib.Omega.{arith}
 use borrow.Author.Tests.{le-leb}
-use Rattle.theory.proofs.Counting.{counting-names, in-counting}
-use Rattle.theory.proofs.Links.{bounds}
-use Rattle.theory.proofs.Refusals.{along-all}
-use Rattle.theory.proofs.Rules.{all-append, all-at, all-map, all-mono, all-of, any-flatMap, any-in, at-any, in-filter, isFalse}
-use Rattle.theory.proofs.Rules.{isTrue, notTrue, or-left, or-right, same-test, T-and}
-use Rattle.theory.proofs.Stated.{AllStated, all-stated, feature-default, functionalFeature-stated, functionalRole-stated}
-use Rattle.theory.proofs.Stated.{role-default, stated-all}
-use Rattle.theory.proofs.Wellformed.{accepted-axioms, vocabulary-sound}
 use Rattle.meaning.specs.Accepted.{AxiomOf, NamedAxiom}
 use Rattle.meaning.specs.Answers.{Answer, ReadingResult, accepted, refused, result}
 use Rattle.meaning.specs.Interpretation.{Interpretation, Obeys, Satisfies}
@@ -31,6 +23,14 @@ use Rattle.meaning.specs.Vocabulary.{Axiom, Vocabulary, axiomNext, axiomsOf, ax
 use Rattle.meaning.specs.Vocabulary.{featureCount, firstAxiom, functionalFeature, functionalRole, headedVocabulary, isNamed}
 use Rattle.meaning.specs.Vocabulary.{isOpposed, manyFeature, manyRole, nameBy, namesBy, range, roleCount, soundAxiom, stated}
 use Rattle.meaning.specs.Vocabulary.{unnamed, vocabularyOf, vocabularyRefusal}
+use Rattle.theory.proofs.Counting.{counting-names, in-counting}
+use Rattle.theory.proofs.Links.{bounds}
+use Rattle.theory.proofs.Refusals.{along-all}
+use Rattle.theory.proofs.Rules.{all-append, all-at, all-map, all-mono, all-of, any-flatMap, any-in, at-any, in-filter, isFalse}
+use Rattle.theory.proofs.Rules.{isTrue, notTrue, or-left, or-right, same-test, T-and}
+use Rattle.theory.proofs.Stated.{AllStated, all-stated, feature-default, functionalFeature-stated, functionalRole-stated}
+use Rattle.theory.proofs.Stated.{role-default, stated-all}
+use Rattle.theory.proofs.Wellformed.{accepted-axioms, vocabulary-sound}
 
 -- ---- the names of a series that no axiom names
 

@@ -5,11 +5,6 @@ use mathlib.Core.List.{List}
 use mathlib.Core.Logic.{_↔_}
 use mathlib.Core.Path.{_≡_, refl}
 use native.Mathlib.Omega.{arith}
-use Rattle.theory.proofs.Bounds.{bounded, bounded-terms}
-use Rattle.theory.proofs.Compliance.{compliant-right, contained-right, no-escape, reported-all}
-use Rattle.theory.proofs.Containment.{sound}
-use Rattle.theory.proofs.Interpretations.{contained-finite, tested-finite}
-use Rattle.theory.proofs.Refusals.{accepted-input, cond-all, orElse-zero, unless-all}
 use Rattle.meaning.specs.Answers.{ComparisonResult, compliant, differs, equal, result}
 use Rattle.meaning.specs.Containment.{Contained, ContainedFinite, Indistinct, IndistinctTested, crowded}
 use Rattle.meaning.specs.Operations.{Outcome, compliance, equality, equalityOf, inputRefusal, refuses, says, workRefusal}
@@ -17,6 +12,11 @@ use Rattle.meaning.specs.Policy.{Policy, policyOf}
 use Rattle.meaning.specs.Promises.{CorrectComparison, IsRefusal, same, side1, side2, unsaidComparison}
 use Rattle.meaning.specs.Records.{orElse}
 use Rattle.meaning.specs.Vocabulary.{Vocabulary, vocabularyOf}
+use Rattle.theory.proofs.Bounds.{bounded, bounded-terms}
+use Rattle.theory.proofs.Compliance.{compliant-right, contained-right, no-escape, reported-all}
+use Rattle.theory.proofs.Containment.{sound}
+use Rattle.theory.proofs.Interpretations.{contained-finite, tested-finite}
+use Rattle.theory.proofs.Refusals.{accepted-input, cond-all, orElse-zero, unless-all}
 
 pub both-ways : {K : Vocabulary} {P Q : Policy} → Contained K P Q → Contained K Q P → Indistinct K P Q
 both-ways c d I proper s e i = (c I proper s e i, d I proper s e i)

@@ -5,10 +5,10 @@ use mathlib.Core.List.{List, [], _∷_}
 use mathlib.Core.Path.{_≡_, ap, refl, subst, sym}
 use lib.Dec.{T}
 use native.Mathlib.Omega.{arith}
-use Rattle.theory.proofs.Links.{passed, split}
-use Rattle.theory.proofs.Rules.{isTrue}
 use Rattle.meaning.specs.Lists.{All, Found, cons, firstFailing, found, nil, nowhere}
 use Rattle.meaning.specs.Promises.{First}
+use Rattle.theory.proofs.Links.{passed, split}
+use Rattle.theory.proofs.Rules.{isTrue}
 
 pub data Searched {A : Type 0} (p : A → Bool) (s : ℕ) (l : List A) : Found A → Type 0 where
   never : All (λ x. T (p x)) l → Searched p s l nowhere

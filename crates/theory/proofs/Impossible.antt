@@ -7,12 +7,6 @@ use mathlib.Core.Path.{_≡_, refl}
 use lib.Dec.{T}
 use lib.ListN.{length}
 use native.Mathlib.Omega.{arith}
-use Rattle.theory.proofs.Containment.{witness}
-use Rattle.theory.proofs.Count.{combinations-some}
-use Rattle.theory.proofs.Digits.{number}
-use Rattle.theory.proofs.Normal.{BoundedChain}
-use Rattle.theory.proofs.Rewriting.{holds-possible}
-use Rattle.theory.proofs.Rules.{isFalse, notTrue}
 use Rattle.meaning.specs.Interpretation.{Holds, Interpretation, Proper, Satisfies}
 use Rattle.meaning.specs.Lists.{_∈_, here}
 use Rattle.meaning.specs.Model.{stands}
@@ -23,6 +17,12 @@ use Rattle.meaning.specs.Policy.{Chain}
 use Rattle.meaning.specs.Promises.{Satisfiable}
 use Rattle.meaning.specs.Splitting.{combinations}
 use Rattle.meaning.specs.Vocabulary.{Vocabulary}
+use Rattle.theory.proofs.Containment.{witness}
+use Rattle.theory.proofs.Count.{combinations-some}
+use Rattle.theory.proofs.Digits.{number}
+use Rattle.theory.proofs.Normal.{BoundedChain}
+use Rattle.theory.proofs.Rewriting.{holds-possible}
+use Rattle.theory.proofs.Rules.{isFalse, notTrue}
 
 -- a list with a length has a first element
 first-of : {A : Type 0} (l : List A) → 1 ≤ length l → (x : A) × (x ∈ l)

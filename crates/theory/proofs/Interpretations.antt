@@ -5,12 +5,6 @@ use mathlib.Core.List.{List}
 use mathlib.Core.Logic.{_↔_}
 use mathlib.Core.Path.{_≡_, subst, sym}
 use lib.Dec.{eqb, eqb-refl, eqb→eq, leb, leb→le, le→leb}
-use Rattle.theory.proofs.Containment.{complete, sound}
-use Rattle.theory.proofs.Intervals.{only-within, within-only}
-use Rattle.theory.proofs.ModelCheck.{edge-is, is-edge, is-member, is-value, member-is, value-is}
-use Rattle.theory.proofs.Normal.{BoundedChain}
-use Rattle.theory.proofs.Rules.{T-and, and-T, any-in, any-mono, any-out}
-use Rattle.theory.proofs.Stated.{all-stated, stated-all}
 use Rattle.meaning.specs.Containment.{Contained, ContainedFinite, ContainedTested}
 use Rattle.meaning.specs.Interpretation.{Holds, In, Interpretation, Proper, Satisfies, Tested, interpreted}
 use Rattle.meaning.specs.Lists.{All, any}
@@ -21,6 +15,12 @@ use Rattle.meaning.specs.Policy.{Chain, Policy, class, end, impossible, interva
 use Rattle.meaning.specs.Promises.{Complies, inhabited}
 use Rattle.meaning.specs.Stated.{subclass}
 use Rattle.meaning.specs.Vocabulary.{Vocabulary}
+use Rattle.theory.proofs.Containment.{complete, sound}
+use Rattle.theory.proofs.Intervals.{only-within, within-only}
+use Rattle.theory.proofs.ModelCheck.{edge-is, is-edge, is-member, is-value, member-is, value-is}
+use Rattle.theory.proofs.Normal.{BoundedChain}
+use Rattle.theory.proofs.Rules.{T-and, and-T, any-in, any-mono, any-out}
+use Rattle.theory.proofs.Stated.{all-stated, stated-all}
 
 -- one interpretation says what another says
 pub record Agree (I J : Interpretation) : Type 0 where

@@ -5,8 +5,8 @@ use mathlib.Core.Logic.{_↔_}
 use mathlib.Core.Path.{_≡_}
 use lib.Dec.{T, leb, leb→le, le→leb, nleb→lt}
 use native.Mathlib.Omega.{arith}
-use Rattle.theory.proofs.Rules.{T-and, and-T}
 use Rattle.meaning.specs.Intervals.{Constraint, Empty, NonEmpty, Within, isInside, isNonEmpty, isWithin, meet, valueOf}
+use Rattle.theory.proofs.Rules.{T-and, and-T}
 
 module _ (lo hi : ℕ) where
   pub isWithin-iff : (v : ℕ) → T (isWithin lo hi v) ↔ Within lo hi v

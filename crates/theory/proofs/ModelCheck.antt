@@ -5,9 +5,6 @@ use mathlib.Core.List.{List}
 use mathlib.Core.Logic.{_↔_}
 use mathlib.Core.Path.{_≡_, ap₂, refl, subst, sym}
 use lib.Dec.{T, T-not, eqb, eqb-refl, eqb→eq, not-T}
-use Rattle.theory.proofs.Intervals.{isWithin-iff}
-use Rattle.theory.proofs.Rules.{T-and, all-at, all-in, all-mono, all-of, all-out, and-T, any-at, any-in, any-mono, any-out}
-use Rattle.theory.proofs.Rules.{eqb-of, imp-in, imp-out}
 use Rattle.meaning.specs.Interpretation.{Holds, In, Obeys, Satisfies}
 use Rattle.meaning.specs.Intervals.{Within, isWithin}
 use Rattle.meaning.specs.Lists.{_∈_, all, any}
@@ -17,6 +14,9 @@ use Rattle.meaning.specs.ModelCheck.{refutes}
 use Rattle.meaning.specs.Policy.{Chain, Policy, class, end, impossible, interval, some}
 use Rattle.meaning.specs.Vocabulary.{Axiom, Vocabulary, below, disjoint, functionalFeature, functionalRole, manyFeature, manyRole}
 use Rattle.meaning.specs.Vocabulary.{range, stated}
+use Rattle.theory.proofs.Intervals.{isWithin-iff}
+use Rattle.theory.proofs.Rules.{T-and, all-at, all-in, all-mono, all-of, all-out, and-T, any-at, any-in, any-mono, any-out}
+use Rattle.theory.proofs.Rules.{eqb-of, imp-in, imp-out}
 
 pub member-is : (a i : ℕ) (x : Fact) → T (isMember a i x) → member a i ≡ x
 member-is a i (member b j) t = let u = T-and (eqb a b) (eqb i j) t in ap₂ member (eqb→eq a b (u .0)) (eqb→eq i j (u .1))

@@ -6,8 +6,6 @@ use mathlib.Core.Path.{_≡_, refl}
 use lib.ListN.{drop, getD, length}
 use native.Mathlib.Nat.{add-zero}
 use native.Mathlib.Omega.{arith}
-use Rattle.theory.proofs.Chained.{Stated, chained-length, chained-read, chained-sound, link-onward, record-after, word-at}
-use Rattle.theory.proofs.Links.{onward-le, tests}
 use Rattle.meaning.specs.Limits.{mostFacts, mostIndividuals, mostModelWords}
 use Rattle.meaning.specs.Lists.{All}
 use Rattle.meaning.specs.Model.{Fact, edge, factAt, factFits, factKind, factNext, factWords, factsOf}
@@ -15,6 +13,8 @@ use Rattle.meaning.specs.Model.{headedModel, individualCount, member, modelRefu
 use Rattle.meaning.specs.Model.{modelWords, value}
 use Rattle.meaning.specs.Records.{Name, isSized, lastOf, linkTo}
 use Rattle.meaning.specs.Vocabulary.{classCount, featureCount, roleCount}
+use Rattle.theory.proofs.Chained.{Stated, chained-length, chained-read, chained-sound, link-onward, record-after, word-at}
+use Rattle.theory.proofs.Links.{onward-le, tests}
 
 -- ---- lengths
 

@@ -4,7 +4,6 @@ use mathlib.Core.Bool.{Bool, _&&_, cond, false, true}
 use mathlib.Core.List.{List, [], _∷_}
 use mathlib.Core.Path.{_≡_, refl, subst, sym}
 use lib.Dec.{T, eqb}
-use Rattle.theory.proofs.Rules.{all-mono, all-of, and-T, eqb-of, head, notTrue, tail}
 use Rattle.meaning.specs.Intervals.{Constraint, meet}
 use Rattle.meaning.specs.Lists.{All, _∈_, cons, nil, there}
 use Rattle.meaning.specs.Normal.{Distinct, Fresh, Normal, NormalSuccessors}
@@ -14,6 +13,7 @@ use Rattle.meaning.specs.Policy.{Chain, class, end, impossible, interval, some}
 use Rattle.meaning.specs.Records.{Name}
 use Rattle.meaning.specs.Stated.{isFunctionalFeature, isFunctionalRole, ranges}
 use Rattle.meaning.specs.Vocabulary.{Vocabulary}
+use Rattle.theory.proofs.Rules.{all-mono, all-of, and-T, eqb-of, head, notTrue, tail}
 
 -- the classes of a chain have B
 abbrev pub ClassesIn : (ℕ → Type 0) → Chain → Type 0

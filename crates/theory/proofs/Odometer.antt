@@ -5,14 +5,14 @@ use mathlib.Core.Path.{_∙_, _≡_, ap, refl, subst, sym}
 use lib.ListN.{getD, length, length-map}
 use native.Mathlib.Nat.{add-mul, mul-assoc, suc-mul, zero-add, zero-mul}
 use native.Mathlib.Omega.{arith}
-use Rattle.theory.proofs.Count.{count-choices, count-successors, length-each, product-append}
-use Rattle.theory.proofs.Digits.{Takes, fill, fillConstraints, fillNode, fillSuccessors, number}
 use Rattle.meaning.specs.Intervals.{Constraint}
 use Rattle.meaning.specs.Lists.{At, atHere, atThere, flatMap}
 use Rattle.meaning.specs.NormalForm.{Form, Node, Successors, none, successor}
 use Rattle.meaning.specs.Policy.{Policy}
 use Rattle.meaning.specs.Splitting.{choices, combinations, constraintsBelow, constraintsOf, product, splitNode}
 use Rattle.meaning.specs.Splitting.{splitSuccessors}
+use Rattle.theory.proofs.Count.{count-choices, count-successors, length-each, product-append}
+use Rattle.theory.proofs.Digits.{Takes, fill, fillConstraints, fillNode, fillSuccessors, number}
 
 module _ {A : Type 0} {x : A} where
   pub at-lt : {l : List A} {i : ℕ} → At x l i → i < length l

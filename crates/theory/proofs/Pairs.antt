@@ -4,10 +4,10 @@ use mathlib.Core.Bool.{Bool, cond, false, true}
 use mathlib.Core.List.{List, [], _∷_}
 use mathlib.Core.Path.{subst₂, sym}
 use lib.Dec.{T, eqb, eqb→eq}
-use Rattle.theory.proofs.Rules.{T-and, head, tail}
 use Rattle.meaning.specs.Countermodel.{insertPair, pairBefore, pairs, samePair}
 use Rattle.meaning.specs.Intervals.{Constraint, valueOf}
 use Rattle.meaning.specs.Lists.{All, cons, nil}
+use Rattle.theory.proofs.Rules.{T-and, head, tail}
 
 module _ (P : ℕ → ℕ → Type 0) where
   -- the piece's pair has P

@@ -4,11 +4,6 @@ use mathlib.Core.Bool.{_&&_, not}
 use mathlib.Core.List.{List, [], _∷_}
 use mathlib.Core.Path.{_∙_, _≡_, refl, subst, sym}
 use lib.Dec.{T, T-not}
-use Rattle.theory.proofs.Bounds.{bounded}
-use Rattle.theory.proofs.Intervals.{isNonEmpty-iff}
-use Rattle.theory.proofs.Points.{Part, pieces-part}
-use Rattle.theory.proofs.Rules.{T-and, all-any, all-append, all-flatMap, all-fst, all-in, all-map, all-mono, all-out}
-use Rattle.theory.proofs.Rules.{all-snd, and-T, any-in, at-any, head, tail}
 use Rattle.meaning.specs.Intervals.{Constraint, NonEmpty, isNonEmpty}
 use Rattle.meaning.specs.Lists.{All, Any, _∈_, all, cons, nil}
 use Rattle.meaning.specs.Normal.{Distinct, Fresh, Normal, NormalNode, NormalSuccessors}
@@ -19,6 +14,11 @@ use Rattle.meaning.specs.Records.{Name}
 use Rattle.meaning.specs.Splitting.{choices, combinations, constraintsBelow, constraintsOf, splitNode, splitSuccessors}
 use Rattle.meaning.specs.Stated.{disjointPairs, isBelow, isFunctionalFeature, ranges}
 use Rattle.meaning.specs.Vocabulary.{Vocabulary}
+use Rattle.theory.proofs.Bounds.{bounded}
+use Rattle.theory.proofs.Intervals.{isNonEmpty-iff}
+use Rattle.theory.proofs.Points.{Part, pieces-part}
+use Rattle.theory.proofs.Rules.{T-and, all-any, all-append, all-flatMap, all-fst, all-in, all-map, all-mono, all-out}
+use Rattle.theory.proofs.Rules.{all-snd, and-T, any-in, at-any, head, tail}
 
 pub data Parts (Q : Policy) : List Constraint → List Constraint → Type 0 where
   no-parts : Parts Q [] []

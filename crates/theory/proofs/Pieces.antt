@@ -2,15 +2,15 @@
 use Prim.Native.Nat.{ℕ}
 use mathlib.Core.List.{List, [], _∷_}
 use mathlib.Core.Path.{subst, sym}
-use Rattle.theory.proofs.Forms.{Has, HoldsForm, HoldsNode, HoldsSuccessors}
-use Rattle.theory.proofs.Points.{pieces-cover}
-use Rattle.theory.proofs.Rules.{any-flatMap, any-map, any-mono, head, tail}
 use Rattle.meaning.specs.Interpretation.{Interpretation}
 use Rattle.meaning.specs.Intervals.{Constraint}
 use Rattle.meaning.specs.Lists.{All, Any, cons, here, nil}
 use Rattle.meaning.specs.NormalForm.{Form, Node, Successors, none, successor}
 use Rattle.meaning.specs.Policy.{Policy}
 use Rattle.meaning.specs.Splitting.{choices, combinations, pieces, splitNode, splitSuccessors}
+use Rattle.theory.proofs.Forms.{Has, HoldsForm, HoldsNode, HoldsSuccessors}
+use Rattle.theory.proofs.Points.{pieces-cover}
+use Rattle.theory.proofs.Rules.{any-flatMap, any-map, any-mono, head, tail}
 
 pieces-held : (I : Interpretation) (Q : Policy) (d : ℕ) (s : Constraint) → Has I d s → Any (Has I d) (pieces Q s)
 pieces-held I Q d s h =

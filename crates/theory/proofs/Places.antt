@@ -6,9 +6,6 @@ use mathlib.Core.Logic.{_⊎_, inl, inr}
 use mathlib.Core.Path.{_∙_, _≡_, ap, refl, subst, sym}
 use lib.Dec.{T, eqb, eqb-refl, eqb→eq}
 use native.Mathlib.Omega.{arith}
-use Rattle.theory.proofs.Pairs.{pairs-in}
-use Rattle.theory.proofs.Picks.{Consistent}
-use Rattle.theory.proofs.Rules.{T-and, all-append, all-filter, all-map, all-mono, all-of, any-mono, any-out}
 use Rattle.meaning.specs.Countermodel.{canonicalModel, classesAbove, edges, pairs, recordsBelow, size}
 use Rattle.meaning.specs.Intervals.{valueOf}
 use Rattle.meaning.specs.Lists.{All, Any, any, cons, counting, nil}
@@ -18,6 +15,9 @@ use Rattle.meaning.specs.NormalForm.{Form, Node, Successors, cleanNode, cleanSu
 use Rattle.meaning.specs.Records.{Name}
 use Rattle.meaning.specs.Stated.{isBelow}
 use Rattle.meaning.specs.Vocabulary.{Vocabulary}
+use Rattle.theory.proofs.Pairs.{pairs-in}
+use Rattle.theory.proofs.Picks.{Consistent}
+use Rattle.theory.proofs.Rules.{T-and, all-append, all-filter, all-map, all-mono, all-of, any-mono, any-out}
 
 module _ {X : Type 0} where
   -- h, with x at k

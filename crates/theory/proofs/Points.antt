@@ -6,13 +6,13 @@ use mathlib.Core.Logic.{_⊎_, inl, inr}
 use mathlib.Core.Path.{_≡_, refl, subst, sym}
 use lib.Dec.{T, eqb, eqb→eq, ltb, ltb→lt, lt→ltb, nltb→le}
 use native.Mathlib.Omega.{arith}
-use Rattle.theory.proofs.Intervals.{inside-of, isWithin-iff}
-use Rattle.theory.proofs.Rules.{all-append, all-at, all-filter, all-mono, all-of, any-cases, any-left, any-none, any-right}
-use Rattle.theory.proofs.Rules.{eqb-of, head, in-filter, order, tail}
 use Rattle.meaning.specs.Intervals.{Constraint, NonEmpty, Within, isInside, isWithin}
 use Rattle.meaning.specs.Lists.{All, Any, _∈_, cons, filter, flatMap, here, nil, there}
 use Rattle.meaning.specs.Policy.{Policy}
 use Rattle.meaning.specs.Splitting.{Rising, Sorted, ends, gap, insert, insertAll, only, pieces, piecesAt, piecesFrom, points}
+use Rattle.theory.proofs.Intervals.{inside-of, isWithin-iff}
+use Rattle.theory.proofs.Rules.{all-append, all-at, all-filter, all-mono, all-of, any-cases, any-left, any-none, any-right}
+use Rattle.theory.proofs.Rules.{eqb-of, head, in-filter, order, tail}
 
 -- no end at e parts the piece: formula (9) makes the query interval safe
 abbrev pub Unparted : Constraint → ℕ → Type 0

@@ -6,12 +6,6 @@ use mathlib.Core.Logic.{_⊎_, inl, inr}
 use mathlib.Core.Path.{_≡_, ap, refl, subst}
 use lib.ListN.{length}
 use native.Mathlib.Omega.{arith}
-use Rattle.theory.proofs.Bounds.{bounded, bounded-terms}
-use Rattle.theory.proofs.Impossible.{possible-iff}
-use Rattle.theory.proofs.Normal.{BoundedChain}
-use Rattle.theory.proofs.Refusals.{orElse-zero, unless-all}
-use Rattle.theory.proofs.Rewriting.{holds-possible}
-use Rattle.theory.proofs.Rules.{any-cases, any-none, head, isTrue, notTrue, tail}
 use Rattle.meaning.specs.Answers.{PossibilityResult, firstPossible, nonePossible, refused, result}
 use Rattle.meaning.specs.Interpretation.{Holds, In}
 use Rattle.meaning.specs.Lists.{All}
@@ -22,6 +16,12 @@ use Rattle.meaning.specs.Policy.{Chain, Policy, policyOf, policyRefusal}
 use Rattle.meaning.specs.Promises.{CorrectPossibility, Satisfiable, Vacant, inhabited, unsaidPossibility, vacant}
 use Rattle.meaning.specs.Records.{orElse}
 use Rattle.meaning.specs.Vocabulary.{Vocabulary, vocabularyOf, vocabularyRefusal}
+use Rattle.theory.proofs.Bounds.{bounded, bounded-terms}
+use Rattle.theory.proofs.Impossible.{possible-iff}
+use Rattle.theory.proofs.Normal.{BoundedChain}
+use Rattle.theory.proofs.Refusals.{orElse-zero, unless-all}
+use Rattle.theory.proofs.Rewriting.{holds-possible}
+use Rattle.theory.proofs.Rules.{any-cases, any-none, head, isTrue, notTrue, tail}
 
 -- no individual is in a term that is impossible
 vacant-more : (K : Vocabulary) (p : Chain) (P : Policy) → possible K p ≡ false → Vacant K P → Vacant K (p ∷ P)

@@ -4,11 +4,6 @@ use mathlib.Core.Bool.{Bool, _&&_, cond, false, not, true}
 use mathlib.Core.List.{List, [], _∷_}
 use mathlib.Core.Path.{_≡_, subst, sym}
 use lib.Dec.{T, eqb, eqb→eq, not-T}
-use Rattle.theory.proofs.Closure.{below-sound}
-use Rattle.theory.proofs.Forms.{Has, HoldsForm, HoldsNode, HoldsSuccessors}
-use Rattle.theory.proofs.Intervals.{isNonEmpty-iff, meet-within, within-meet, within-nonEmpty}
-use Rattle.theory.proofs.Rules.{T-and, all-in, all-mono, all-of, and-T, and-not, any-at, any-out, head, not-or, tail}
-use Rattle.theory.proofs.Stated.{all-stated}
 use Rattle.meaning.specs.Interpretation.{Holds, Interpretation, Obeys, Satisfies}
 use Rattle.meaning.specs.Intervals.{Constraint, Within, isNonEmpty, meet}
 use Rattle.meaning.specs.Lists.{All, all, cons, nil}
@@ -18,6 +13,11 @@ use Rattle.meaning.specs.NormalForm.{possible, successor, withClass, withConstr
 use Rattle.meaning.specs.Policy.{Chain, class, end, impossible, interval, some}
 use Rattle.meaning.specs.Stated.{disjointPairs, isBelow, isFunctionalFeature, isFunctionalRole, ranges}
 use Rattle.meaning.specs.Vocabulary.{Vocabulary, functionalFeature, functionalRole}
+use Rattle.theory.proofs.Closure.{below-sound}
+use Rattle.theory.proofs.Forms.{Has, HoldsForm, HoldsNode, HoldsSuccessors}
+use Rattle.theory.proofs.Intervals.{isNonEmpty-iff, meet-within, within-meet, within-nonEmpty}
+use Rattle.theory.proofs.Rules.{T-and, all-in, all-mono, all-of, and-T, and-not, any-at, any-out, head, not-or, tail}
+use Rattle.theory.proofs.Stated.{all-stated}
 
 in-ranges : (I : Interpretation) (K : Vocabulary) → Satisfies I K → (r d e : ℕ) → I .byRole r d e → All (λ c. I .inClass c e) (ranges K r)
 in-ranges I K s r d e h = all-of (ranges K r) (λ c m. all-stated K (s .obeyed) .ranged r c m d e h)

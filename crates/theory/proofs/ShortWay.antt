@@ -8,11 +8,6 @@ use mathlib.Core.Path.{_∙_, _≡_, ap, refl, sym}
 use lib.Dec.{T}
 use lib.ListN.{length}
 use native.Mathlib.Omega.{arith}
-use Rattle.theory.proofs.Containment.{passes-sound}
-use Rattle.theory.proofs.Picks.{AllNonEmpty, clean-nonEmpty-form}
-use Rattle.theory.proofs.Rewriting.{holds-possible, normal-in}
-use Rattle.theory.proofs.Rules.{T-and, all-any, all-out, imp-out, isTrue, same-test}
-use Rattle.theory.proofs.Whole.{whole-passes}
 use Rattle.meaning.specs.Containment.{Contained, Decision, contained, crowded, decide, decideFrom, firstFailure, orEscape}
 use Rattle.meaning.specs.Containment.{passes, passesWhole, resolve, shortWay, tooMany}
 use Rattle.meaning.specs.Lists.{all, firstFailing, nowhere}
@@ -20,6 +15,11 @@ use Rattle.meaning.specs.NormalForm.{cleanNode, hasBottom, normalForm, possible
 use Rattle.meaning.specs.Policy.{Chain, Policy}
 use Rattle.meaning.specs.Splitting.{combinations, constraintsOf}
 use Rattle.meaning.specs.Vocabulary.{Vocabulary}
+use Rattle.theory.proofs.Containment.{passes-sound}
+use Rattle.theory.proofs.Picks.{AllNonEmpty, clean-nonEmpty-form}
+use Rattle.theory.proofs.Rewriting.{holds-possible, normal-in}
+use Rattle.theory.proofs.Rules.{T-and, all-any, all-out, imp-out, isTrue, same-test}
+use Rattle.theory.proofs.Whole.{whole-passes}
 
 possible-nonEmpty : (K : Vocabulary) (p : Chain) → T (possible K p) → AllNonEmpty (constraintsOf (normalForm K p))
 unfolding possible

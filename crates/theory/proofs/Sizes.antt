@@ -8,12 +8,6 @@ use lib.Dec.{eqb}
 use lib.ListN.{length, length-append, length-map}
 use native.Mathlib.Nat.{mul-add, mul-suc}
 use native.Mathlib.Omega.{arith}
-use Rattle.theory.proofs.Canonical.{model-proper}
-use Rattle.theory.proofs.ModelWords.{NamedFact}
-use Rattle.theory.proofs.Pairs.{pairs-in}
-use Rattle.theory.proofs.Picks.{Parts, Picked, PickedForm, no-parts, none-picked, parts, picked}
-use Rattle.theory.proofs.Refusals.{cond-all}
-use Rattle.theory.proofs.Rules.{all-append, all-at, all-map, all-of, head, tail}
 use Rattle.meaning.specs.Accepted.{NamedChain, count, intervalCount}
 use Rattle.meaning.specs.Countermodel.{canonicalModel, classesAbove, edges, individuals, insertPair, pairBefore, pairs}
 use Rattle.meaning.specs.Countermodel.{recordsBelow, recordsOf, samePair, size}
@@ -27,6 +21,12 @@ use Rattle.meaning.specs.Records.{Name}
 use Rattle.meaning.specs.Splitting.{constraintsBelow, constraintsOf}
 use Rattle.meaning.specs.Stated.{isBelow, isFunctionalFeature, isFunctionalRole, ranges}
 use Rattle.meaning.specs.Vocabulary.{Vocabulary}
+use Rattle.theory.proofs.Canonical.{model-proper}
+use Rattle.theory.proofs.ModelWords.{NamedFact}
+use Rattle.theory.proofs.Pairs.{pairs-in}
+use Rattle.theory.proofs.Picks.{Parts, Picked, PickedForm, no-parts, none-picked, parts, picked}
+use Rattle.theory.proofs.Refusals.{cond-all}
+use Rattle.theory.proofs.Rules.{all-append, all-at, all-map, all-of, head, tail}
 
 -- ---- a normal form is no greater than its term
 

@@ -8,9 +8,6 @@ use lib.Dec.{T, eqb, eqb-refl, eqb→eq}
 use borrow.Author.Tests.{eqb-true}
 use native.Mathlib.Omega.{arith}
 use lib.ListN.{length}
-use Rattle.theory.proofs.Links.{choose, split, tests}
-use Rattle.theory.proofs.Rules.{all-any, all-append, all-fst, all-map, all-of, any-cases, any-flatMap, any-in, any-left, any-map}
-use Rattle.theory.proofs.Rules.{any-mono, any-none, any-out, any-right, any-single, at-any, flatMap-any}
 use Rattle.meaning.specs.Accepted.{AxiomOf, NamedAxiom}
 use Rattle.meaning.specs.Lists.{All, Any, _∈_, cons, here, nil, there}
 use Rattle.meaning.specs.Records.{Name}
@@ -19,6 +16,9 @@ use Rattle.meaning.specs.Stated.{rangePair, rangePairs, ranges, rangesIn, subcl
 use Rattle.meaning.specs.Vocabulary.{Axiom, Vocabulary, axiomAt, axiomFits, axiomKind, axiomLeft, axiomRight, below, classCount}
 use Rattle.meaning.specs.Vocabulary.{defaults, disjoint, functionalFeature, functionalRole, isNamed, manyFeature, manyRole}
 use Rattle.meaning.specs.Vocabulary.{nameBy, namesBy, range, roleCount, stated, unnamed}
+use Rattle.theory.proofs.Links.{choose, split, tests}
+use Rattle.theory.proofs.Rules.{all-any, all-append, all-fst, all-map, all-of, any-cases, any-flatMap, any-in, any-left, any-map}
+use Rattle.theory.proofs.Rules.{any-mono, any-none, any-out, any-right, any-single, at-any, flatMap-any}
 
 -- ---- the classes of a role's ranges
 

@@ -5,16 +5,6 @@ use mathlib.Core.List.{List, [], _∷_}
 use mathlib.Core.Logic.{_↔_, _⊎_, inl, inr}
 use mathlib.Core.Path.{_≡_, refl, subst, sym}
 use lib.Dec.{T, eqb, eqb-refl, eqb→eq}
-use Rattle.theory.proofs.Canonical.{formed, satisfied}
-use Rattle.theory.proofs.Closure.{below-sound}
-use Rattle.theory.proofs.Forms.{HoldsForm, HoldsNode, HoldsSuccessors}
-use Rattle.theory.proofs.Intervals.{inside-within, isInside-refl, value-within}
-use Rattle.theory.proofs.Picks.{AllNonEmpty, Parts, Picked, PickedForm, PickedNode, Consistent, clean-nonEmpty, no-parts}
-use Rattle.theory.proofs.Picks.{none-picked, parts, picked}
-use Rattle.theory.proofs.Places.{Child, Place, True, places}
-use Rattle.theory.proofs.Points.{Unparted, unparted-inside}
-use Rattle.theory.proofs.Rules.{T-and, T-or, all-any, all-at, and-T, any-both, any-flatMap, any-in, any-left, any-mono}
-use Rattle.theory.proofs.Rules.{any-none, any-out, any-right, at-any, eqb-of, or-left, or-right}
 use Rattle.meaning.specs.Countermodel.{canonicalModel, individuals, size}
 use Rattle.meaning.specs.Interpretation.{Holds, Interpretation, Satisfies}
 use Rattle.meaning.specs.Intervals.{Constraint, NonEmpty, Within, isInside, valueOf}
@@ -27,6 +17,16 @@ use Rattle.meaning.specs.Splitting.{ends}
 use Rattle.meaning.specs.Stated.{isBelow}
 use Rattle.meaning.specs.Subsumption.{anySuccessor, includes, subsumed}
 use Rattle.meaning.specs.Vocabulary.{Vocabulary}
+use Rattle.theory.proofs.Canonical.{formed, satisfied}
+use Rattle.theory.proofs.Closure.{below-sound}
+use Rattle.theory.proofs.Forms.{HoldsForm, HoldsNode, HoldsSuccessors}
+use Rattle.theory.proofs.Intervals.{inside-within, isInside-refl, value-within}
+use Rattle.theory.proofs.Picks.{AllNonEmpty, Parts, Picked, PickedForm, PickedNode, Consistent, clean-nonEmpty, no-parts}
+use Rattle.theory.proofs.Picks.{none-picked, parts, picked}
+use Rattle.theory.proofs.Places.{Child, Place, True, places}
+use Rattle.theory.proofs.Points.{Unparted, unparted-inside}
+use Rattle.theory.proofs.Rules.{T-and, T-or, all-any, all-at, and-T, any-both, any-flatMap, any-in, any-left, any-mono}
+use Rattle.theory.proofs.Rules.{any-none, any-out, any-right, at-any, eqb-of, or-left, or-right}
 
 -- a conjunct ∃R.C′ that passes is an individual's value
 child-of : (I : Interpretation) (r : ℕ) (f : Node → Successors → Bool) (under : Successors) (d : ℕ) → T (anySuccessor r f under) → HoldsSuccessors I under d →

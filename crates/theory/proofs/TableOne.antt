@@ -5,11 +5,6 @@ use mathlib.Core.List.{List}
 use mathlib.Core.Logic.{_↔_, _⊎_, inl, inr, ⊎-elim, ⊎-map}
 use mathlib.Core.Path.{_∙_, _≡_, subst, sym}
 use lib.Dec.{T, T-not, not-T}
-use Rattle.theory.proofs.Intervals.{empty-nonEmpty, not-isNonEmpty}
-use Rattle.theory.proofs.Normal.{normalForm-normal-unbounded}
-use Rattle.theory.proofs.Picks.{clean-nonEmpty, no-clash}
-use Rattle.theory.proofs.Rules.{T-and, all-any, all-at, any-at, any-mono, any-out, at-any, isFalse, not-all, not-and}
-use Rattle.theory.proofs.Rules.{not-not, notTrue}
 use Rattle.meaning.specs.Intervals.{Constraint, Empty, isNonEmpty}
 use Rattle.meaning.specs.Lists.{Any, _∈_, all}
 use Rattle.meaning.specs.Normal.{Distinct, Fresh, NormalNode, NormalSuccessors}
@@ -20,6 +15,11 @@ use Rattle.meaning.specs.Stated.{disjointPairs, isBelow, isFunctionalFeature}
 use Rattle.meaning.specs.TableOne.{Applies, AppliesAt, AppliesIn, ByRole, Two, atLater, atThis, belowThis, byFirst, byLater}
 use Rattle.meaning.specs.TableOne.{collapses, firstOfTwo, rule3, rule4, rule5, rule6, rule7, twoLater}
 use Rattle.meaning.specs.Vocabulary.{Vocabulary}
+use Rattle.theory.proofs.Intervals.{empty-nonEmpty, not-isNonEmpty}
+use Rattle.theory.proofs.Normal.{normalForm-normal-unbounded}
+use Rattle.theory.proofs.Picks.{clean-nonEmpty, no-clash}
+use Rattle.theory.proofs.Rules.{T-and, all-any, all-at, any-at, any-mono, any-out, at-any, isFalse, not-all, not-and}
+use Rattle.theory.proofs.Rules.{not-not, notTrue}
 
 -- rule 5 at a functional feature that is constrained once, rule 4 at a functional role that stands once
 once : (K : Vocabulary) {f : ℕ} {l : List Constraint} → T (isFunctionalFeature K f) → Distinct K l → Two (λ s t. (f ≡ s .feature) × (f ≡ t .feature)) l → ⊥

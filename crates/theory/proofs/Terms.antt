@@ -7,12 +7,12 @@ use lib.Dec.{eqb}
 use lib.ListN.{length}
 use native.Mathlib.Omega.{arith}
 use borrow.Author.Tests.{ne-eqb}
-use Rattle.theory.proofs.Links.{falling-le, falls, onward-le}
 use Rattle.meaning.specs.Accepted.{Here, Reads, ReadsTerms, count, reads-class, reads-end, reads-impossible, reads-interval}
 use Rattle.meaning.specs.Accepted.{reads-none, reads-some, reads-term, total}
 use Rattle.meaning.specs.Lists.{All, cons, nil}
 use Rattle.meaning.specs.Policy.{Chain, Policy, chainFrom, childOf, conjunctAt, nextOf, termsFrom}
 use Rattle.meaning.specs.Records.{Enough, falling, lastOf}
+use Rattle.theory.proofs.Links.{falling-le, falls, onward-le}
 
 -- so each chain is shorter than the policy
 pub count-< : (P : Policy) (n : ℕ) → total P ≤ n → All (λ c. count c < n) P

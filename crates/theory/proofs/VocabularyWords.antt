@@ -6,9 +6,6 @@ use mathlib.Core.Path.{_∙_, _≡_, ap, refl}
 use lib.ListN.{drop, getD, length}
 use native.Mathlib.Nat.{add-zero}
 use native.Mathlib.Omega.{arith}
-use Rattle.theory.proofs.Chained.{Stated, chained-length, chained-read, chained-sound, link-onward, record-after, word-at}
-use Rattle.theory.proofs.Links.{onward-le, tests}
-use Rattle.theory.proofs.Wellformed.{sound-vocabulary}
 use Rattle.meaning.specs.Accepted.{AxiomOf, NamedAxiom}
 use Rattle.meaning.specs.Answers.{accepted, result}
 use Rattle.meaning.specs.Limits.{mostAxioms, mostClasses, mostFeatures, mostRoles}
@@ -18,6 +15,9 @@ use Rattle.meaning.specs.Records.{lastOf, linkTo}
 use Rattle.meaning.specs.Vocabulary.{Axiom, Vocabulary, axiomAt, axiomFits, axiomKind, axiomNext, axiomWords, axiomsOf, below}
 use Rattle.meaning.specs.Vocabulary.{disjoint, functionalFeature, functionalRole, isOpposed, manyFeature, manyRole, range, vocabularyOf}
 use Rattle.meaning.specs.Vocabulary.{vocabularyRefusal, vocabularySize, vocabularyWords}
+use Rattle.theory.proofs.Chained.{Stated, chained-length, chained-read, chained-sound, link-onward, record-after, word-at}
+use Rattle.theory.proofs.Links.{onward-le, tests}
+use Rattle.theory.proofs.Wellformed.{sound-vocabulary}
 
 pub axiom-length : (x : Axiom) (next : ℕ) → length (axiomWords x next) ≡ 4
 axiom-length (below a b) next = refl

@@ -7,9 +7,6 @@ use lib.Dec.{eqb, eqb·suc-zero}
 use lib.ListN.{length}
 use native.Mathlib.Omega.{arith}
 use borrow.Author.Tests.{eqb-false}
-use Rattle.theory.proofs.Links.{Once, choose, enough-end, falling-le, length-once-≤, once-more, once-none, passed, split, tests}
-use Rattle.theory.proofs.Refusals.{orElse-zero}
-use Rattle.theory.proofs.Terms.{chain-at, chain-is, child-enough, next-enough}
 use Rattle.meaning.specs.Accepted.{Accepted, AxiomOf, ChainOf, Here, NamedChain, Reads, ReadsTerms, count, depth, reads-class}
 use Rattle.meaning.specs.Accepted.{reads-end, reads-impossible, reads-interval, reads-none, reads-some, reads-term, total}
 use Rattle.meaning.specs.Limits.{mostAxioms, mostClasses, mostFeatures, mostPolicyWords, mostRoles, mostVocabularyWords}
@@ -19,6 +16,9 @@ use Rattle.meaning.specs.Policy.{nextOf, onward, policyOf, policyRefusal, reach
 use Rattle.meaning.specs.Records.{Enough, Name, isSized, lastOf}
 use Rattle.meaning.specs.Vocabulary.{axiomAt, axiomFits, axiomKind, axiomNext, axiomsFrom, axiomsOf, axiomsRefusal, classCount}
 use Rattle.meaning.specs.Vocabulary.{featureCount, firstAxiom, headedVocabulary, isOpposed, roleCount, vocabularyOf, vocabularyRefusal}
+use Rattle.theory.proofs.Links.{Once, choose, enough-end, falling-le, length-once-≤, once-more, once-none, passed, split, tests}
+use Rattle.theory.proofs.Refusals.{orElse-zero}
+use Rattle.theory.proofs.Terms.{chain-at, chain-is, child-enough, next-enough}
 
 -- ---- the vocabulary
 

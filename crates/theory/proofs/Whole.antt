@@ -5,12 +5,6 @@ use mathlib.Core.List.{List}
 use mathlib.Core.Logic.{_⊎_, inl, inr}
 use mathlib.Core.Path.{_∙_, _≡_, refl, subst, sym}
 use lib.Dec.{T, eqb, eqb→eq}
-use Rattle.theory.proofs.Intervals.{isInside-trans}
-use Rattle.theory.proofs.Picks.{AllNonEmpty, Parts, Picked, PickedForm, PickedNode, combinations-picked, no-parts}
-use Rattle.theory.proofs.Picks.{none-picked, parts, picked}
-use Rattle.theory.proofs.Points.{Inside}
-use Rattle.theory.proofs.Rules.{T-and, T-or, all-mono, and-T, any-in, any-mono, any-out, eqb-of, isTrue, or-left, or-right}
-use Rattle.theory.proofs.Rules.{same-test}
 use Rattle.meaning.specs.Containment.{passes}
 use Rattle.meaning.specs.Intervals.{Constraint, isInside}
 use Rattle.meaning.specs.Lists.{All, any, cons, firstFailing, nil, nowhere}
@@ -20,6 +14,12 @@ use Rattle.meaning.specs.Splitting.{combinations, constraintsOf}
 use Rattle.meaning.specs.Stated.{isBelow}
 use Rattle.meaning.specs.Subsumption.{anySuccessor, includes, subsumed}
 use Rattle.meaning.specs.Vocabulary.{Vocabulary}
+use Rattle.theory.proofs.Intervals.{isInside-trans}
+use Rattle.theory.proofs.Picks.{AllNonEmpty, Parts, Picked, PickedForm, PickedNode, combinations-picked, no-parts}
+use Rattle.theory.proofs.Picks.{none-picked, parts, picked}
+use Rattle.theory.proofs.Points.{Inside}
+use Rattle.theory.proofs.Rules.{T-and, T-or, all-mono, and-T, any-in, any-mono, any-out, eqb-of, isTrue, or-left, or-right}
+use Rattle.theory.proofs.Rules.{same-test}
 
 -- ---- parts of what is taken are taken
 

@@ -9,18 +9,6 @@ use lib.ListN.{length}
 use native.Mathlib.Nat.{mul-le-mul}
 use native.Mathlib.Omega.{arith}
 use borrow.Author.Tests.{le-ltb}
-use Rattle.theory.proofs.Bounds.{bounded, bounded-terms}
-use Rattle.theory.proofs.Checking.{check-right}
-use Rattle.theory.proofs.Compliance.{compliance-told}
-use Rattle.theory.proofs.Containment.{witness}
-use Rattle.theory.proofs.Equality.{equality-compared}
-use Rattle.theory.proofs.ModelWords.{model-accepted}
-use Rattle.theory.proofs.Picks.{PickedForm}
-use Rattle.theory.proofs.Refusals.{accepted-input, cond-all, orElse-zero, unless-all}
-use Rattle.theory.proofs.Rules.{all-at, any-right}
-use Rattle.theory.proofs.Sizes.{form-picked, length-canonicalModel-≤, model-named, named-picked, normal-named, normal-weight, size-weight}
-use Rattle.theory.proofs.Terms.{count-<}
-use Rattle.theory.proofs.Wellformed.{accepted, accepted-counts}
 use Rattle.meaning.specs.Accepted.{count}
 use Rattle.meaning.specs.Answers.{Answer, CheckResult, ComparisonResult, VerdictResult, differs, outside, result, yes}
 use Rattle.meaning.specs.Countermodel.{canonicalModel, countermodel, individuals}
@@ -36,6 +24,18 @@ use Rattle.meaning.specs.Promises.{CorrectComparison, CorrectVerdict, Escape, I
 use Rattle.meaning.specs.Promises.{unsaidComparison, unsaidVerdict}
 use Rattle.meaning.specs.Records.{orElse}
 use Rattle.meaning.specs.Vocabulary.{Vocabulary, classCount, featureCount, roleCount, vocabularyOf, vocabularyRefusal}
+use Rattle.theory.proofs.Bounds.{bounded, bounded-terms}
+use Rattle.theory.proofs.Checking.{check-right}
+use Rattle.theory.proofs.Compliance.{compliance-told}
+use Rattle.theory.proofs.Containment.{witness}
+use Rattle.theory.proofs.Equality.{equality-compared}
+use Rattle.theory.proofs.ModelWords.{model-accepted}
+use Rattle.theory.proofs.Picks.{PickedForm}
+use Rattle.theory.proofs.Refusals.{accepted-input, cond-all, orElse-zero, unless-all}
+use Rattle.theory.proofs.Rules.{all-at, any-right}
+use Rattle.theory.proofs.Sizes.{form-picked, length-canonicalModel-≤, model-named, named-picked, normal-named, normal-weight, size-weight}
+use Rattle.theory.proofs.Terms.{count-<}
+use Rattle.theory.proofs.Wellformed.{accepted, accepted-counts}
 
 -- ---- the words of an escape from an accepted policy
 

@@ -14,7 +14,6 @@ use Rattle.layout.proofs.Nesting.{holder-kept, parent-kept}
 use Rattle.layout.specs.Places.{individualPlace}
 use Rattle.layout.specs.Tables.{Pieces, constraintAt, roleAt, setAt}
 use Rattle.layout.specs.declared.Tables.{Tables}
-use Rattle.theory.proofs.Rules.{order}
 use Rattle.meaning.specs.Intervals.{Constraint}
 use Rattle.meaning.specs.Limits.{mostRecords}
 use Rattle.meaning.specs.Lists.{any, counting}
@@ -26,6 +25,7 @@ use Rattle.retest.specs.Memory.{State, Sure, memoryPlace}
 use Rattle.subsumption.specs.Tests.{Individual}
 use Rattle.retest.specs.Reasons.{Choice, hasStill, isStill}
 use Rattle.subsumption.specs.Tests.{hasPiece, hasSuccessor, holdsAt, isPassing, isPieceInside}
+use Rattle.theory.proofs.Rules.{order}
 use Rattle.trial.specs.Trials.{Blank, Known, Remembers}
 use Rattle.words.specs.Rows.{classWords}
 

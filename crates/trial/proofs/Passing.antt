@@ -6,7 +6,6 @@ use mathlib.Core.Path.{_∙_, _≡_, ap, refl, sym}
 use native.Mathlib.Omega.{arith}
 use Rattle.layout.specs.Tables.{pieceAt}
 use Rattle.layout.specs.declared.Tables.{Tables}
-use Rattle.theory.proofs.Rules.{all-of, head, tail}
 use Rattle.meaning.specs.Limits.{mostDepth}
 use Rattle.meaning.specs.Lists.{All, _∈_, any}
 use Rattle.meaning.specs.Policy.{Policy, childOf, firstTerm, nextOf, policyOf, termAt}
@@ -17,6 +16,7 @@ use Rattle.retest.specs.Memory.{Sure, TellsAll, Testable}
 use Rattle.subsumption.specs.Tests as Whole
 use Rattle.subsumption.specs.Tests.{Individual, holdsAt, holdsWhole}
 use Rattle.retest.specs.declared.Reason.{Reason}
+use Rattle.theory.proofs.Rules.{all-of, head, tail}
 use Rattle.trial.specs.Trials.{Askable, Formed, Known, TakenBy, Taker, Taking, Term}
 use Rattle.trial.specs.declared.Taken.{Taken}
 

@@ -8,10 +8,6 @@ use native.Mathlib.Nat.{add-mul, add-zero, mul-assoc, mul-comm, zero-mul}
 use native.Mathlib.Omega.{arith}
 use lib.ListN.{getD, length}
 use Rattle.layout.specs.Tables.{constraintAt}
-use Rattle.theory.proofs.Count.{count-combinations}
-use Rattle.theory.proofs.Digits.{Takes, fill, number}
-use Rattle.theory.proofs.Odometer.{at-getD, at-lt, combination-at, getD-at}
-use Rattle.theory.proofs.Rules.{order}
 use Rattle.meaning.specs.Containment.{passes}
 use Rattle.meaning.specs.Intervals.{Constraint}
 use Rattle.meaning.specs.Lists.{At, counting, firstFailing, found, nowhere}
@@ -24,6 +20,10 @@ use Rattle.odometer.proofs.Weights.{pieces-any, span-front}
 use Rattle.odometer.specs.Digits.{Known, Valid, span, value}
 use Rattle.odometer.specs.Odometer.{Dialled}
 use Rattle.splitting.specs.Constraints.{firstConstraints, pieceCount}
+use Rattle.theory.proofs.Count.{count-combinations}
+use Rattle.theory.proofs.Digits.{Takes, fill, number}
+use Rattle.theory.proofs.Odometer.{at-getD, at-lt, combination-at, getD-at}
+use Rattle.theory.proofs.Rules.{order}
 
 -- one element of a list stands at a place
 pub at-same : {A : Type 0} {x y : A} {l : List A} {i : ℕ} → At x l i → At y l i → x ≡ y

@@ -12,9 +12,6 @@ use Rattle.frames.specs.Frames.{Only}
 use Rattle.layout.proofs.Nesting.{nested-kept}
 use Rattle.layout.specs.Tables.{Pieces, constraintAt}
 use Rattle.layout.specs.declared.Tables.{Tables}
-use Rattle.theory.proofs.Digits.{fill}
-use Rattle.theory.proofs.Picks.{AllNonEmpty}
-use Rattle.theory.proofs.Whole.{whole-passes}
 use Rattle.meaning.specs.Intervals.{NonEmpty}
 use Rattle.meaning.specs.Lists.{any, cons, counting, nil}
 use Rattle.meaning.specs.Policy.{policyOf}
@@ -24,6 +21,9 @@ use Rattle.splitting.proofs.Callers.{constraints-at, constraints-kept, splittab
 use Rattle.splitting.proofs.Storing.{constraint-kept}
 use Rattle.splitting.specs.Constraints.{Full, Started, firstConstraints}
 use Rattle.subsumption.specs.Tests.{holdsWhole}
+use Rattle.theory.proofs.Digits.{fill}
+use Rattle.theory.proofs.Picks.{AllNonEmpty}
+use Rattle.theory.proofs.Whole.{whole-passes}
 use Rattle.trial.proofs.Keeping.{none-listed, none-sure, none-terms}
 use Rattle.trial.proofs.Trying.{passes-held}
 use Rattle.trial.specs.Trials.{Blank, Formed, Positive, Remembers, Searchable, Triable, Tried, Turnable}

@@ -16,10 +16,6 @@ use Rattle.layout.proofs.Filling.{combined}
 use Rattle.layout.proofs.Nesting.{nested-kept}
 use Rattle.layout.specs.Tables.{Pieces, Tabled, constraintAt, pieceAt}
 use Rattle.layout.specs.declared.Tables.{Tables}
-use Rattle.theory.proofs.Digits.{fill}
-use Rattle.theory.proofs.Odometer.{at-lt}
-use Rattle.theory.proofs.Points.{Inside, pieces-part}
-use Rattle.theory.proofs.Rules.{and-T, any-in, at-any, eqb-of, head, isTrue, order, same-test, tail}
 use Rattle.meaning.specs.Containment.{passes}
 use Rattle.meaning.specs.Intervals.{Constraint, NonEmpty, isInside}
 use Rattle.meaning.specs.Limits.{mostCombinations}
@@ -42,6 +38,10 @@ use Rattle.splitting.specs.Constraints.{firstConstraints, pieceCount}
 use Rattle.subsumption.proofs.Callers.{holds-filled}
 use Rattle.retest.specs.Reasons.{Agrees, Choice}
 use Rattle.subsumption.specs.Tests.{holdsAt}
+use Rattle.theory.proofs.Digits.{fill}
+use Rattle.theory.proofs.Odometer.{at-lt}
+use Rattle.theory.proofs.Points.{Inside, pieces-part}
+use Rattle.theory.proofs.Rules.{and-T, any-in, at-any, eqb-of, head, isTrue, order, same-test, tail}
 use Rattle.trial.proofs.Keeping.{remembers-kept}
 use Rattle.trial.proofs.Searching.{Passes, at-same, chosen, chosen-at, placed, search-ends, search-fails}
 use Rattle.trial.specs.Trials.{Askable, Failure, Known, Remembers, Searchable, Taker, Taking, Tried}

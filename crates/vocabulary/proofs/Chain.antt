@@ -6,13 +6,13 @@ use mathlib.Core.List.{List, [], _∷_, foldl, foldl-append}
 use mathlib.Core.Path.{_∙_, _≡_, refl, sym}
 use lib.ListN.{length}
 use native.Mathlib.Omega.{arith}
-use Rattle.theory.proofs.Links.{falling-le, tests}
-use Rattle.theory.proofs.Wellformed.{vocabulary-sound}
 use Rattle.meaning.specs.Lists.{flatMap}
 use Rattle.meaning.specs.Records.{falling, lastOf}
 use Rattle.meaning.specs.Vocabulary.{Axiom, axiomAt, axiomFits, axiomNext, axiomsOf, firstAxiom, soundAxiom, vocabularyOf, vocabularyRefusal}
 use Rattle.records.proofs.Chains.{Walking, read-along, walking-ends, walking-falls, walking-on, walking-sound, walking-starts}
 use Rattle.records.specs.Chains.{Along, Links, listed}
+use Rattle.theory.proofs.Links.{falling-le, tests}
+use Rattle.theory.proofs.Wellformed.{vocabulary-sound}
 
 unfoldable pub axiomLinks : List ℕ → Links (List Axiom)
 axiomLinks v = listed (lastOf 4 v) (axiomNext v) (axiomAt v) (λ k. axiomFits v k ≡ true)

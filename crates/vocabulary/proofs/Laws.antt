@@ -7,7 +7,6 @@ use lib.Dec.{eqb, leb}
 use lib.ListN.{length}
 use native.Mathlib.Omega.{arith}
 use borrow.Author.Tests.{le-leb, lt-leb, ne-eqb, not-false, not-true}
-use Rattle.theory.proofs.Links.{bounds, falling-le, passed, tests}
 use Rattle.meaning.specs.Answers.{Answer, ReadingResult, accepted, refused, result}
 use Rattle.meaning.specs.Limits.{mostClasses, mostFeatures, mostRoles, mostVocabularyWords}
 use Rattle.meaning.specs.Operations.{readVocabulary, unless}
@@ -15,6 +14,7 @@ use Rattle.meaning.specs.Records.{Onward, falling, isName, isOnward, isSized, l
 use Rattle.meaning.specs.Vocabulary.{axiomFits, axiomKind, axiomLeft, axiomNext, axiomRight, axiomsRefusal, classCount, featureCount}
 use Rattle.meaning.specs.Vocabulary.{firstAxiom, headedVocabulary, roleCount, soundAxiom, vocabularyRefusal}
 use Rattle.records.proofs.Chains.{Reading, reading-ends, reading-falls, reading-on, reading-starts, reading-stops}
+use Rattle.theory.proofs.Links.{bounds, falling-le, passed, tests}
 use Rattle.vocabulary.specs.Names.{chainRefusal}
 
 -- ---- the header: its four tests in order, each with those before it

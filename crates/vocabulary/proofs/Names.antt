@@ -8,11 +8,6 @@ use lib.Ieee.Bits.{is-true}
 use lib.ListN.{length, replicate}
 use native.Mathlib.Omega.{arith}
 use borrow.Author.Tests.{eq-eqb, ne-eqb}
-use Rattle.theory.proofs.Links.{enough-end, falling-le, falls, onward-le, passed, tests}
-use Rattle.theory.proofs.Refusals.{orElse-first}
-use Rattle.theory.proofs.Rules.{all-flatMap, all-mono, any-at, any-in, any-mono, any-out, at-any, eqb-of, isTrue, same-test}
-use Rattle.theory.proofs.Stated.{functional-feature-named, functional-role-named, many-feature-named, many-role-named, nameBy-at}
-use Rattle.theory.proofs.Wellformed.{axioms-named}
 use Rattle.meaning.specs.Accepted.{AxiomOf}
 use Rattle.meaning.specs.Limits.{mostFeatures, mostRoles}
 use Rattle.meaning.specs.Lists.{All, any}
@@ -20,6 +15,11 @@ use Rattle.meaning.specs.Records.{Enough, Name, Onward, lastOf}
 use Rattle.meaning.specs.Vocabulary.{Axiom, axiomAt, axiomFits, axiomKind, axiomLeft, axiomNext, axiomsFrom, axiomsOf, axiomsRefusal}
 use Rattle.meaning.specs.Vocabulary.{featureCount, firstAxiom, headedVocabulary, isNamed, isOpposed, nameBy, namesBy, roleCount}
 use Rattle.meaning.specs.Vocabulary.{soundAxiom, vocabularyOf}
+use Rattle.theory.proofs.Links.{enough-end, falling-le, falls, onward-le, passed, tests}
+use Rattle.theory.proofs.Refusals.{orElse-first}
+use Rattle.theory.proofs.Rules.{all-flatMap, all-mono, any-at, any-in, any-mono, any-out, at-any, eqb-of, isTrue, same-test}
+use Rattle.theory.proofs.Stated.{functional-feature-named, functional-role-named, many-feature-named, many-role-named, nameBy-at}
+use Rattle.theory.proofs.Wellformed.{axioms-named}
 use Rattle.vocabulary.proofs.Chain.{foldl-flatMap}
 use Rattle.vocabulary.specs.Names.{Noted, chainRefusal, nameAt}
 use Rattle.words.proofs.Laws.{in-listed, listed-in}

@@ -11,10 +11,10 @@ use mathlib.Core.Logic.{⊎-elim}
 use mathlib.Core.Path.{_∙_, _≡_, ap, ap₂, refl, sym}
 use native.Mathlib.Omega.{arith}
 use borrow.Author.Tests.{eq-eqb, eqb-false, eqb-true, le-leb, lt-leb, ne-eqb}
-use Rattle.theory.proofs.Counting.{in-counting}
-use Rattle.theory.proofs.Rules.{order}
 use Rattle.meaning.specs.Lists.{_∈_, counting, filter}
 use Rattle.meaning.specs.Records.{isName}
+use Rattle.theory.proofs.Counting.{in-counting}
+use Rattle.theory.proofs.Rules.{order}
 use Rattle.words.proofs.Bits.{bit-none, bit-or, bit-pow}
 use Rattle.words.proofs.Lists.{Rising, filter-in, filter-within, in-filter, rising-counting, rising-filter}
 use Rattle.words.proofs.Lists.{tally-add, tally-most, tally-ones, tally-shift}

@@ -10,8 +10,8 @@ use mathlib.Core.Logic.{⊎-elim}
 use mathlib.Core.Path.{_∙_, _≡_, ap, ap₂, refl, sym}
 use native.Mathlib.Omega.{arith}
 use borrow.Author.Tests.{eqb-false, eqb-true, le-ltb, lt-ltb}
-use Rattle.theory.proofs.Rules.{order}
 use Rattle.meaning.specs.Lists.{counting}
+use Rattle.theory.proofs.Rules.{order}
 use Rattle.words.proofs.Bits.{below-lowest, bit-none, bit-past, bit-shift, lowest-set}
 use Rattle.words.proofs.Laws.{in-listed, in-past, members-rising}
 use Rattle.words.proofs.Lists.{above-all, above-first, above-least, above-rest, filter-none, filter-same}

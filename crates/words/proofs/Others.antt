@@ -8,11 +8,11 @@ use mathlib.Core.List.{List, [], _∷_}
 use mathlib.Core.Path.{_∙_, _≡_, ap, refl, sym}
 use native.Mathlib.Omega.{arith}
 use borrow.Author.Tests.{eqb-true, not-false, not-true}
+use Rattle.meaning.specs.Lists.{All, any, counting, filter}
+use Rattle.meaning.specs.Records.{Name, isName}
 use Rattle.theory.proofs.Counting.{counting-names, in-counting}
 use Rattle.theory.proofs.Links.{bounds}
 use Rattle.theory.proofs.Rules.{T-and, all-at, all-of, any-in, any-mono, any-out, eqb-of, head, isTrue, same-test, tail}
-use Rattle.meaning.specs.Lists.{All, any, counting, filter}
-use Rattle.meaning.specs.Records.{Name, isName}
 use Rattle.words.proofs.Laws.{in-including, in-zeros, length-including, members-are, named-within}
 use Rattle.words.proofs.Lists.{filter-from, filter-in, in-filter}
 use Rattle.words.proofs.Listing.{from-end, from-more, from-start}

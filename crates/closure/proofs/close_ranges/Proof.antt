@@ -6,12 +6,12 @@ use Rattle.closure.proofs.Ranges.{ranged-all}
 use Rattle.closure.proofs.Steps.{empties, empties-length, widened-length}
 use Rattle.closure.proofs.close_ranges.Statement.{statement}
 use Rattle.closure.specs.Rows.{widened}
-use Rattle.theory.proofs.Wellformed.{accepted-counts, axiom-named}
 use Rattle.meaning.specs.Records.{falling, lastOf}
 use Rattle.meaning.specs.Vocabulary.{axiomAt}
 use Rattle.vocabulary.proofs.Chain.{Folding, folding-ends, folding-falls, folding-on, folding-starts}
 use Rattle.vocabulary.proofs.Chain.{folding-fits}
 use Rattle.closure.proofs.close_ranges.Tie as tie
+use Rattle.theory.proofs.Wellformed.{accepted-counts, axiom-named}
 
 abbrev Inv-loop : tie.InvT-loop
 Inv-loop v work₀ k₀ work k = (length work ≡ length work₀) × Folding v widened work₀ k work

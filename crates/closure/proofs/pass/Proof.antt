@@ -6,12 +6,12 @@ use native.Mathlib.Omega.{arith}
 use Rattle.closure.proofs.Steps.{grown-more, grown-still, lifted-length}
 use Rattle.closure.proofs.pass.Statement.{statement}
 use Rattle.closure.specs.Rows.{Grown, lifted}
-use Rattle.theory.proofs.Wellformed.{axiom-named}
 use Rattle.meaning.specs.Records.{falling, lastOf}
 use Rattle.meaning.specs.Vocabulary.{axiomAt}
 use Rattle.vocabulary.proofs.Chain.{Folding, folding-ends, folding-falls, folding-on, folding-starts}
 use Rattle.vocabulary.proofs.Chain.{folding-fits}
 use Rattle.closure.proofs.pass.Tie as tie
+use Rattle.theory.proofs.Wellformed.{axiom-named}
 
 abbrev Inv-loop : tie.InvT-loop
 Inv-loop v work₀ grown₀ k₀ work grown k = (length work ≡ length work₀) × Folding v lifted work₀ k work × Grown grown work₀ work

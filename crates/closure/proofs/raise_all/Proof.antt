@@ -5,8 +5,8 @@ use native.Mathlib.Omega.{arith}
 use Rattle.closure.proofs.Raising.{heads-none, nexts-none, raised-length, raised-then}
 use Rattle.closure.proofs.raise_all.Statement.{statement}
 use Rattle.closure.specs.Index.{Heads, Raised, raised-none, records}
-use Rattle.theory.proofs.Wellformed.{accepted-counts}
 use Rattle.closure.proofs.raise_all.Tie as tie
+use Rattle.theory.proofs.Wellformed.{accepted-counts}
 
 abbrev Inv-loop : tie.InvT-loop
 Inv-loop v work₀ heads₀ next i₀ i-end work heads i = (i ≤ i-end) × Raised v work₀ work × Heads v heads records

@@ -5,9 +5,9 @@ use Rattle.containment.proofs.Complying.{compliance-post, pair-ready, s
 use Rattle.containment.proofs.compliance.Statement.{statement}
 use Rattle.decision.specs.Decisions.{settled}
 use Rattle.frames.proofs.Work.{done-answered, done-before, done-full, done-refused, in-order}
-use Rattle.theory.proofs.Refusals.{accepted-input, input-early}
 use Rattle.preparation.proofs.Laws.{worked}
 use Rattle.containment.proofs.compliance.Tie as tie
+use Rattle.theory.proofs.Refusals.{accepted-input, input-early}
 
 returns : tie.Need-returns
 returns c =

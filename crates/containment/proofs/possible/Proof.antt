@@ -5,11 +5,11 @@ use mathlib.Core.Path.{refl}
 use Rattle.containment.proofs.Laws.{accepting, possible-post, toldPossible}
 use Rattle.containment.proofs.possible.Statement.{statement}
 use Rattle.frames.proofs.Work.{done-answered, done-before, done-full, done-refused, in-order, outputs-none}
-use Rattle.theory.proofs.Refusals.{orElse-early, orElse-zero, policy-early, vocabulary-early}
 use Rattle.meaning.specs.Policy.{policyRefusal}
 use Rattle.meaning.specs.Vocabulary.{vocabularyRefusal}
 use Rattle.preparation.proofs.Laws.{worked}
 use Rattle.containment.proofs.possible.Tie as tie
+use Rattle.theory.proofs.Refusals.{orElse-early, orElse-zero, policy-early, vocabulary-early}
 
 returns : tie.Need-returns
 returns c =

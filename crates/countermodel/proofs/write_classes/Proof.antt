@@ -6,10 +6,10 @@ use lib.ListN.{length}
 use Rattle.countermodel.proofs.Members.{members-end, members-more, members-start, membersLeft}
 use Rattle.countermodel.specs.Written.{facts}
 use Rattle.records.proofs.Writing.{Left, left-end, left-start, turn-less, turn-more, turn-room}
-use Rattle.theory.proofs.ModelWords.{fact-length}
 use Rattle.countermodel.proofs.write_classes.Statement.{statement}
 use Rattle.countermodel.specs.Facts.{memberFacts}
 use Rattle.countermodel.proofs.write_classes.Tie as tie
+use Rattle.theory.proofs.ModelWords.{fact-length}
 
 abbrev Inv-loop : tie.InvT-loop
 Inv-loop work i out₀ k last classes at₀ c₀ out at c = Left facts last k (memberFacts work i) out₀ at (membersLeft work i (c .0)) out

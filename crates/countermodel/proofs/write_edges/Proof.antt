@@ -6,10 +6,10 @@ use lib.ListN.{length}
 use Rattle.countermodel.proofs.Edges.{edges-end, edges-more, edges-start, edgesLeft}
 use Rattle.countermodel.specs.Written.{facts}
 use Rattle.records.proofs.Writing.{Left, left-end, left-start, turn-less, turn-more, turn-room}
-use Rattle.theory.proofs.ModelWords.{fact-length}
 use Rattle.countermodel.proofs.write_edges.Statement.{statement}
 use Rattle.countermodel.specs.Facts.{edgeFacts}
 use Rattle.countermodel.proofs.write_edges.Tie as tie
+use Rattle.theory.proofs.ModelWords.{fact-length}
 
 abbrev Inv-loop : tie.InvT-loop
 Inv-loop work n x out₀ k last at₀ j₀ out at j = Left facts last k (edgeFacts work n x) out₀ at (edgesLeft work x n j) out

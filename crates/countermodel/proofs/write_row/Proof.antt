@@ -1,13 +1,13 @@
 use borrow.Author.Needs.{needs}
 use mathlib.Core.Path.{_∙_, refl}
 use native.Mathlib.Omega.{arith}
-use Rattle.theory.proofs.ModelWords.{fact-length}
 use Rattle.records.proofs.Writing.{three-written}
 use Rattle.records.proofs.Writing.{room-same}
 use Rattle.countermodel.proofs.Sizes.{row-length}
 use Rattle.countermodel.proofs.write_row.Statement.{statement}
 use Rattle.countermodel.specs.Facts.{factsAt}
 use Rattle.countermodel.proofs.write_row.Tie as tie
+use Rattle.theory.proofs.ModelWords.{fact-length}
 
 write-classes-requires : tie.Need-write-classes-requires
 write-classes-requires c κs =

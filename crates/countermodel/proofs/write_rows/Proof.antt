@@ -5,11 +5,11 @@ use mathlib.Core.Path.{_≡_, ap}
 use native.Mathlib.Omega.{arith}
 use Rattle.countermodel.specs.Written.{facts}
 use Rattle.records.proofs.Writing.{Left, left-end, left-more, left-start, room-same}
-use Rattle.theory.proofs.ModelWords.{fact-length}
 use Rattle.countermodel.proofs.Sizes.{rows-end, rows-length, rows-more}
 use Rattle.countermodel.proofs.write_rows.Statement.{statement}
 use Rattle.countermodel.specs.Facts.{factsFrom, tableFacts}
 use Rattle.countermodel.proofs.write_rows.Tie as tie
+use Rattle.theory.proofs.ModelWords.{fact-length}
 
 abbrev Inv-loop : tie.InvT-loop
 Inv-loop work t last out₀ n k₀ i₀ out k i = (i ≤ n) × Left facts last 1 (tableFacts work t) out₀ k (factsFrom work t (n - i) i) out

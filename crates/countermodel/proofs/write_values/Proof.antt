@@ -4,13 +4,13 @@ use native.Mathlib.Omega.{arith}
 use lib.ListN.{length}
 use Rattle.countermodel.specs.Written.{facts}
 use Rattle.records.proofs.Writing.{Left, left-end, left-start, turn-less, turn-more, turn-room}
-use Rattle.theory.proofs.ModelWords.{fact-length}
 use Rattle.countermodel.proofs.Pairs.{values-end, values-here, values-more, values-start}
 use Rattle.countermodel.proofs.write_values.Statement.{statement}
 use Rattle.countermodel.specs.Facts.{valueFacts, valuesFrom}
 use Rattle.layout.specs.Tables.{constraintAt, pieceAt}
 use Rattle.meaning.specs.Intervals.{valueOf}
 use Rattle.countermodel.proofs.write_values.Tie as tie
+use Rattle.theory.proofs.ModelWords.{fact-length}
 
 abbrev Inv-loop : tie.InvT-loop
 Inv-loop work n x out₀ k last at₀ m₀ out at m = Left facts last k (valueFacts work n x) out₀ at (valuesFrom work n x m) out

@@ -6,9 +6,9 @@ use Rattle.equality.proofs.Comparing.{compared-late, equality-post}
 use Rattle.equality.proofs.equality.Statement.{statement}
 use Rattle.equality.specs.Comparisons.{compared}
 use Rattle.frames.proofs.Work.{done-answered, done-before, done-full, done-refused, in-order}
-use Rattle.theory.proofs.Refusals.{accepted-input, input-early}
 use Rattle.preparation.proofs.Laws.{worked}
 use Rattle.equality.proofs.equality.Tie as tie
+use Rattle.theory.proofs.Refusals.{accepted-input, input-early}
 
 returns : tie.Need-returns
 returns c =

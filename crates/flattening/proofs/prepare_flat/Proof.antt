@@ -1,10 +1,10 @@
 use borrow.Author.Needs.{needs}
 use native.Mathlib.Omega.{arith}
 use Rattle.flattening.proofs.Laws.{flat-refusal}
-use Rattle.theory.proofs.Wellformed.{accepted-size}
 use Rattle.flattening.proofs.Steps.{flat-part}
 use Rattle.flattening.proofs.prepare_flat.Statement.{statement}
 use Rattle.flattening.proofs.prepare_flat.Tie as tie
+use Rattle.theory.proofs.Wellformed.{accepted-size}
 
 pub prepare-flat-spec : {M : Type 1} → statement M
 prepare-flat-spec =

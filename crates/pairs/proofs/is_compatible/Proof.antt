@@ -3,10 +3,10 @@ use mathlib.Core.Bool.{not}
 use mathlib.Core.Path.{_∙_, ap, sym}
 use native.Mathlib.Omega.{arith}
 use borrow.Author.Needs.{needs}
-use Rattle.theory.proofs.Counting.{Testing, testing-ends, testing-fails, testing-on, testing-starts}
 use Rattle.pairs.proofs.is_compatible.Statement.{statement}
 use Rattle.pairs.specs.Pairs.{agreeIn, hasBoth, pairAt}
 use Rattle.pairs.proofs.is_compatible.Tie as tie
+use Rattle.theory.proofs.Counting.{Testing, testing-ends, testing-fails, testing-on, testing-starts}
 
 abbrev Inv-loop : tie.InvT-loop
 Inv-loop work s n i₀ i = Testing (λ j. not (hasBoth (s .words) (pairAt work j))) n i

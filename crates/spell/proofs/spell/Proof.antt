@@ -2,13 +2,13 @@ use borrow.Author.Needs.{needs}
 use lib.ListN.{length}
 use native.Mathlib.Omega.{arith}
 use Rattle.frames.proofs.Work.{done-answered, done-before, done-full, done-refused, in-order}
-use Rattle.theory.proofs.Refusals.{orElse-early, orElse-zero, policy-early, vocabulary-early}
 use Rattle.meaning.specs.Policy.{policyOf, policyRefusal}
 use Rattle.meaning.specs.Vocabulary.{vocabularyOf, vocabularyRefusal}
 use Rattle.spelling.specs.Spelling.{spelled}
 use Rattle.spell.proofs.Whole.{filed-late, spell-post, toldSpelling}
 use Rattle.spell.proofs.spell.Statement.{statement}
 use Rattle.spell.proofs.spell.Tie as tie
+use Rattle.theory.proofs.Refusals.{orElse-early, orElse-zero, policy-early, vocabulary-early}
 
 returns : tie.Need-returns
 returns c =

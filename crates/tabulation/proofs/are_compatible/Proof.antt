@@ -4,11 +4,11 @@ use native.Mathlib.Omega.{arith}
 use borrow.Author.Needs.{needs}
 use borrow.Author.Tests.{not-false, not-true}
 use Rattle.layout.specs.Tables.{setAt}
-use Rattle.theory.proofs.Counting.{Testing, testing-ends, testing-fails, testing-on, testing-starts}
 use Rattle.pairs.specs.Pairs.{agreeIn}
 use Rattle.tabulation.proofs.Cleanness.{row-agrees}
 use Rattle.tabulation.proofs.are_compatible.Statement.{statement}
 use Rattle.tabulation.proofs.are_compatible.Tie as tie
+use Rattle.theory.proofs.Counting.{Testing, testing-ends, testing-fails, testing-on, testing-starts}
 
 abbrev Inv-loop : tie.InvT-loop
 Inv-loop work n i₀ i = Testing (λ j. agreeIn work (setAt work j)) n i

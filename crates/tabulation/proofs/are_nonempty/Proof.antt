@@ -3,11 +3,11 @@ use mathlib.Core.Path.{_∙_}
 use native.Mathlib.Omega.{arith}
 use borrow.Author.Needs.{needs}
 use borrow.Author.Tests.{not-false, not-true}
-use Rattle.theory.proofs.Counting.{Testing, testing-ends, testing-fails, testing-on, testing-starts}
 use Rattle.tabulation.proofs.Cleanness.{value-told}
 use Rattle.tabulation.proofs.are_nonempty.Statement.{statement}
 use Rattle.tabulation.specs.Clean.{nonEmptyAt}
 use Rattle.tabulation.proofs.are_nonempty.Tie as tie
+use Rattle.theory.proofs.Counting.{Testing, testing-ends, testing-fails, testing-on, testing-starts}
 
 abbrev Inv-loop : tie.InvT-loop
 Inv-loop work n i₀ i = Testing (nonEmptyAt work) n i
