@@ -10,3 +10,4 @@ pub mod ShortWay
 pub mod Checks
 pub mod Owl
 pub mod Spell
+pub mod OneValue

@@ -1,17 +1,18 @@
 -- The order of refusals, operation by operation (SPECIFICATION 9.2 to 9.8, 9.12 and 9.13): a list of numbers, each 0 where its condition does not hold.
 use Prim.Native.Nat.{ℕ}
-use mathlib.Core.Bool.{Bool, _||_, cond}
+use mathlib.Core.Bool.{Bool, _||_, cond, true}
 use mathlib.Core.List.{List, [], _∷_}
 use mathlib.Core.Path.{_≡_}
 use lib.Dec.{leb}
 use lib.ListN.{length}
 use Rattle.meaning.specs.Containment.{Decision, contained, crowded, escapes, resolve}
 use Rattle.meaning.specs.Countermodel.{countermodel}
-use Rattle.meaning.specs.Limits.{mostAxioms}
+use Rattle.meaning.specs.Limits.{mostAxioms, mostVocabularyWords}
 use Rattle.meaning.specs.Model.{modelRefusal}
 use Rattle.meaning.specs.Operations.{workRefusal}
 use Rattle.meaning.specs.Policy.{policyOf, policyRefusal, secondRefusal}
-use Rattle.meaning.specs.Vocabulary.{Vocabulary, vocabularyOf, vocabularyRefusal}
+use Rattle.meaning.specs.Records.{isSized}
+use Rattle.meaning.specs.Vocabulary.{Vocabulary, axiomsOf, axiomsRefusal, firstAxiom, headedVocabulary, isOpposed, vocabularyOf, vocabularyRefusal}
 use Rattle.declarations.specs.Names.{declaredWell}
 use Rattle.declarations.specs.Passes.{listOf}
 use Rattle.owl.specs.Owl.{owlWords, parsedOf, vocabularyIn}
@@ -24,9 +25,16 @@ pub data FirstRefusal (n : ℕ) : List ℕ → Type 0 where
   here : {l : List ℕ} → (n ≡ 0 → ⊥) → FirstRefusal n (n ∷ l)
   later : {l : List ℕ} → FirstRefusal n l → FirstRefusal n (0 ∷ l)
 
--- SPECIFICATION 9.2: 1, 2, 3
+-- SPECIFICATION 9.2: 1, 2, 3, 44
 abbrev pub vocabularyOrder : List ℕ → List ℕ
 vocabularyOrder v = vocabularyRefusal v ∷ []
+
+-- 44: a role or a feature of the vocabulary is named both ways, and nothing else is wrong with it, in no record of its chain
+pub record NamedBothWays (v : List ℕ) : Type 0 where
+  pub sized : isSized 4 mostVocabularyWords (length v) ≡ true
+  pub headed : headedVocabulary v ≡ true
+  pub sound : axiomsRefusal (length v) v (firstAxiom v) ≡ 0
+  pub opposed : isOpposed (axiomsOf v) ≡ true
 
 -- SPECIFICATION 9.3: the vocabulary; 4, 5, the walk's first fault
 abbrev pub policyOrder : List ℕ → List ℕ → List ℕ
