@@ -1,7 +1,7 @@
 -- The run at the front of the order goes to its place: moved, left where it is, or dropped. Assumes nothing.
 use Prim.Native.Nat.{◌*◌, ◌+◌, ◌-◌, ◌<◌, ◌≤◌, suc, zero, ℕ}
 use mathlib.Core.Bool.{false, true}
-use mathlib.Core.List.{List, [], ◌++◌, ◌∷◌, append_assoc, map, map_append}
+use mathlib.Core.List.{List, [], ◌++◌, ◌∷◌, append_assoc, map, map-append}
 use mathlib.Core.Path.{◌∙◌, ◌≡◌, ap, ap₂, refl, subst, sym}
 use lib.ListN.{drop, get_or, length, length-append, length-drop, take}
 use lib.Seq.{drop_at, length-take-le, take_all}
@@ -127,6 +127,6 @@ module _ {w ds o : List ℕ} {top : ℕ} (g : Ready w o top) {b : ℕ} (x : RunE
       moved =
           items_all w ds o' top
           ∙ ap (map (item_at w ds)) dropped
-          ∙ map_append (item_at w ds) (upper ++ lower) (drop p.at o)
-          ∙ ap₂ ◌++◌ (map_append (item_at w ds) upper lower) (sym (items_all w ds o p.at))
+          ∙ map-append (item_at w ds) (upper ++ lower) (drop p.at o)
+          ∙ ap₂ ◌++◌ (map-append (item_at w ds) upper lower) (sym (items_all w ds o p.at))
           ∙ append_assoc (items_in w ds o b p.at) (items_in w ds o top b) (items_in w ds o p.at (length o))

@@ -1,7 +1,7 @@
 -- The entries that are listed from the last one on are, read as items, the individuals as they stand. Assumes nothing.
 use Prim.Native.Nat.{◌+◌, ◌-◌, ◌<◌, ◌≤◌, suc, zero, ℕ}
 use mathlib.Core.Bool.{true}
-use mathlib.Core.List.{List, [], ◌++◌, ◌∷◌, append_assoc, append-nil, map, map_append}
+use mathlib.Core.List.{List, [], ◌++◌, ◌∷◌, append_assoc, append-nil, map, map-append}
 use mathlib.Core.Logic.{◌⊎◌, inl, inr}
 use mathlib.Core.Path.{◌∙◌, ◌≡◌, ap, ap₂, refl, subst, sym}
 use lib.Dec.{T, eqb, eqb→eq, lt→ltb, ltb}
@@ -182,9 +182,9 @@ module _ (w ds : List ℕ) where
           let behind = entries_below next (suc n + size under) p in
           rw (← one_deeper i n (omega arith) r.0.parent)
           (ap₂ (λ (y : Item) (l : List Item). y ∷ l) (individual_read i n q k.classes (omega arith) r.0)
-          (map_append (item_at w ds) (constraint_entries m k.constraints) (below ++ behind)
+          (map-append (item_at w ds) (constraint_entries m k.constraints) (below ++ behind)
           ∙ ap₂ ◌++◌ (constraints_read (suc n) m k.constraints a.0)
-          (map_append (item_at w ds) below behind
+          (map-append (item_at w ds) below behind
           ∙ ap₂ ◌++◌ (entries_read under (suc n) (suc n) o (omega arith) r.1 a.1)
           (entries_read next i (suc n + size under) p (omega arith) r.2 (subst (λ (y : ℕ). ConstraintsStand w p (held_below next y)) e a.2)))))
 

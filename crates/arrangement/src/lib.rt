@@ -1,5 +1,7 @@
 // What stands in the tables of the work slice, put into the order in which a policy is written. Entries go to the end of the order one
 // after another, the last one first: so each finds those below it behind it in order, and behind these the runs of its own individual.
+#![tactic(auto)]
+
 ghost use Rattle.std.specs.Prelude.{◌≡◌};
 ghost use Rattle.arrangement.specs.Listing.{Arrangeable, Arranged, HasLast, last_entry, owns_last};
 ghost use Rattle.arrangement.specs.Steps.{Depths, FindsPlace, Listable, Ready, Rotatable, RunEnds, Settled, is_next, rotated};
@@ -43,7 +45,7 @@ fn run_end(work: &[u32], depths: &[u32], order: &[u32], i: usize) -> usize
 }
 
 // A place in the order, and whether an equal run stands there.
-#[derive(Drop)]
+#[derive(Clone, Copy)]
 struct Place {
     at: usize,
     found: bool,

@@ -9,6 +9,8 @@
 //   end                                                                     1,539
 //
 // In an empty slice no individual has a dial.
+#![tactic(auto)]
+
 ghost use Rattle.std.specs.Prelude.{◌≡◌, ◌≤◌, length};
 ghost use Rattle.carriers.specs.Carriers.{HasCarrier, Listable, Listed, Unlisted, beside_of, carriers_end, linked, lower_slot, slot_of};
 ghost use Rattle.carriers.specs.Carriers.{under_of};

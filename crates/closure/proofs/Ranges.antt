@@ -1,6 +1,6 @@
 -- The rows of the roles: each has what is above a range of its role, and the rows of the classes stay. Assumes nothing.
 use Prim.Native.Nat.{◌*◌, ◌≤◌, ℕ}
-use mathlib.Core.Bool.{Bool, ◌||◌, cond, false, or_assoc, or_false, true}
+use mathlib.Core.Bool.{Bool, ◌||◌, cond, false, or_assoc, or-false, true}
 use mathlib.Core.List.{List, [], ◌∷◌, foldl}
 use mathlib.Core.Path.{◌∙◌, ◌≡◌, ap, refl, subst, sym}
 use lib.Dec.{eqb}
@@ -76,7 +76,7 @@ module _ (v w₀ : List ℕ) (r : vocabulary_refusal v ≡ 0) (closed : ClosedRo
         own : in_set (row_of (joined w (role_row p) c) (role_row p)) b ≡ in_set (row_of w (role_row p)) b || (is_below (vocabulary_of v) c b || false)
         own =
             joined_in w (role_row p) c (role_fits p n.0) (class_fits c n.1) b
-            ∙ ap (λ (t : Bool). in_set (row_of w (role_row p)) b || t) (above ∙ sym (or_false (is_below (vocabulary_of v) c b)))
+            ∙ ap (λ (t : Bool). in_set (row_of w (role_row p)) b || t) (above ∙ sym (or-false (is_below (vocabulary_of v) c b)))
 
         go : (t : Bool) → eqb q p ≡ t →
             in_set (row_of (joined w (role_row p) c) (role_row q)) b ≡ in_set (row_of w (role_row q)) b || any (λ d. is_below (vocabulary_of v) d b) (cond t (c ∷ []) [])
@@ -85,7 +85,7 @@ module _ (v w₀ : List ℕ) (r : vocabulary_refusal v ≡ 0) (closed : ClosedRo
         go false e =
             let other = eqb-false q p e in
             ap (λ (s : List ℕ). in_set s b) (joined_other w (role_row p) c (role_fits p n.0) (class_fits c n.1) (role_row q) (omega arith) (λ z. other (omega arith)))
-            ∙ sym (or_false (in_set (row_of w (role_row q)) b))
+            ∙ sym (or-false (in_set (row_of w (role_row q)) b))
 
   -- ---- all of them
 
@@ -97,7 +97,7 @@ module _ (v w₀ : List ℕ) (r : vocabulary_refusal v ≡ 0) (closed : ClosedRo
   ranges_more p (s, c) R q = go (eqb q s)
     where
       go : (t : Bool) → any p (cond t (c ∷ []) []) || any p (ranges_in R q) ≡ any p (cond t (c ∷ ranges_in R q) (ranges_in R q))
-      go true = ap (λ (u : Bool). u || any p (ranges_in R q)) (or_false (p c))
+      go true = ap (λ (u : Bool). u || any p (ranges_in R q)) (or-false (p c))
       go false = refl
 
   only_all : {w : List ℕ} → Only (RolePlaces v) w₀ w → (R : List (ℕ × ℕ)) → All Named R → Only (RolePlaces v) w₀ (foldl extend w R)
@@ -106,7 +106,7 @@ module _ (v w₀ : List ℕ) (r : vocabulary_refusal v ≡ 0) (closed : ClosedRo
 
   extend_all : {w : List ℕ} → Only (RolePlaces v) w₀ w → (R : List (ℕ × ℕ)) → All Named R → (q b : ℕ) → Name (role_count v) q →
       in_set (row_of (foldl extend w R) (role_row q)) b ≡ in_set (row_of w (role_row q)) b || any (λ c. is_below (vocabulary_of v) c b) (ranges_in R q)
-  extend_all {w} h [] n q b m = sym (or_false (in_set (row_of w (role_row q)) b))
+  extend_all {w} h [] n q b m = sym (or-false (in_set (row_of w (role_row q)) b))
   extend_all {w} h (x ∷ R) n q b m =
       let p : ℕ → Bool = λ c. is_below (vocabulary_of v) c b in
       let old = in_set (row_of w (role_row q)) b in

@@ -1,4 +1,6 @@
 // The classes above each class, and above each role's ranges, worked out once a call: the rows in front of the work slice.
+#![tactic(auto)]
+
 ghost use Rattle.std.specs.Prelude.{◌*◌, ◌+◌, ◌≤◌, true, ◌≡◌, length};
 ghost use mathlib.Core.List.{foldl};
 ghost use Rattle.closure.specs.Index.{Enterable, Heads, HeadsTaken, Nexts, Raisable, Raised, records};

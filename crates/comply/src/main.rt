@@ -1,4 +1,6 @@
 // Reads a vocabulary and two policies from standard input, and says whether the first policy complies with the second.
+#![tactic(auto)]
+
 use meaning::limits::{MOST_BYTES, OUTPUT_SIZE, WORK_SIZE};
 use streams::Intake;
 use text::TEXT;

@@ -1,4 +1,6 @@
 // The operations Possible and Compliance.
+#![tactic(auto)]
+
 ghost use Rattle.std.specs.Prelude.{List, ◌≡◌, ◌≤◌, ℕ, length};
 ghost use Rattle.containment.specs.Verdicts.{CompliancePost, PossibleBy, PossiblePost, SettledBy};
 ghost use Rattle.frames.specs.Frames.{Only};

@@ -1,4 +1,6 @@
 // The canonical model of the combination that the tables of the work slice hold: how many records it has, and its words.
+#![tactic(auto)]
+
 ghost use Rattle.std.specs.Prelude.{◌≡◌, ◌<◌, ◌≤◌, length};
 ghost use Rattle.countermodel.specs.Facts.{CountsModel, ModelWritten, NextPair, Writable, edge_facts, facts_at, is_above, is_better, member_facts};
 ghost use Rattle.countermodel.specs.Facts.{record_count, table_facts, value_facts};

@@ -1,5 +1,7 @@
 // One policy against another, from where the short way stops: whether a term has too many combinations, and the first combination
 // to fail.
+#![tactic(auto)]
+
 ghost use Rattle.std.specs.Prelude.{false, List, ◌≡◌, ◌≤◌, ℕ, length};
 ghost use Rattle.decision.specs.Decisions.{Countable, Counts, Decides, Exceeds, Failed, Reports, SettlesFrom, StoppedPair};
 ghost use Rattle.frames.specs.Frames.{Only};

@@ -4,7 +4,7 @@ use mathlib.Core.Bool.{true}
 use mathlib.Core.List.{List, [], ◌∷◌}
 use mathlib.Core.Path.{◌∙◌, ◌≡◌, ap, refl, sym}
 use lib.ListN.{length}
-use native.Mathlib.Nat.{add-zero, zero_add}
+use native.Mathlib.Nat.{add-zero, zero-add}
 use native.Mathlib.Omega.{arith}
 use Rattle.declarations.proofs.Passing.{by_statement, next_ends, next_goes_on, next_none}
 use Rattle.declarations.specs.Names.{declared}
@@ -61,7 +61,7 @@ pub record Surveying (text : List ℕ) (start at : ℕ) (c : Counts) : Type 0 wh
 
 added_none : (p : Parsed) → added no_names p ≡ counts_of p
 added_none wrong = refl
-added_none (parsed l) = simp zero_add
+added_none (parsed l) = simp zero-add
 
 pub survey_starts : (text : List ℕ) (start : ℕ) → start ≤ length text → {c : Counts} → c ≡ no_names → Surveying text start start c
 survey_starts text start h e = rw e (record { ends = h; ok = refl; counts = added_none (parsed_at text start); small = omega arith })

@@ -1,4 +1,6 @@
 // The declarations of an OWL text: counted, and listed in a table.
+#![tactic(auto)]
+
 ghost use Rattle.std.specs.Prelude.{◌≡◌, ◌<◌, ◌≤◌, length};
 ghost use Rattle.declarations.specs.Passes.{Fits, Tabled, counts_of, listed_one, no_counts, no_names, one_more, parsed_at, statements_at, table_size};
 ghost use Rattle.meaning.specs.Limits.{most_classes, most_features, most_roles, most_text};
@@ -9,7 +11,7 @@ use name_table::enter;
 use statements::{END, next_item};
 
 // How many names each sort has and how many axioms there are; not ok where the text departs from the forms.
-#[derive(Drop)]
+#[derive(Clone, Copy)]
 pub struct Counts {
     pub ok: bool,
     pub classes: usize,

@@ -1,4 +1,6 @@
 // The program as a function: from the bytes of standard input to the bytes printed.
+#![tactic(auto)]
+
 ghost use Rattle.std.specs.Prelude.{◌≡◌, ◌/◌, ◌≤◌, length, take};
 ghost use Rattle.desk.specs.Buffers.{Buffers};
 ghost use Rattle.input.specs.Input.{decided, decided_words};

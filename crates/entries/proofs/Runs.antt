@@ -1,7 +1,7 @@
 -- Runs of entries compared, one entry after another. Assumes nothing.
 use Prim.Native.Nat.{◌*◌, ◌+◌, ◌-◌, ◌<◌, ◌≤◌, suc, ℕ}
 use mathlib.Core.Bool.{Bool, cond, false, true}
-use mathlib.Core.List.{List, [], ◌++◌, ◌∷◌, map, map_append}
+use mathlib.Core.List.{List, [], ◌++◌, ◌∷◌, map, map-append}
 use mathlib.Core.Path.{◌∙◌, ◌≡◌, ap, ap₂, refl, subst, sym}
 use lib.Dec.{T, ltb}
 use lib.ListN.{drop, get_or, length, take}
@@ -39,7 +39,7 @@ module _ (w ds o : List ℕ) where
       let f : a + (b - a) ≡ b = omega arith in
       ap (λ (n : ℕ). map (item_at w ds) (take n (drop a o))) e
       ∙ ap (map (item_at w ds)) (take-add (b - a) (c - b) (drop a o) ∙ ap (λ (l : List ℕ). take (b - a) (drop a o) ++ take (c - b) l) (drop-drop (b - a) a o ∙ ap (λ (n : ℕ). drop n o) f))
-      ∙ map_append (item_at w ds) (take (b - a) (drop a o)) (take (c - b) (drop b o))
+      ∙ map-append (item_at w ds) (take (b - a) (drop a o)) (take (c - b) (drop b o))
 
   pub item_depth : (e : ℕ) → (item_at w ds e).fields.depth ≡ depth_at w ds e
   unfolding item_at fields_at

@@ -1,5 +1,7 @@
 // The entries of the order in which a policy is written: each stands for a role with the individual that it reaches, or for a constraint.
 // An entry's run is the entry with all that stand below it, which follow it; two runs compare as the records do that they are written as.
+#![tactic(auto)]
+
 ghost use Rattle.std.specs.Prelude.{◌<◌, ◌≤◌, ℕ, ◌||◌, cond, not, [], ◌≡◌, eqb, get_or};
 ghost use Rattle.entries.specs.Entries.{Beside, Comparable, ComparesClasses, ComparesNext, Known, Steps, FirstDifference, HasItem, classes_at, depth_at, fields_at, items_in};
 ghost use Rattle.entries.specs.Entries.{listed, name_fields, owner_at, rank_of, rest_fields, run_key, sibling_fields};
@@ -17,7 +19,7 @@ use words::{ClassSet, place};
 pub const CONSTRAINT_ENTRIES: u32 = MOST_RECORDS as u32;
 
 // Which of two goes first.
-#[derive(Drop)]
+#[derive(Clone, Copy)]
 pub enum Order {
     Before,
     Same,
@@ -25,7 +27,7 @@ pub enum Order {
 }
 
 // What is compared of an entry's record; an individual's classes have records of their own, behind it.
-#[derive(Drop)]
+#[derive(Clone, Copy)]
 pub struct Fields {
     pub kind: u32,
     pub name: u32,

@@ -1,4 +1,6 @@
 // The operation Equality.
+#![tactic(auto)]
+
 ghost use Rattle.std.specs.Prelude.{List, ◌≡◌, ℕ, length};
 ghost use Rattle.equality.specs.Comparisons.{BothEnds, BothFail, BothStopped, Comparable, ComparedBy, ComparedFrom};
 ghost use Rattle.equality.specs.Comparisons.{DifferenceBy, EqualityPost, sided_answer};

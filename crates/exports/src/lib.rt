@@ -1,5 +1,7 @@
 // The operations for C: gimbuka.h says how each is called. A function returns the kind of answer and writes the answer's values through
 // references. Kind 0 is a refusal, with its number.
+#![tactic(auto)]
+
 ghost use Rattle.exports.specs.Codes.{Coded, CodedComparison, CodedFilling, CodedVerdict, ComplianceCoded, EqualityCoded};
 ghost use Rattle.exports.specs.Codes.{ModelCheckCoded, OwlCoded, PossibleCoded, RehearseCoded, SpellCoded, check_code, possibility_code, reading_code};
 ghost use Rattle.meaning.specs.Answers.{checked_answer, comparison_answer, filling_answer, possibility_answer, reading_answer, verdict_answer};

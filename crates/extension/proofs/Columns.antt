@@ -1,6 +1,6 @@
 -- Laws of the columns and the roles' sets: one record after another, where its turn has come.
 use Prim.Native.Nat.{◌*◌, ◌+◌, ◌≤◌, suc, ℕ}
-use mathlib.Core.Bool.{Bool, ◌&&◌, ◌||◌, and_false, and-true, cond, false, not, or_comm, or_false, true}
+use mathlib.Core.Bool.{Bool, ◌&&◌, ◌||◌, and-false, and-true, cond, false, not, or_comm, or-false, true}
 use mathlib.Core.List.{List, [], ◌∷◌}
 use mathlib.Core.Path.{◌∙◌, ◌≡◌, ap, refl, subst, sym}
 use lib.Dec.{eqb}
@@ -76,7 +76,7 @@ module _ {p m w : List ℕ} {k : ℕ} where
   }
 
   pub filling_ends : {c₀ c : List ℕ} → Filling p m w k c₀ c [] → ColumnFilled p m w k c₀ c
-  filling_ends {c = c} t = record { only = t.only; tells = λ n y h r d nd. sym (or_false (in_set (column_of c d) k)) ∙ t.left n y h r d nd; others = t.others }
+  filling_ends {c = c} t = record { only = t.only; tells = λ n y h r d nd. sym (or-false (in_set (column_of c d) k)) ∙ t.left n y h r d nd; others = t.others }
 
   pub filling_on : {c₀ c c' : List ℕ} {i : ℕ} → Readable m → Name most_records k → columns_end ≤ length c → Name (individual_count m) i → CellFilled p w k i c c' →
       (l : List ℕ) → Filling p m w k c₀ c (i ∷ l) → Filling p m w k c₀ c' l
@@ -111,10 +111,10 @@ module _ {p m w : List ℕ} {k : ℕ} where
           rw (put d k (omega arith), eq-eqb k k refl) (shuffle (eqb d i && true) (in_set (column_of c d) k) (rest d) ∙ g)
       go d nd false e f =
           let g : in_set (column_of c d) k || ((eqb d i && false) || rest d) ≡ in_set (column_of c₀ d) k || below p m k d = rw (← e) at f in
-          rw (and_false (eqb d i)) at g
+          rw (and-false (eqb d i)) at g
 
       off : (d j : ℕ) → Name most_individuals d → (j ≡ k → ⊥) → (b : Bool) → in_set (column_of (cond b (put_in record_words c (column_place i) k) c) d) j ≡ in_set (column_of c d) j
-      off d j nd h true = put d j nd ∙ rw (ne_eqb j k h, and_false (eqb d i))
+      off d j nd h true = put d j nd ∙ rw (ne_eqb j k h, and-false (eqb d i))
       off d j nd h false = refl
 
 -- ---- the set of its role
@@ -127,7 +127,7 @@ mask_room c n e h = omega arith
 
 module _ {p c : List ℕ} {k a : ℕ} {b : Bool} (ea : a ≡ name_of p k) (e : b ≡ is_name most_roles a) where
   pub mask_none : b ≡ false → MaskFilled p k c c
-  mask_none f = record { only = only_none; tells = λ r n. rw (← ea, ne_eqb r a (foreign r n), or_false (in_set (mask_of c r) k)); others = λ r d n h. refl }
+  mask_none f = record { only = only_none; tells = λ r n. rw (← ea, ne_eqb r a (foreign r n), or-false (in_set (mask_of c r) k)); others = λ r d n h. refl }
     where
       foreign : (r : ℕ) → Name most_roles r → r ≡ a → ⊥
       foreign r n d = let z : true ≡ false = sym (named_within most_roles a (omega arith) (omega arith)) ∙ sym e ∙ f in let y : ◌≡◌ {A = ℕ} 0 1 = cc in omega arith
@@ -136,7 +136,7 @@ module _ {p c : List ℕ} {k a : ℕ} {b : Bool} (ea : a ≡ name_of p k) (e : b
   mask_filled {at} {c'} t nk room ep d = record {
     only = row_inside c k here nk (omega arith) (omega arith) (omega arith) (d ∙ rw ep) only_none;
     tells = λ r n. put r k n ∙ rw (eq-eqb k k refl, and-true (eqb r a), ea) (or_comm (eqb r (name_of p k)) (in_set (mask_of c r) k));
-    others = λ r j n h. put r j n ∙ rw (ne_eqb j k h, and_false (eqb r a));
+    others = λ r j n h. put r j n ∙ rw (ne_eqb j k h, and-false (eqb r a));
   }
     where
       here : Row 0 most_roles a (mask_place a)
@@ -152,7 +152,7 @@ fill_none {p} {w} m {k} {n} c {b} e h = record {
   size = refl;
   column = λ t. absurd (let v : true ≡ false = sym t ∙ undue in let y : ◌≡◌ {A = ℕ} 0 1 = cc in omega arith);
   columns = λ j d n q. refl;
-  mask = λ a n. rw undue (sym (or_false (in_set (mask_of c a) k)));
+  mask = λ a n. rw undue (sym (or-false (in_set (mask_of c a) k)));
   masks = λ a d n q. refl;
 }
   where

@@ -1,6 +1,6 @@
 -- Laws of a policy's records: what a chain tells from one on, how deep it is, and what its links lead to.
 use Prim.Native.Nat.{◌≤◌, max, suc, ℕ}
-use mathlib.Core.Bool.{Bool, ◌&&◌, and_assoc, and_comm, and_false, cond}
+use mathlib.Core.Bool.{Bool, ◌&&◌, and_assoc, and_comm, and-false, cond}
 use mathlib.Core.List.{List, [], ◌∷◌}
 use mathlib.Core.Path.{◌≡◌, refl, sym}
 use native.Mathlib.Omega.{arith}
@@ -36,16 +36,16 @@ module _ (p m : List ℕ) (k i : ℕ) where
   role_reached = any_same _ (λ x. eqb i (owner_of x) && edge_into (name_of p k) child x) go (facts_of m)
     where
       go : (x : Fact) → reaches (name_of p k) i child x ≡ eqb i (owner_of x) && edge_into (name_of p k) child x
-      go (member b j) = sym (and_false (eqb i j))
+      go (member b j) = sym (and-false (eqb i j))
       go (edge r j t) = swap (eqb (name_of p k) r) (eqb i j) (child t)
-      go (value f j v) = sym (and_false (eqb i j))
+      go (value f j v) = sym (and-false (eqb i j))
 
   feature_valued : any (has_within (name_of p k) i (lo_of p k) (hi_of p k)) (facts_of m) ≡ valued p m k i
   feature_valued = any_same _ (λ x. eqb i (owner_of x) && value_within (name_of p k) (lo_of p k) (hi_of p k) x) go (facts_of m)
     where
       go : (x : Fact) → has_within (name_of p k) i (lo_of p k) (hi_of p k) x ≡ eqb i (owner_of x) && value_within (name_of p k) (lo_of p k) (hi_of p k) x
-      go (member b j) = sym (and_false (eqb i j))
-      go (edge r j t) = sym (and_false (eqb i j))
+      go (member b j) = sym (and-false (eqb i j))
+      go (edge r j t) = sym (and-false (eqb i j))
       go (value f j v) = swap (eqb (name_of p k) f) (eqb i j) _
 
 -- ---- the first conjunct and the rest

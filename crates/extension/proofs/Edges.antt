@@ -1,6 +1,6 @@
 -- Laws of the edges: the records of an edge's role that hold below its target are put into its owner's set.
 use Prim.Native.Nat.{◌≤◌, ℕ}
-use mathlib.Core.Bool.{Bool, ◌&&◌, and_false, false, not, true}
+use mathlib.Core.Bool.{Bool, ◌&&◌, and-false, false, not, true}
 use mathlib.Core.List.{List}
 use mathlib.Core.Path.{◌∙◌, ◌≡◌, refl, sym}
 use lib.Dec.{eqb}
@@ -31,7 +31,7 @@ module _ {m : List ℕ} {f kind : ℕ} (s : Stated m f) (ek : kind ≡ fact_kind
     pub edge_past : (c w : List ℕ) → not b ≡ true → EdgeMarked c (fact_at m f) w w
     edge_past c w n =
         handed_none w (λ i k _.
-        by_kind s (λ x. hands c i k x ≡ false) (λ _. refl) (λ _. rw (← er, ← h, not-true b n, and_false (eqb i (fact_owner m f)))) (λ _. refl))
+        by_kind s (λ x. hands c i k x ≡ false) (λ _. refl) (λ _. rw (← er, ← h, not-true b n, and-false (eqb i (fact_owner m f)))) (λ _. refl))
 
     pub edge_role : not b ≡ false → Name most_roles r
     edge_role n = simp tests at (sym h ∙ not-false b n)

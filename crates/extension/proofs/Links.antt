@@ -1,6 +1,6 @@
 -- Laws of a record's links: onward or 0.
 use Prim.Native.Nat.{◌<◌, ◌≤◌, ℕ}
-use mathlib.Core.Bool.{and_false}
+use mathlib.Core.Bool.{and-false}
 use mathlib.Core.List.{List}
 use mathlib.Core.Logic.{inl, inr, ⊎_elim}
 use mathlib.Core.Path.{◌∙◌, ◌≡◌, subst, sym}
@@ -16,7 +16,7 @@ module _ (p : List ℕ) (k x : ℕ) where
   back h = rw (le-ltb k x h)
 
   past : last_of 6 p < x → 0 ≡ onward p k x
-  past h = rw (lt-leb x (last_of 6 p) h, and_false (ltb k x))
+  past h = rw (lt-leb x (last_of 6 p) h, and-false (ltb k x))
 
   on : k < x → x ≤ last_of 6 p → x ≡ onward p k x
   on h l = rw (lt-ltb k x h, le-leb x (last_of 6 p) l)

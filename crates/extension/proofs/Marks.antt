@@ -1,6 +1,6 @@
 -- Laws of the records that are put into the individuals' sets first: those of classes, one individual after another.
 use Prim.Native.Nat.{◌*◌, ◌+◌, ◌<◌, ◌≤◌, ℕ}
-use mathlib.Core.Bool.{Bool, ◌&&◌, ◌||◌, and_false, cond, false, or_false, true}
+use mathlib.Core.Bool.{Bool, ◌&&◌, ◌||◌, and-false, cond, false, or-false, true}
 use mathlib.Core.List.{List, [], ◌∷◌}
 use mathlib.Core.Path.{◌∙◌, ◌≡◌, refl, subst, sym}
 use lib.Dec.{T, eqb, eqb_refl, eqb→eq}
@@ -60,7 +60,7 @@ module _ (p m : List ℕ) (k : ℕ) where
   telling_starts {n = n} e = record { only = only_none; left = λ d h. rw (one_counted (in_class p m k) n d (omega arith)); others = λ d j h z. refl }
 
   pub telling_ends : {w₀ w : List ℕ} → Telling p m k w₀ w [] → MembersMarked p m k w₀ w
-  telling_ends {w = w} t = record { only = t.only; marks = λ d n. sym (or_false (in_set (records_of w d) k)) ∙ t.left d n; others = t.others }
+  telling_ends {w = w} t = record { only = t.only; marks = λ d n. sym (or-false (in_set (records_of w d) k)) ∙ t.left d n; others = t.others }
 
   pub telling_on : {w₀ w w' : List ℕ} {i : ℕ} → Name most_records k → Interpreted m w → Name (individual_count m) i → w' ≡ marked_member p k w i →
       (l : List ℕ) → Telling p m k w₀ w (i ∷ l) → Telling p m k w₀ w' l
@@ -88,10 +88,10 @@ module _ (p m : List ℕ) (k : ℕ) where
       go d nd true f =
           let q = r.readable.individuals in
           rw (put d k (omega arith), eq-eqb k k refl) (shuffle (eqb d i && true) (in_set (records_of w d) k) (rest d) ∙ f)
-      go d nd false f = rw (and_false (eqb d i)) at f
+      go d nd false f = rw (and-false (eqb d i)) at f
 
       off : (d j : ℕ) → Name most_individuals d → (j ≡ k → ⊥) → (b : Bool) → in_set (records_of (cond b (marked w k i) w) d) j ≡ in_set (records_of w d) j
-      off d j nd h true = put d j nd ∙ rw (ne_eqb j k h, and_false (eqb d i))
+      off d j nd h true = put d j nd ∙ rw (ne_eqb j k h, and-false (eqb d i))
       off d j nd h false = refl
 
 -- ---- by the kind of the record
@@ -101,7 +101,7 @@ module _ (p m : List ℕ) {k kind : ℕ} (ek : kind ≡ kind_of p k) where
   class_marked e t = record { only = t.only; marks = λ i n. t.marks i n ∙ rw (← ek, e); others = t.others }
 
   pub class_none : (w : List ℕ) → (kind ≡ 1 → ⊥) → ClassMarked p m k w w
-  class_none w h = record { only = only_none; marks = λ i n. rw (← ek, ne_eqb kind 1 h) (sym (or_false (in_set (records_of w i) k))); others = λ i j n z. refl }
+  class_none w h = record { only = only_none; marks = λ i n. rw (← ek, ne_eqb kind 1 h) (sym (or-false (in_set (records_of w i) k))); others = λ i j n z. refl }
 
 -- ---- all records
 
@@ -132,7 +132,7 @@ marked_on {p} {m} {w} {w'} {n} r l e t = record {
     both : (i : ℕ) (a : Bool) → eqb (kind_of p (n + 1)) 1 ≡ a →
         (eqb (kind_of p (n + 1)) 4 && valued p m (n + 1) i) || (a && in_class p m (n + 1) i) ≡ cond a (in_class p m (n + 1) i) (cond (eqb (kind_of p (n + 1)) 4) (valued p m (n + 1) i) false)
     both i true f = rw (eqb-true (kind_of p (n + 1)) 1 f)
-    both i false f = or_false (eqb (kind_of p (n + 1)) 4 && valued p m (n + 1) i) ∙ flat (eqb (kind_of p (n + 1)) 4) (valued p m (n + 1) i)
+    both i false f = or-false (eqb (kind_of p (n + 1)) 4 && valued p m (n + 1) i) ∙ flat (eqb (kind_of p (n + 1)) 4) (valued p m (n + 1) i)
       where
         flat : (b v : Bool) → b && v ≡ cond b v false
         flat true v = refl

@@ -1,6 +1,6 @@
 -- Laws of the rounds: after each the records that wait no longer are right.
 use Prim.Native.Nat.{◌+◌, ◌<◌, ◌≤◌, suc, ℕ}
-use mathlib.Core.Bool.{Bool, ◌&&◌, ◌||◌, and_comm, and_false, cond, false, or_false, true}
+use mathlib.Core.Bool.{Bool, ◌&&◌, ◌||◌, and_comm, and-false, cond, false, or-false, true}
 use mathlib.Core.List.{List, []}
 use mathlib.Core.Logic.{inl, inr, ⊎_elim}
 use mathlib.Core.Path.{◌∙◌, ◌≡◌, ap, refl, sym}
@@ -75,13 +75,13 @@ module _ {p m w c : List ℕ} {n : ℕ} (s : Settled p m n w) (x : AllFilled p m
       undue = undue_rank s.measured z ch n d
 
       one : (a o j : ℕ) (b : Bool) → is_name most_roles a ≡ b → eqb i o && (b && (in_set (column_of c j) k && in_set (mask_of c a) k)) ≡ false
-      one a o j true e = rw (x.mask k named a (simp tests at e), undue, and_false (in_set (column_of c j) k), and_false (eqb i o))
-      one a o j false e = and_false (eqb i o)
+      one a o j true e = rw (x.mask k named a (simp tests at e), undue, and-false (in_set (column_of c j) k), and-false (eqb i o))
+      one a o j false e = and-false (eqb i o)
 
   handed_due : rank p k ≡ n + 1 → any (hands c i k) (facts_of m) ≡ reached p m k i
   handed_due d = any_stated (hands c i k) (λ y. eqb i (owner_of y) && edge_into (name_of p k) (below p m k) y) s.interpreted.readable (λ f q.
-      by_kind q (λ y. hands c i k y ≡ eqb i (owner_of y) && edge_into (name_of p k) (below p m k) y) (λ _. sym (and_false (eqb i (fact_owner m f))))
-      (λ e. ap (λ (b : Bool). eqb i (fact_owner m f) && b) (one (fact_name m f) (fact_other m f) (q.target e) (is_name most_roles (fact_name m f)) refl)) (λ _. sym (and_false (eqb i (fact_owner m f)))))
+      by_kind q (λ y. hands c i k y ≡ eqb i (owner_of y) && edge_into (name_of p k) (below p m k) y) (λ _. sym (and-false (eqb i (fact_owner m f))))
+      (λ e. ap (λ (b : Bool). eqb i (fact_owner m f) && b) (one (fact_name m f) (fact_other m f) (q.target e) (is_name most_roles (fact_name m f)) refl)) (λ _. sym (and-false (eqb i (fact_owner m f)))))
     where
       due : is_due p w k n ≡ true
       due = due_rank s.measured z ch n d
@@ -160,7 +160,7 @@ module _ {p m w c : List ℕ} {n : ℕ} (sz : Sized p) (s : Settled p m n w) (x 
           bits k i z ch q ∙ rw (s.known.blank k i z ch (omega arith) q) (handed_due s x z ch i d ∙ role_own k i (due_child p k n d).0)
       right k i z ch h q false g =
           let d = eqb-false (rank p k) (n + 1) g in
-          bits k i z ch q ∙ rw (handed_none s x z ch i d, or_false (in_set (records_of w i) k)) (s.known.right k i z ch (omega arith) q)
+          bits k i z ch q ∙ rw (handed_none s x z ch i d, or-false (in_set (records_of w i) k)) (s.known.right k i z ch (omega arith) q)
 
 -- ---- before the first
 

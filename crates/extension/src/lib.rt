@@ -4,6 +4,8 @@
 // for the chain below it: these are taken in rounds, by how deep that chain is, and one walk over the facts does all of a round. An edge
 // hands the records of its role that hold below its target to its owner, 16 words at a time. So time grows with the model's records
 // times the policy's depth, and with the individuals times the policy's records. What no individual of the model needs is not cleared.
+#![tactic(auto)]
+
 ghost use Rattle.std.specs.Prelude.{false, ◌≡◌, ◌+◌, ◌≤◌, max, length};
 ghost use Rattle.extension.specs.Columns.{AllFilled, CellFillable, CellFilled, ColumnFilled, EdgeMarkable, EdgeMarked, EdgesMarked};
 ghost use Rattle.extension.specs.Columns.{Fillable, MaskFilled, RecordFilled, column_place, columns_end, mask_place};

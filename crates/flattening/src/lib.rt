@@ -1,5 +1,7 @@
 // A vocabulary in which every class that is below another is below itself instead. The normal forms by it are the same, and its rows hold
 // no more than the classes that are stated: so the tables of a term have what is written of it.
+#![tactic(auto)]
+
 ghost use Rattle.std.specs.Prelude.{◌≤◌, ◌≡◌, length};
 ghost use Rattle.flattening.specs.Flat.{Flattens, flat_word_at, flat_words};
 ghost use Rattle.frames.specs.Frames.{Only, Span};

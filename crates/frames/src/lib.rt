@@ -1,5 +1,7 @@
 // What a call may change of a slice that it is lent, and the work slice at the two ends of an operation: 21 where it is not full, and
 // 0 in every word that was worked in. Words copied from slice to slice.
+#![tactic(auto)]
+
 ghost use Rattle.std.specs.Prelude.{◌≡◌, ◌+◌, ◌≤◌, length};
 ghost use Rattle.frames.specs.Frames.{Cleared};
 ghost use Rattle.frames.specs.Rows.{put_at, row_at};

@@ -1,4 +1,6 @@
 // The functional roles and features of a vocabulary, worked out once a call.
+#![tactic(auto)]
+
 ghost use Rattle.std.specs.Prelude.{ℕ, List, ◌≡◌};
 ghost use Rattle.functional.specs.FunctionalNames.{FunctionalNames};
 ghost use Rattle.meaning.specs.Stated.{is_functional_feature, is_functional_role};
@@ -25,7 +27,7 @@ fn insert_many(v: &[u32], roles: &mut [u32], features: &mut [u32])
 }
 
 // The names of which no individual has two values.
-#[derive(Drop)]
+#[derive(Clone, Copy)]
 pub struct Functional {
     pub roles: [u32; NAME_WORDS],
     pub features: [u32; NAME_WORDS],

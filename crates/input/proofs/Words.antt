@@ -5,7 +5,7 @@ use lib.ListN.{drop, get_or, length, set, take}
 use lib.Seq.{take-suc-set}
 use mathlib.Core.List.{List, [], ◌++◌, ◌∷◌, map}
 use mathlib.Core.Path.{◌∙◌, ◌≡◌, ap}
-use native.Mathlib.Nat.{add-suc, add-zero, suc-add, zero_add}
+use native.Mathlib.Nat.{add-suc, add-zero, suc-add, zero-add}
 use native.Mathlib.Numerals.{add-one}
 use native.Mathlib.Omega.{arith}
 use Rattle.input.specs.Input.{exact}
@@ -19,7 +19,7 @@ counted f k (suc n) = rw (counted f (suc k) n, add-suc k n, suc-add k n)
 
 pub decode_more : (b ws : List ℕ) (i : ℕ) → i < length ws → take i ws ≡ map (word_at b) (counting 0 i) →
     take (i + 1) (set ws i (word_at b i)) ≡ map (word_at b) (counting 0 (i + 1))
-decode_more b ws i h e = rw (add-one i, take-suc-set ws i (word_at b i) h, e, counted (word_at b) 0 i, zero_add i)
+decode_more b ws i h e = rw (add-one i, take-suc-set ws i (word_at b i) h, e, counted (word_at b) 0 i, zero-add i)
 
 pub exact_parts : (ws : List ℕ) (p q e bytes : ℕ) → p ≡ next_part ws 0 → q ≡ next_part ws p → e ≡ next_part ws q → eqb bytes (4 * e) ≡ exact bytes ws
 exact_parts ws p q e bytes h₁ h₂ h₃ = ap (λ (k : ℕ). eqb bytes (4 * k)) (h₃ ∙ ap (next_part ws) (h₂ ∙ ap (next_part ws) h₁))

@@ -1,4 +1,6 @@
 // The program's input: its words and its three parts; and words written as they are read.
+#![tactic(auto)]
+
 ghost use Rattle.std.specs.Prelude.{◌≡◌, ◌*◌, ◌+◌, ◌/◌, ◌<◌, ◌≤◌, leb, length, take};
 ghost use Rattle.frames.specs.Rows.{Put};
 ghost use Rattle.input.specs.Input.{exact};

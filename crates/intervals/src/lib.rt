@@ -1,4 +1,6 @@
 // Intervals, both ends included: the questions that the code asks of one.
+#![tactic(auto)]
+
 ghost use Rattle.std.specs.Prelude.{◌≡◌};
 ghost use Rattle.intervals.specs.Touching.{touches};
 ghost use Rattle.meaning.specs.Intervals.{is_inside, is_non_empty, is_within};

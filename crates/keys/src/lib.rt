@@ -1,5 +1,7 @@
 // Keys: a feature and a value of it as one number of 64 bits. Keys rise by feature, then by value, so that a list of them that rises is
 // searched by halving, whatever features it is of.
+#![tactic(auto)]
+
 ghost use Rattle.std.specs.Prelude.{[], ◌∷◌, ◌≡◌, ◌<◌, ◌≤◌, length};
 ghost use Rattle.keys.specs.Keys.{Gathered, Ranked, key_of};
 

@@ -1,6 +1,6 @@
 -- Laws of the tables: an entry that is written, entries that a change leaves, and the constraints of a form one after another.
 use Prim.Native.Nat.{◌+◌, ◌<◌, ◌≤◌, suc, ℕ}
-use mathlib.Core.List.{List, [], ◌++◌, ◌∷◌, map, map_append}
+use mathlib.Core.List.{List, [], ◌++◌, ◌∷◌, map, map-append}
 use mathlib.Core.Path.{◌∙◌, ◌≡◌, ap, ap₂, refl, subst, sym}
 use lib.ListN.{get_or, length, length-map, length-set, set}
 use lib.Seq.{get_or-set_other, get_or-set_same}
@@ -155,14 +155,14 @@ held_by_lem x (s ∷ l) = ap (λ (m : List Constraint). s ∷ m) (held_by_lem x 
 held_below_lem : (ks : Successors) (k : ℕ) → map (λ h. h.constraint) (held_below ks k) ≡ constraints_below ks
 held_below_lem none k = refl
 held_below_lem (successor r n under next) k =
-    map_append (λ h. h.constraint) (held_by k n.constraints) (held_below under (suc k) ++ held_below next (suc k + size under))
+    map-append (λ h. h.constraint) (held_by k n.constraints) (held_below under (suc k) ++ held_below next (suc k + size under))
     ∙ ap₂ (λ (l m : List Constraint). l ++ m) (held_by_lem k n.constraints)
-    (map_append (λ h. h.constraint) (held_below under (suc k)) (held_below next (suc k + size under))
+    (map-append (λ h. h.constraint) (held_below under (suc k)) (held_below next (suc k + size under))
     ∙ ap₂ (λ (l m : List Constraint). l ++ m) (held_below_lem under (suc k)) (held_below_lem next (suc k + size under)))
 
 pub held_constraints : (t : Form) → map (λ h. h.constraint) (held_in t) ≡ constraints_of t
 held_constraints t =
-    map_append (λ h. h.constraint) (held_by 1 t.node.constraints) (held_below t.successors 2)
+    map-append (λ h. h.constraint) (held_by 1 t.node.constraints) (held_below t.successors 2)
     ∙ ap₂ (λ (l m : List Constraint). l ++ m) (held_by_lem 1 t.node.constraints) (held_below_lem t.successors 2)
 
 -- a constraint of the table for each of the form's

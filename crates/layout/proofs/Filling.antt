@@ -6,7 +6,7 @@ use mathlib.Core.Logic.{◌⊎◌, inl, inr}
 use mathlib.Core.Path.{◌∙◌, ◌≡◌, ap, refl, subst, sym}
 use lib.Dec.{eqb}
 use lib.ListN.{length, length-append}
-use native.Mathlib.Nat.{zero_add}
+use native.Mathlib.Nat.{zero-add}
 use native.Mathlib.Omega.{arith}
 use borrow.Author.Tests.{eq-eqb, ne_eqb}
 use Rattle.layout.proofs.Entries.{held_below_length, held_length}
@@ -88,7 +88,7 @@ module _ (w : List ℕ) where
   module _ (v : ℕ → Constraint) where
     chosen_append : (x a b m : ℕ) → chosen_from v w x (a + b) m ≡ chosen_from v w x a m ++ chosen_from v w x b (m + a)
     unfolding chosen_from
-    chosen_append x zero b m = rw zero_add (ap (λ (i : ℕ). chosen_from v w x b i) (omega arith))
+    chosen_append x zero b m = rw zero-add (ap (λ (i : ℕ). chosen_from v w x b i) (omega arith))
     chosen_append x (suc a) b m =
         let e : suc a + b ≡ suc (a + b) = omega arith in
         let d : suc m + a ≡ m + suc a = omega arith in
@@ -122,7 +122,7 @@ module _ (w : List ℕ) where
           ap (λ (n : ℕ). chosen_from v w x n 0) e
           ∙ chosen_append x o (length l + (top - (o + length l))) 0
           ∙ ap (λ (k : List Constraint). k ++ chosen_from v w x (length l + (top - (o + length l))) (0 + o)) (chosen_none x o 0 (λ j p q z. let y = before j (omega arith) in omega arith))
-          ∙ ap (λ (i : ℕ). chosen_from v w x (length l + (top - (o + length l))) i) (zero_add o)
+          ∙ ap (λ (i : ℕ). chosen_from v w x (length l + (top - (o + length l))) i) (zero-add o)
           ∙ chosen_append x (length l) (top - (o + length l)) o
           ∙ ap (λ (k : List Constraint). chosen_from v w x (length l) o ++ k) (chosen_none x (top - (o + length l)) (o + length l) (λ j p q z. let y = after j p (omega arith) in omega arith))
           ∙ append-nil (chosen_from v w x (length l) o)

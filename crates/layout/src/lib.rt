@@ -11,6 +11,8 @@
 //   end                                                                               13,313              15,617
 //
 // So 3,071 of the 16,384 words are left over at 256 classes, and 767 at 320.
+#![tactic(auto)]
+
 ghost use Rattle.std.specs.Prelude.{◌≡◌, ◌-◌, ◌≤◌};
 ghost use Rattle.layout.specs.Combination.{next_successor};
 ghost use Rattle.layout.specs.Places.{pair_place, row_place};
@@ -56,7 +58,7 @@ pub fn pair_at(i: u32) -> usize
 }
 
 // What the last two tables hold: a form of so many individuals and constraints, or an impossible one.
-#[derive(Drop)]
+#[derive(Clone, Copy)]
 pub struct Tables {
     pub individuals: u32,
     pub constraints: usize,

@@ -1,28 +1,29 @@
 // The three series of names, and the answers of the operations. The definitions stand in specs/, the theorems about them in crate theory.
+#![tactic(auto)]
 
 pub mod limits;
 
 // A class's number, from 1.
-#[derive(Drop)]
+#[derive(Clone, Copy)]
 pub struct ClassNo(pub u32);
 
 // A role's number, from 1.
-#[derive(Drop)]
+#[derive(Clone, Copy)]
 pub struct RoleNo(pub u32);
 
 // A feature's number, from 1.
-#[derive(Drop)]
+#[derive(Clone, Copy)]
 pub struct FeatureNo(pub u32);
 
 // Read vocabulary, Read policy.
-#[derive(Drop)]
+#[derive(Clone, Copy)]
 pub enum Reading {
     Accepted,
     Refused(u32),
 }
 
 // Possible: the first term that is possible, or none is.
-#[derive(Drop)]
+#[derive(Clone, Copy)]
 pub enum Possibility {
     Possible(u32),
     Impossible,
@@ -30,7 +31,7 @@ pub enum Possibility {
 }
 
 // Compliance: compliant, or term s and combination q with the words written.
-#[derive(Drop)]
+#[derive(Clone, Copy)]
 pub enum Verdict {
     Compliant,
     Outside(u32, u32, usize),
@@ -38,7 +39,7 @@ pub enum Verdict {
 }
 
 // Equality: equal, or a side with its s and q and the words written.
-#[derive(Drop)]
+#[derive(Clone, Copy)]
 pub enum Comparison {
     Equal,
     Differs(u32, u32, u32, usize),
@@ -46,7 +47,7 @@ pub enum Comparison {
 }
 
 // Model check.
-#[derive(Drop)]
+#[derive(Clone, Copy)]
 pub enum Checked {
     Yes,
     No,
@@ -54,7 +55,7 @@ pub enum Checked {
 }
 
 // An operation that fills an output: the words written.
-#[derive(Drop)]
+#[derive(Clone, Copy)]
 pub enum Filling {
     Written(usize),
     Refused(u32),

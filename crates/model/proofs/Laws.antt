@@ -1,6 +1,6 @@
 -- Laws of the definitions, over plain lists and numbers: what a function's proof cites at its returns.
 use Prim.Native.Nat.{◌<◌, ◌≤◌, ℕ}
-use mathlib.Core.Bool.{Bool, ◌&&◌, and_false, false, not, true}
+use mathlib.Core.Bool.{Bool, ◌&&◌, and-false, false, not, true}
 use mathlib.Core.List.{List}
 use mathlib.Core.Path.{◌∙◌, ◌≡◌, sym}
 use lib.Dec.{eqb, leb}
@@ -24,7 +24,7 @@ module _ (v m : List ℕ) (k : ℕ) {n i kind a x : ℕ} {t : Bool} (en : n ≡ 
   owned = rw (sym en, sym ei) et
 
   pub unknown : (kind ≡ 1 → ⊥) → (kind ≡ 2 → ⊥) → (kind ≡ 3 → ⊥) → false ≡ fact_fits v m k
-  unknown n₁ n₂ n₃ = rw (sym owned, sym ek, ne_eqb kind 1 n₁, ne_eqb kind 2 n₂, ne_eqb kind 3 n₃, and_false t)
+  unknown n₁ n₂ n₃ = rw (sym owned, sym ek, ne_eqb kind 1 n₁, ne_eqb kind 2 n₂, ne_eqb kind 3 n₃, and-false t)
 
   -- the test of its name
   module _ {f : Bool} where

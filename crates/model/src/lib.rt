@@ -1,4 +1,6 @@
 // A model's words: records of five words after a header, chained by links that rise.
+#![tactic(auto)]
+
 ghost use Rattle.std.specs.Prelude.{◌≡◌, ◌≤◌, length};
 ghost use Rattle.meaning.specs.Model.{fact_fits, fact_kind, fact_name, fact_next, fact_other, fact_owner, first_fact};
 ghost use Rattle.meaning.specs.Model.{headed_model, individual_count, model_refusal, sound_fact};

@@ -1,6 +1,8 @@
 // Model check: whether the interpretation that a model's words stand for satisfies the vocabulary and has its first individual in
 // the first policy and outside the second. Time grows with the model's records times the policies' depth, and with the individuals
 // times the records of the vocabulary and of the policies; spans of features take two walks over the facts at most for each policy.
+#![tactic(auto)]
+
 ghost use Rattle.std.specs.Prelude.{◌≡◌};
 ghost use Rattle.frames.specs.Frames.{Only, Span};
 ghost use Rattle.meaning.specs.Limits.{work_size};

@@ -1,4 +1,6 @@
 // A table of names: entry j is three words, where the name begins and ends in the text, and its print.
+#![tactic(auto)]
+
 ghost use Rattle.std.specs.Prelude.{◌≡◌, ◌*◌, ◌+◌, ◌≤◌, ◌<◌, length};
 ghost use Rattle.tokens.specs.Places.{part, print_of};
 ghost use Rattle.tokens.specs.Tokens.{same_bytes};

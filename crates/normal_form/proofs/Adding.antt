@@ -1,6 +1,6 @@
 -- What adding conjuncts does to the tables.
 use Prim.Native.Nat.{◌+◌, ◌<◌, ◌≤◌, ℕ}
-use mathlib.Core.Bool.{Bool, ◌||◌, false, or_assoc, or_false, or_true, true}
+use mathlib.Core.Bool.{Bool, ◌||◌, false, or_assoc, or-false, or-true, true}
 use mathlib.Core.List.{List, [], ◌++◌, ◌∷◌}
 use mathlib.Core.Logic.{inl, inr}
 use mathlib.Core.Path.{◌∙◌, ◌≡◌, ap, refl, subst, sym}
@@ -48,7 +48,7 @@ module _ (p : List ℕ) (x m : ℕ) (w : List ℕ) (g : Draft) where
     constraints = λ l h s. s;
     few = omega arith;
     first = omega arith;
-    bottom = sym (or_false g.impossible);
+    bottom = sym (or-false g.impossible);
     only = only_none;
   }
 
@@ -64,7 +64,7 @@ module _ (p : List ℕ) (x m : ℕ) (w : List ℕ) (g : Draft) where
       constraints = λ l h s. s;
       few = omega arith;
       first = omega arith;
-      bottom = hb ∙ sym (or_true g.impossible);
+      bottom = hb ∙ sym (or-true g.impossible);
       only = only_none;
     }
 
@@ -81,7 +81,7 @@ module _ (p : List ℕ) (x m : ℕ) (w : List ℕ) (g : Draft) where
       constraints = λ l h s. s;
       few = omega arith;
       first = omega arith;
-      bottom = hb ∙ sym (or_false g.impossible);
+      bottom = hb ∙ sym (or-false g.impossible);
       only = only_none;
     }
       where
@@ -106,7 +106,7 @@ module _ (p : List ℕ) (x m : ℕ) (w : List ℕ) (g : Draft) where
         constraints = λ l h s. constraints_kept w w' m (held_by x l) (λ i q f. other i (λ e. omega arith)) s;
         few = omega arith;
         first = omega arith;
-        bottom = hb ∙ sym (or_false g.impossible);
+        bottom = hb ∙ sym (or-false g.impossible);
         only = rw ew (only_set g.pending k (pended (record { low = low; high = b }) (omega arith)) only_none);
       }
         where
@@ -128,7 +128,7 @@ module _ (p : List ℕ) (x m : ℕ) (w : List ℕ) (g : Draft) where
         constraints = λ l h s. u.constraints l h s;
         few = u.few;
         first = u.more;
-        bottom = hb ∙ sym (or_false g.impossible);
+        bottom = hb ∙ sym (or-false g.impossible);
         only = only_wider (λ i s. constrained s (omega (arith, s.low))) u.only;
       }
 

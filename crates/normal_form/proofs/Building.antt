@@ -1,6 +1,6 @@
 -- The individuals of pending roles, each followed by those below it: the ways of `successors`.
 use Prim.Native.Nat.{◌+◌, ◌<◌, ◌≤◌, ℕ}
-use mathlib.Core.Bool.{or_false}
+use mathlib.Core.Bool.{or-false}
 use mathlib.Core.List.{List}
 use mathlib.Core.Path.{◌∙◌, ◌≡◌, refl, sym}
 use lib.ListN.{get_or, length}
@@ -38,7 +38,7 @@ module _ {f : Functional} {p : List ℕ} {first stop i : ℕ} {t₀ : Tables} {w
     more = (omega arith, omega arith);
     few = omega arith;
     fewer = omega arith;
-    bottom = sym (or_false t.impossible);
+    bottom = sym (or-false t.impossible);
     only = only_none;
   }))
 

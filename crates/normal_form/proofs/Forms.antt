@@ -1,6 +1,6 @@
 -- The whole form: `normalise`.
 use Prim.Native.Nat.{◌+◌, ℕ}
-use mathlib.Core.Bool.{false, or_false}
+use mathlib.Core.Bool.{false, or-false}
 use mathlib.Core.List.{List, [], ◌++◌, ◌∷◌, append-nil}
 use mathlib.Core.Logic.{inr}
 use mathlib.Core.Path.{◌∙◌, ◌≡◌, ap, refl, subst, sym}
@@ -68,7 +68,7 @@ module _ (p w : List ℕ) (s : ℕ) (fit : Fit p w s) where
       Built f (rest_at p (set w pending_at s) pending_at (pending_at + 1)) pending_at 0 0 0 false (set w pending_at s) w' u → Normalised f (term_at p s) w w' u
   normalised f {w'} {u} built = record {
     tabled = tabled;
-    bottom = b.bottom ∙ or_false (has_bottom (conjuncts_at p (child_of p s))) ∙ ap has_bottom term;
+    bottom = b.bottom ∙ or-false (has_bottom (conjuncts_at p (child_of p s))) ∙ ap has_bottom term;
     most =
         let c1 = b in
         let c4 : count (conjuncts_at p (child_of p s)) ≡ count (term_at p s) = ap count term in

@@ -1,4 +1,6 @@
 // The normal form of a term, as flat tables of the work slice: one walk, no tree, no numbering afterwards.
+#![tactic(auto)]
+
 ghost use Rattle.std.specs.Prelude.{◌&&◌, ◌≡◌, ◌≤◌, max, min, eqb, length};
 ghost use Rattle.frames.specs.Rows.{row_at};
 ghost use Rattle.layout.specs.Places.{tables_end};
@@ -22,7 +24,7 @@ use words::{ClassSet, place};
 
 // What the conjuncts of an individual have given: its classes, the ends of the pending roles and of the constraints, and whether
 // one is the impossible concept.
-#[derive(Drop)]
+#[derive(Clone, Copy)]
 struct Draft {
     classes: ClassSet,
     pending: usize,

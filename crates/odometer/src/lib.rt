@@ -1,5 +1,7 @@
 // The odometer over the combinations of a term. A dial is a constraint with several pieces; the others stand still. Where a combination
 // passes by some of the dials alone, all that have the same pieces there pass, and the odometer goes on behind them.
+#![tactic(auto)]
+
 ghost use Rattle.std.specs.Prelude.{cond, ◌≡◌, ◌<◌, ◌≤◌, length};
 ghost use Rattle.std.specs.Int.Bits.{bit_or};
 ghost use Rattle.odometer.specs.Odometer.{Counted, DialsFound, Limited, PiecesCountable, Skippable, Skipped, Split, Turned};

@@ -5,7 +5,7 @@ use mathlib.Core.Bool.{Bool, ◌&&◌, false, not, true}
 use mathlib.Core.List.{List, [], ◌++◌, append-nil, map}
 use mathlib.Core.Path.{◌∙◌, ◌≡◌, ap, ap₂, refl}
 use lib.Dec.{T, eqb, eqb→eq}
-use lib.Ieee.Bits.{is_false_lem, is_true_lem}
+use lib.Ieee.Bits.{is_false as is_false_lem, is_true as is_true_lem}
 use Rattle.meaning.specs.Accepted.{NamedAxiom}
 use Rattle.meaning.specs.Lists.{All, ◌∈◌, any}
 use Rattle.meaning.specs.Records.{Name, is_name}

@@ -1,4 +1,6 @@
 // The operation Read OWL: the vocabulary that an OWL text states.
+#![tactic(auto)]
+
 ghost use Rattle.std.specs.Prelude.{true, [], ◌∷◌, ◌≡◌, ◌*◌, ◌+◌, ◌<◌, ◌^◌, ◌≤◌, length};
 ghost use Rattle.declarations.specs.Names.{counted, declared, is_known, sound_names};
 ghost use Rattle.declarations.specs.Passes.{counts_of};

@@ -1,4 +1,6 @@
 // The pairs of disjoint classes, listed once a call after the rows of the work slice.
+#![tactic(auto)]
+
 ghost use Rattle.std.specs.Prelude.{◌<◌, ◌≤◌, ◌≡◌, length};
 ghost use Rattle.layout.specs.Places.{most_pairs, pairs_end};
 ghost use Rattle.meaning.specs.Vocabulary.{axiom_at, vocabulary_refusal};

@@ -1,4 +1,6 @@
 // Read policy: records of six words after a header, walked a record, its child chain, its next.
+#![tactic(auto)]
+
 ghost use Rattle.std.specs.Prelude.{◌≡◌, cond, false, not, ◌≤◌, eqb, length};
 ghost use Rattle.meaning.specs.Answers.{reading_answer};
 ghost use Rattle.meaning.specs.Operations.{input_refusal, read_policy, read_second_policy};

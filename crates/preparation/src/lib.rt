@@ -1,4 +1,6 @@
 // What an accepted vocabulary states, worked out once a call into the front of the work slice: nothing else looks through its records.
+#![tactic(auto)]
+
 ghost use Rattle.std.specs.Prelude.{◌≤◌, ◌≡◌, length};
 ghost use Rattle.frames.specs.Frames.{Only, Span};
 ghost use Rattle.layout.specs.Places.{pairs_end};

@@ -1,5 +1,7 @@
 // Printing into a slice of bytes: a byte, a name, a number in base ten.
 // Each function puts its bytes from a place on, leaves the others as they are, and returns the place after them, where the next begins.
+#![tactic(auto)]
+
 ghost use Rattle.std.specs.Prelude.{[], ◌∷◌, ◌≡◌, ◌+◌, ◌<◌, ◌≤◌, length};
 ghost use Rattle.meaning.specs.Program.{decimal};
 ghost use Rattle.frames.specs.Rows.{Put};

@@ -1,5 +1,7 @@
 // Runs the readers over damaged tables and prints each refusal's number, 0 where a table is accepted. What it must print is
 // worked out from the rules of SPECIFICATION 9.2 to 9.4 by tests/readers.py.
+#![tactic(auto)]
+
 ghost use Rattle.std.specs.Prelude.{◌<◌};
 
 use libc::STDOUT_FILENO;

@@ -2,7 +2,7 @@
 use Prim.Native.Nat.{◌*◌, ◌+◌, ◌<◌, ◌≤◌, suc, ℕ}
 use mathlib.Core.List.{List, [], ◌++◌, ◌∷◌, append_assoc, append-nil}
 use mathlib.Core.Path.{◌∙◌, ◌≡◌, ap, refl, sym}
-use native.Mathlib.Nat.{add-zero, le_refl, le_trans, mul-add, mul-le-mul, mul-suc, zero_add}
+use native.Mathlib.Nat.{add-zero, le_refl, le_trans, mul-add, mul-le-mul, mul-suc, zero-add}
 use native.Mathlib.Omega.{arith}
 use lib.ListN.{length, length-append, set}
 use borrow.Author.Tests.{eq-eqb, ne_eqb}
@@ -155,4 +155,4 @@ pub headed_written : {A : Type 0} (f : Format A) (h : List ℕ) (last : ℕ) (l 
 unfolding recorded output_after
 headed_written f h last l o e size room =
     let at : f.width * 1 ≡ 0 + length h = omega arith in
-    rw (at, put_append o 0 h (omega arith) (linked_words f.words last 1 l), linked_chained f.words last 1 l (omega arith), zero_add)
+    rw (at, put_append o 0 h (omega arith) (linked_words f.words last 1 l), linked_chained f.words last 1 l (omega arith), zero-add)

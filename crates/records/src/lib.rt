@@ -1,4 +1,6 @@
 // What the tables of records share: a word, a record, a name, a link read and written, a length, an answer.
+#![tactic(auto)]
+
 ghost use Rattle.std.specs.Prelude.{[], ◌∷◌, ◌≡◌, ◌+◌, ◌<◌, ◌^◌, ◌≤◌, get_or, length, set};
 ghost use Rattle.frames.specs.Rows.{Put};
 ghost use Rattle.meaning.specs.Answers.{accepted, reading_answer, refused, result};

@@ -1,7 +1,7 @@
 -- A load is never too much to decide: a term has one constraint, so few combinations, and one individual, so a short countermodel.
 -- Assumes nothing.
 use Prim.Native.Nat.{◌*◌, ◌+◌, ◌≤◌, suc, zero, ℕ}
-use mathlib.Core.Bool.{Bool, ◌&&◌, and_false, cond, false, not, true}
+use mathlib.Core.Bool.{Bool, ◌&&◌, and-false, cond, false, not, true}
 use mathlib.Core.List.{List, [], ◌∷◌}
 use mathlib.Core.Path.{◌≡◌, refl}
 use lib.Dec.{ltb}
@@ -44,11 +44,11 @@ module _ (K : Vocabulary) (t N m : ℕ) (few : m ≤ most_terms) where
 
   pub load_uncrowded : (s n : ℕ) → crowded K (load_policy s N n) (load_policy t N m) ≡ false
   unfolding crowded too_many
-  load_uncrowded s n = rw (none s n) (and_false (not (short_way K (load_policy s N n) (load_policy t N m))))
+  load_uncrowded s n = rw (none s n) (and-false (not (short_way K (load_policy s N n) (load_policy t N m))))
     where
       none : (s n : ℕ) → any (λ p. possible K p && ltb most_combinations (combination_count (load_policy t N m) (normal_form K p))) (load_policy s N n) ≡ false
       none s zero = refl
-      none s (suc n) = rw (le-ltb most_combinations (combination_count (load_policy t N m) (normal_form K (load_term s N))) (term_few s), and_false (possible K (load_term s N))) (none (advance_by 3 s) n)
+      none s (suc n) = rw (le-ltb most_combinations (combination_count (load_policy t N m) (normal_form K (load_term s N))) (term_few s), and-false (possible K (load_term s N))) (none (advance_by 3 s) n)
 
 -- ---- 23
 

@@ -3,7 +3,7 @@ use Prim.Native.Nat.{◌*◌, ◌+◌, ◌-◌, ◌≤◌, suc, zero, ℕ}
 use mathlib.Core.List.{[], ◌++◌, ◌∷◌}
 use mathlib.Core.Path.{◌≡◌, refl}
 use lib.ListN.{length, length-append}
-use native.Mathlib.Nat.{suc-add, zero_add}
+use native.Mathlib.Nat.{suc-add, zero-add}
 use native.Mathlib.Omega.{arith}
 use Rattle.meaning.specs.Accepted.{total}
 use Rattle.meaning.specs.PolicyWords.{policy_words}
@@ -14,7 +14,7 @@ use Rattle.theory.proofs.PolicyWords.{policy_length}
 use Rattle.theory.proofs.VocabularyWords.{vocabulary_length}
 
 pub advance_add : (i j s : ℕ) → advance_by (i + j) s ≡ advance_by j (advance_by i s)
-advance_add zero j s = rw zero_add
+advance_add zero j s = rw zero-add
 advance_add (suc i) j s = rw suc-add (advance_add i j (advance s))
 
 pub three_more : (n s : ℕ) → advance_by (3 * suc n) s ≡ advance_by (3 * n) (advance_by 3 s)

@@ -4,7 +4,7 @@ use mathlib.Core.Bool.{Bool, not, true, false}
 use mathlib.Core.List.{List, append_assoc}
 use mathlib.Core.Path.{◌∙◌, ◌≡◌, ap, sym}
 use lib.ListN.{length}
-use native.Mathlib.Nat.{zero_add}
+use native.Mathlib.Nat.{zero-add}
 use native.Mathlib.Omega.{arith}
 use borrow.Author.Tests.{le-leb, lt-leb, not-false, not-true}
 use Rattle.frames.proofs.Puts.{put_as, put_then}
@@ -83,4 +83,4 @@ module _ (s N m : ℕ) (o : List ℕ) {t : Bool} (e : t ≡ is_load s N m) where
                 let first = put_as (ap (λ (x : ℕ). counted (policy_words (load_policy x N m))) a.seed) b.words in
                 let second = put_as (ap (λ (x : ℕ). counted (policy_words (load_policy x N m))) runs) f.words in
                 let all = put_as (append_assoc v p q) (put_then (put_then a.words first) second) in
-                filled (all.is ∙ rw zero_add)
+                filled (all.is ∙ rw zero-add)

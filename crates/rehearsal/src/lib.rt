@@ -1,4 +1,6 @@
 // The operation Rehearse: a load of a vocabulary and two policies, drawn from a seed, as the program reads them.
+#![tactic(auto)]
+
 ghost use Rattle.std.specs.Prelude.{cond, [], ◌≡◌, ◌%◌, ◌*◌, ◌+◌, ◌-◌, ◌<◌, ◌≤◌, eqb, length};
 ghost use Rattle.meaning.specs.Limits.{most_classes};
 ghost use Rattle.meaning.specs.PolicyWords.{chain_words, policy_words, record_words, term_words};
@@ -23,7 +25,7 @@ pub const MOST_TERMS: u32 = 100;
 const FEATURE: FeatureNo = FeatureNo(1);
 
 // Where the next word goes, and the seed that the next draw moves.
-#[derive(Drop)]
+#[derive(Clone, Copy)]
 pub struct Cursor {
     pub at: usize,
     pub seed: u32,

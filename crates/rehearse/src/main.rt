@@ -1,5 +1,7 @@
 // rehearse SEED CLASSES TERMS: writes the load that is drawn from a seed to standard output, as the program comply reads it.
 // Which arguments come, and where the bytes go, no contract can say: `put_load` is the program as a function.
+#![tactic(auto)]
+
 ghost use Rattle.std.specs.Prelude.{◌≡◌, ◌*◌, ◌-◌, ◌≤◌, length, take};
 ghost use Rattle.rehearse.specs.Arguments.{is_digit, load_bytes, most_load, number_of};
 

@@ -5,6 +5,8 @@
 // the conjunct and the individual; and where such a pair has to be tested again, what has no dial is not looked at again. An individual
 // has its place by the lowest dial at or below it: those that one conjunct is held to stand on one level and have different ones, so
 // that none takes another's place. An empty memory remembers nothing.
+#![tactic(auto)]
+
 ghost use Rattle.std.specs.Prelude.{cond, false, ◌≡◌, ◌-◌, ◌<◌, ◌≤◌, max, eqb};
 ghost use Rattle.layout.specs.Nesting.{Nested};
 ghost use Rattle.layout.specs.Tables.{HasEntry, Standing, holder_at};
@@ -28,7 +30,7 @@ use subsumption::{first_constraint, is_whole_inside};
 use words::place;
 
 // A dial is a constraint with several pieces; dial d is the one at place dials[d].
-#[derive(Drop)]
+#[derive(Clone, Copy)]
 pub struct Reason {
     pub holds: bool,
     // A bit for each dial that the answer relies on.

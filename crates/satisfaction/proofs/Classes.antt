@@ -1,6 +1,6 @@
 -- Laws of the sets of classes: with some facts left, what the sets hold and what these put in is what all put in; and what keeps them.
 use Prim.Native.Nat.{◌*◌, ◌+◌, ◌≤◌, ℕ}
-use mathlib.Core.Bool.{Bool, ◌&&◌, ◌||◌, and_false, and-true, false, or_assoc, or_comm, or_false, true}
+use mathlib.Core.Bool.{Bool, ◌&&◌, ◌||◌, and-false, and-true, false, or_assoc, or_comm, or-false, true}
 use mathlib.Core.List.{List, [], ◌∷◌}
 use mathlib.Core.Logic.{⊎_elim}
 use mathlib.Core.Path.{◌∙◌, ◌≡◌, ap, refl, subst, sym}
@@ -52,7 +52,7 @@ module _ {m w w₁ : List ℕ} (r : Readable m) (c : Cleared 0 (individual_count
 
   pub entering_ends : {w₂ : List ℕ} → Entering m w₁ w₂ [] → AllEntered m w w₂
   entering_ends {w₂} t = record {
-    classed = record { rows = λ i a n. sym (or_false (in_set (classes_of w₂ i) a)) ∙ t.left i a n };
+    classed = record { rows = λ i a n. sym (or-false (in_set (classes_of w₂ i) a)) ∙ t.left i a n };
     only = only_then (only_span c.only (omega arith) (omega (arith, r.individuals))) t.only;
   }
 
@@ -79,7 +79,7 @@ module _ {m w₀ w : List ℕ} {l : List Fact} where
           let d = eqb-true i o e in
           let p = put_in_lem class_words w (class_place o) c fits (let z = f.0 in (z.0, omega arith)) a in
           rw (d, p, and-true (eqb a c), or_comm (eqb a c) (in_set (classes_of w o) a), or_assoc (in_set (classes_of w o) a) (eqb a c) (any (is_member a o) l))
-      go i a n false e = rw (other i n (eqb-false i o e), and_false (eqb a c))
+      go i a n false e = rw (other i n (eqb-false i o e), and-false (eqb a c))
 
   entering_one : (x : Fact) → Roomy x → Entering m w₀ w (x ∷ l) → Entering m w₀ (entered w x) l
   entering_one (member c o) f t = entering_member f t

@@ -4,7 +4,7 @@ use mathlib.Core.Bool.{Bool, ◌&&◌, cond, false, not, true, true≢false}
 use mathlib.Core.List.{List}
 use mathlib.Core.Logic.{◌↔◌}
 use mathlib.Core.Path.{◌∙◌, ◌≡◌, ap, refl, subst, sym}
-use lib.Ieee.Bits.{is_true_lem}
+use lib.Ieee.Bits.{is_true as is_true_lem}
 use lib.Dec.{T, eqb, leb}
 use native.Mathlib.Omega.{arith}
 use borrow.Author.Tests.{eqb-false, eqb-true, le-leb, leb-false, leb-true, lt-leb, not-false, not-true}

@@ -16,6 +16,8 @@
 // for the classes; once for the ranges, when a record of the vocabulary first states one; and, after all records, once for each block of 16
 // roles and features in one series, which begins with the first functional one that the block before did not reach: at most ten times,
 // whatever the number of records. What is stated is then one bit or, for a pair of classes, a look at each individual.
+#![tactic(auto)]
+
 ghost use Rattle.std.specs.Prelude.{◌≡◌, not, List, ◌*◌, ◌+◌, ◌<◌, ◌≤◌, ℕ, length};
 ghost use Rattle.frames.specs.Frames.{Cleared};
 ghost use Rattle.functional.specs.FunctionalNames.{FunctionalNames};

@@ -1,4 +1,6 @@
 // The short way: the terms of a policy with their constraints whole, one after another, until one is not taken by the other policy.
+#![tactic(auto)]
+
 ghost use Rattle.std.specs.Prelude.{List, ℕ};
 ghost use Rattle.frames.specs.Frames.{Only};
 ghost use Rattle.layout.specs.Places.{InTables};
@@ -11,7 +13,7 @@ use tabulation::{is_clean, shape};
 use trial::is_taken_whole;
 
 // The first term that does not pass whole, and its place among the terms, counted from 1; term 0 stands for none.
-#[derive(Drop)]
+#[derive(Clone, Copy)]
 pub struct Stop {
     pub term: u32,
     pub place: u32,

@@ -1,6 +1,6 @@
 -- Laws of joining: a row's records in an individual's set, word by word; and of a walk over the facts that hands records over.
 use Prim.Native.Nat.{◌%◌, ◌+◌, ◌/◌, ◌<◌, ◌≤◌, suc, zero, ℕ}
-use mathlib.Core.Bool.{Bool, ◌&&◌, ◌||◌, false, or_assoc, or_false, true}
+use mathlib.Core.Bool.{Bool, ◌&&◌, ◌||◌, false, or_assoc, or-false, true}
 use mathlib.Core.List.{List, [], ◌∷◌}
 use mathlib.Core.Path.{◌∙◌, ◌≡◌, ap, refl, sym}
 use lib.Bits.{bit_and, bit_or}
@@ -85,10 +85,10 @@ joined_handed {o} {at} {w = w} {w'} {hands} {x} n ea h j =
         let z = eqb-true i o d in
         rw (h i k q, d, z, ← ea) (joined_in j k q)
     go i k p q false d =
-        rw (h i k q, d, or_false (in_set (records_of w i) k)) (ap (λ (y : List ℕ). in_set y k) (row_apart here (at_set i p) (eqb-false i o d) j.only))
+        rw (h i k q, d, or-false (in_set (records_of w i) k)) (ap (λ (y : List ℕ). in_set y k) (row_apart here (at_set i p) (eqb-false i o d) j.only))
 
 pub handed_none : {hands : ℕ → ℕ → Fact → Bool} {x : Fact} (w : List ℕ) → ((i k : ℕ) → Name most_records k → hands i k x ≡ false) → Handed hands x w w
-handed_none w h = record { only = only_none; bits = λ i k p q. sym (rw (h i k q) (or_false (in_set (records_of w i) k))) }
+handed_none w h = record { only = only_none; bits = λ i k p q. sym (rw (h i k q) (or-false (in_set (records_of w i) k))) }
 
 -- ---- a walk over the facts
 
@@ -103,7 +103,7 @@ module _ {hands : ℕ → ℕ → Fact → Bool} {m w : List ℕ} where
 
   module _ {w₀ : List ℕ} where
     pub handing_ends : Handing hands m w₀ w [] → AllHanded hands m w₀ w
-    handing_ends t = record { only = t.only; bits = λ i k p q. sym (or_false (in_set (records_of w i) k)) ∙ t.left i k p q }
+    handing_ends t = record { only = t.only; bits = λ i k p q. sym (or-false (in_set (records_of w i) k)) ∙ t.left i k p q }
 
     pub handing_on : {w' : List ℕ} {x : Fact} → Handed hands x w w' → (l : List Fact) → Handing hands m w₀ w (x ∷ l) → Handing hands m w₀ w' l
     handing_on {w'} {x} e l t = record {

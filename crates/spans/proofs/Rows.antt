@@ -1,6 +1,6 @@
 -- Laws of rows of sets of records: one record more in one of them, and none in words that are 0.
 use Prim.Native.Nat.{◌*◌, ◌+◌, ◌-◌, ◌≤◌, ℕ}
-use mathlib.Core.Bool.{Bool, ◌&&◌, ◌||◌, false, or_true, true}
+use mathlib.Core.Bool.{Bool, ◌&&◌, ◌||◌, false, or-true, true}
 use mathlib.Core.List.{List}
 use mathlib.Core.Logic.{⊎_elim}
 use mathlib.Core.Path.{◌∙◌, ◌≡◌, ap, refl, sym}
@@ -19,7 +19,7 @@ use Rattle.theory.proofs.Rules.{order}
 use Rattle.words.specs.Sets.{in_set}
 
 pub shuffle : (e s r : Bool) → (e || s) || r ≡ s || (e || r)
-shuffle true s r = sym (or_true s)
+shuffle true s r = sym (or-true s)
 shuffle false s r = refl
 
 -- rows one after another from a base on, the first one's number being 1

@@ -1,6 +1,6 @@
 -- Laws of the cuts' rows: a record in the rows of its span's cuts, one record after another, and what the rows tell of a key.
 use Prim.Native.Nat.{◌*◌, ◌+◌, ◌<◌, ◌≤◌, ℕ}
-use mathlib.Core.Bool.{Bool, ◌&&◌, ◌||◌, and_false, cond, false, or_comm, or_false, true}
+use mathlib.Core.Bool.{Bool, ◌&&◌, ◌||◌, and-false, cond, false, or_comm, or-false, true}
 use mathlib.Core.List.{List}
 use mathlib.Core.Logic.{◌⊎◌, inl, inr}
 use mathlib.Core.Path.{◌∙◌, ◌≡◌, ap, refl, sym}
@@ -43,14 +43,14 @@ at_row n r h = record { named = (omega arith, omega arith); place = omega arith 
 
 module _ {e : List ℕ} {n low high k : ℕ} {c₀ : List ℕ} where
   pub spanning_starts : Spanning e n low high k c₀ c₀ 0
-  spanning_starts = record { size = refl; tells = λ r h. rw (le-ltb r 0 (omega arith)) (sym (or_false (in_set (row_of c₀ r) k))); others = λ r d h n. refl }
+  spanning_starts = record { size = refl; tells = λ r h. rw (le-ltb r 0 (omega arith)) (sym (or-false (in_set (row_of c₀ r) k))); others = λ r d h n. refl }
 
   module _ {c : List ℕ} {i : ℕ} (m : SpanMarkable e c₀ n k) (t : Spanning e n low high k c₀ c i) where
     pub spanning_on : {c' : List ℕ} → i < n → c' ≡ row_marked c i (get_or e i 0) low high k → Spanning e n low high k c₀ c' (i + 1)
     spanning_on {c'} l g = record {
       size = ap length g ∙ long (is_within low high (get_or e i 0)) ∙ t.size;
       tells = λ r h. put r k h ∙ rw (eq-eqb k k refl, t.tells r h) (go r (order r i) (order i r));
-      others = λ r d h z. put r d h ∙ rw (ne_eqb d k z, and_false (eqb (r + 1) (i + 1)), and_false (is_within low high (get_or e i 0))) (t.others r d h z);
+      others = λ r d h z. put r d h ∙ rw (ne_eqb d k z, and-false (eqb (r + 1) (i + 1)), and-false (is_within low high (get_or e i 0))) (t.others r d h z);
     }
       where
         room : row_place n ≤ length c
@@ -70,9 +70,9 @@ module _ {e : List ℕ} {n low high k : ℕ} {c₀ : List ℕ} where
         go : (r : ℕ) → (r < i) ⊎ (i ≤ r) → (i < r) ⊎ (r ≤ i) →
             (is_within low high (get_or e i 0) && (eqb (r + 1) (i + 1) && true)) || (in_set (row_of c₀ r) k || (ltb r i && is_within low high (get_or e r 0)))
             ≡ in_set (row_of c₀ r) k || (ltb r (i + 1) && is_within low high (get_or e r 0))
-        go r (inl a) b = rw (ne_eqb (r + 1) (i + 1) (λ z. omega arith), and_false (is_within low high (get_or e i 0)), lt-ltb r i a, lt-ltb r (i + 1) (omega arith))
+        go r (inl a) b = rw (ne_eqb (r + 1) (i + 1) (λ z. omega arith), and-false (is_within low high (get_or e i 0)), lt-ltb r i a, lt-ltb r (i + 1) (omega arith))
         go r (inr a) (inl b) =
-            rw (ne_eqb (r + 1) (i + 1) (λ z. omega arith), and_false (is_within low high (get_or e i 0)), le-ltb r i a, le-ltb r (i + 1) (omega arith))
+            rw (ne_eqb (r + 1) (i + 1) (λ z. omega arith), and-false (is_within low high (get_or e i 0)), le-ltb r i a, le-ltb r (i + 1) (omega arith))
         go r (inr a) (inr b) =
             let z : r ≡ i = omega arith in
             rw (z, eq-eqb (i + 1) (i + 1) refl, le-ltb i i (omega arith), lt-ltb i (i + 1) (omega arith))
@@ -84,7 +84,7 @@ module _ {e : List ℕ} {n low high k : ℕ} {c₀ : List ℕ} where
 
 module _ (p e : List ℕ) {n k kind : ℕ} {c : List ℕ} (ek : kind ≡ kind_of p k) where
   pub span_none : (kind ≡ 4 → ⊥) → SpanMarked p e n k c c
-  span_none h = record { tells = λ r l. rw (← ek, ne_eqb kind 4 h) (sym (or_false (in_set (row_of c r) k))); others = λ r d l z. refl }
+  span_none h = record { tells = λ r l. rw (← ek, ne_eqb kind 4 h) (sym (or-false (in_set (row_of c r) k))); others = λ r d l z. refl }
 
   pub spanning_ends : {low high i : ℕ} {c' : List ℕ} → kind ≡ 4 → low ≡ low_key p k → high ≡ high_key p k → Spanning e n low high k c c' i → n ≤ i →
       SpanMarked p e n k c c'
@@ -97,7 +97,7 @@ module _ (p e : List ℕ) {n k kind : ℕ} {c : List ℕ} (ek : kind ≡ kind_of
 
 module _ (first : ℕ) where
   pub among_out : (last k : ℕ) → last < k → is_among first last k ≡ false
-  among_out last k h = rw (lt-leb k last h) (and_false (ltb first k))
+  among_out last k h = rw (lt-leb k last h) (and-false (ltb first k))
 
   pub among_none : (last k : ℕ) → last ≤ first → is_among first last k ≡ false
   among_none last k h = go (order first k)
@@ -141,8 +141,8 @@ tabled {p} {e} {c} {n} {first} {last} b a t = record { tells = λ key r k x. row
 
     same : (key r k : ℕ) → Ranked e n key r → (i j : Bool) → is_among first last k ≡ i → eqb (kind_of p k) 4 ≡ j →
         ltb r n && (i && (j && is_within (low_key p k) (high_key p k) (get_or e r 0))) ≡ i && (j && is_within (low_key p k) (high_key p k) key)
-    same key r k x false j f g = and_false (ltb r n)
-    same key r k x true false f g = and_false (ltb r n)
+    same key r k x false j f g = and-false (ltb r n)
+    same key r k x true false f g = and-false (ltb r n)
     same key r k x true true f g =
         let u = simp tests at f in
         let v = eqb-true (kind_of p k) 4 g in

@@ -1,6 +1,6 @@
 -- Laws of values: one fact joins the row of its key, all of them tell who has a value that a record asks for, and batch after batch.
 use Prim.Native.Nat.{◌*◌, ◌+◌, ◌<◌, ◌≤◌, ℕ}
-use mathlib.Core.Bool.{Bool, ◌&&◌, ◌||◌, and_false, false, or_assoc, or_false, true}
+use mathlib.Core.Bool.{Bool, ◌&&◌, ◌||◌, and-false, false, or_assoc, or-false, true}
 use mathlib.Core.List.{List, []}
 use mathlib.Core.Logic.{◌⊎◌, inl, inr}
 use mathlib.Core.Path.{◌∙◌, ◌≡◌, ap, refl, sym}
@@ -45,7 +45,7 @@ module _ {m w c e : List ℕ} {n f : ℕ} (v : ValueMarkable m w c e n f) where
           (λ _. rw (t.tells x r k rk, ex, ea, eb))
 
       pub value_past : n ≤ r → ValueMarked e c n (fact_at m f) w w
-      value_past h = record { hands = λ test t. handed_none w (λ i k q. shown test t i k ∙ rw (le-ltb r n h) (and_false (eqb i (fact_owner m f)))) }
+      value_past h = record { hands = λ test t. handed_none w (λ i k q. shown test t i k ∙ rw (le-ltb r n h) (and-false (eqb i (fact_owner m f)))) }
 
       pub value_joined : {o at : ℕ} {w' : List ℕ} → r < n → o ≡ fact_owner m f → at ≡ set_place o → Joined record_words at (row_place r) (row_place r) c w w' →
           ValueMarked e c n (fact_at m f) w w'
@@ -68,7 +68,7 @@ module _ {m w c e : List ℕ} {n f : ℕ} (v : ValueMarkable m w c e n f) where
 none_shown : {m : List ℕ} → Readable m → (test : ℕ → ℕ → Bool) (i k : ℕ) → ((key : ℕ) → test k key ≡ false) → any (shows test i k) (facts_of m) ≡ false
 none_shown {m} r test i k h =
     any_stated (shows test i k) (λ x. false) r (λ f s.
-    by_kind s (λ x. shows test i k x ≡ false) (λ _. refl) (λ _. refl) (λ _. rw (h (key_of (fact_name m f) (fact_other m f))) (and_false (eqb i (fact_owner m f)))))
+    by_kind s (λ x. shows test i k x ≡ false) (λ _. refl) (λ _. refl) (λ _. rw (h (key_of (fact_name m f) (fact_other m f))) (and-false (eqb i (fact_owner m f)))))
     ∙ never (facts_of m)
 
 module _ (p m : List ℕ) (pw : (i : ℕ) → get_or p i 0 < value_count) (mw : (i : ℕ) → get_or m i 0 < value_count) (r : Readable m) where
@@ -81,7 +81,7 @@ module _ (p m : List ℕ) (pw : (i : ℕ) → get_or p i 0 < value_count) (mw : 
       go true true f g =
           any_stated (shows (spans_among p first last) i k) (λ x. eqb i (owner_of x) && value_within (name_of p k) (lo_of p k) (hi_of p k) x) r (λ h s.
           by_kind s (λ x. shows (spans_among p first last) i k x ≡ eqb i (owner_of x) && value_within (name_of p k) (lo_of p k) (hi_of p k) x)
-          (λ _. sym (and_false (eqb i (fact_owner m h)))) (λ _. sym (and_false (eqb i (fact_owner m h))))
+          (λ _. sym (and-false (eqb i (fact_owner m h)))) (λ _. sym (and-false (eqb i (fact_owner m h))))
           (λ _. rw (f, g) (ap (λ (b : Bool). eqb i (fact_owner m h) && b)
           (key_within (name_of p k) (lo_of p k) (hi_of p k) (fact_name m h) (fact_other m h) (pw (6 * k + 2)) (pw (6 * k + 3)) (mw (5 * h + 3))))))
 
@@ -90,7 +90,7 @@ module _ (p m : List ℕ) (pw : (i : ℕ) → get_or p i 0 < value_count) (mw : 
 
   -- no cut, no such record
   pub values_none : {first last n : ℕ} {w e : List ℕ} → AllCut p first last e n → n ≡ 0 → ValuesMarked p m first last w w
-  values_none {first} {last} {w = w} {e} a z = record { only = only_none; bits = λ i k _ _. rw (none i k) (sym (or_false (in_set (records_of w i) k))) }
+  values_none {first} {last} {w = w} {e} a z = record { only = only_none; bits = λ i k _ _. rw (none i k) (sym (or-false (in_set (records_of w i) k))) }
     where
       first_place : {key : ℕ} → Ranked e 0 key 0
       first_place = record { within = omega arith; before = λ j h. absurd (omega arith); at = λ h. absurd (omega arith) }
@@ -104,7 +104,7 @@ module _ (p m : List ℕ) (pw : (i : ℕ) → get_or p i 0 < value_count) (mw : 
 -- ---- batch after batch
 
 pub batches_start : (p m w : List ℕ) → ValuesMarked p m 0 0 w w
-batches_start p m w = record { only = only_none; bits = λ i k _ _. rw (among_none 0 0 k (omega arith)) (sym (or_false (in_set (records_of w i) k))) }
+batches_start p m w = record { only = only_none; bits = λ i k _ _. rw (among_none 0 0 k (omega arith)) (sym (or-false (in_set (records_of w i) k))) }
 
 pub batches_on : {p m w w₁ w₂ : List ℕ} {first mid last : ℕ} → first ≤ mid → mid ≤ last → ValuesMarked p m first mid w w₁ → ValuesMarked p m mid last w₁ w₂ →
     ValuesMarked p m first last w w₂
@@ -116,4 +116,4 @@ batches_on {p} {m} {w} {first = first} {mid} {last} f g x y = record {
   where
     one : (k : ℕ) (v : Bool) → (mid < k) ⊎ (k ≤ mid) → (is_among first mid k && v) || (is_among mid last k && v) ≡ is_among first last k && v
     one k v (inl a) = rw (among_out first mid k a, lt-ltb mid k a, lt-ltb first k (omega arith))
-    one k v (inr a) = rw (le-leb k mid a, le-ltb mid k a, le-leb k last (omega arith)) (or_false ((ltb first k && true) && v))
+    one k v (inr a) = rw (le-leb k mid a, le-ltb mid k a, le-leb k last (omega arith)) (or-false ((ltb first k && true) && v))

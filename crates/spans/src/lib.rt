@@ -5,6 +5,8 @@
 // set of the records whose span holds it. A key is in the same spans as the first cut at or above it, which is found by halving. The rows
 // stand in a slice beside the work slice, and a fact joins one of them into its individual's set, as an edge does in crate extension.
 // So time grows with the model's records times the logarithm of the cuts, and with the square of the records that have them.
+#![tactic(auto)]
+
 ghost use Rattle.std.specs.Prelude.{◌≡◌, ◌+◌, ◌-◌, ◌≤◌, min, length};
 ghost use Rattle.keys.specs.Keys.{Gathered};
 ghost use Rattle.meaning.specs.Limits.{most_individuals};
@@ -39,7 +41,7 @@ pub fn set_place(i: u32) -> usize
 }
 
 // A set of records by value.
-#[derive(Drop)]
+#[derive(Clone, Copy)]
 struct RecordSet {
     words: [u32; SET_WORDS],
 }

@@ -1,7 +1,7 @@
 -- The records of the possible terms, collected one after another. Assumes nothing.
 use Prim.Native.Nat.{◌+◌, ◌<◌, ◌≤◌, ℕ}
 use mathlib.Core.Bool.{Bool, cond, false, not, true}
-use mathlib.Core.List.{List, [], ◌++◌, ◌∷◌, append_assoc, append-nil, map, map_append}
+use mathlib.Core.List.{List, [], ◌++◌, ◌∷◌, append_assoc, append-nil, map, map-append}
 use mathlib.Core.Path.{◌∙◌, ◌≡◌, ap, refl, subst, sym}
 use lib.Dec.{T}
 use lib.ListN.{length, length-set, set, take}
@@ -97,7 +97,7 @@ module _ {v p : List ℕ} where
                 walking_on x.walk some next (λ l h. (
                   let r = h.0 in omega arith,
                   ap (λ (ks : List ℕ). map (term_at p) ks ++ filter (possible (vocabulary_of v)) l) (take_set n k ts room)
-                      ∙ ap (λ (cs : Policy). cs ++ filter (possible (vocabulary_of v)) l) (map_append (term_at p) (take n ts) (k ∷ []))
+                      ∙ ap (λ (cs : Policy). cs ++ filter (possible (vocabulary_of v)) l) (map-append (term_at p) (take n ts) (k ∷ []))
                       ∙ append_assoc (map (term_at p) (take n ts)) (term_at p k ∷ []) (filter (possible (vocabulary_of v)) l)
                       ∙ ap (λ (c : Bool). map (term_at p) (take n ts) ++ cond c (term_at p k ∷ filter (possible (vocabulary_of v)) l) (filter (possible (vocabulary_of v)) l))
                       (sym (told_yes (possible (vocabulary_of v) (term_at p k)) (sym e ∙ told)))

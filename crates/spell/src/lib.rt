@@ -1,4 +1,6 @@
 // Spell: a policy written in one order and without repeats, so that policies with one spelling mean the same.
+#![tactic(auto)]
+
 ghost use Rattle.std.specs.Prelude.{◌≤◌, ℕ, List, ◌≡◌, length};
 ghost use Rattle.frames.specs.Frames.{Only, Span};
 ghost use Rattle.layout.specs.Places.{InTables};

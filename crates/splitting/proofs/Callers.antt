@@ -4,7 +4,7 @@ use Prim.Native.Nat.{◌+◌, ◌<◌, ◌≤◌, suc, zero, ℕ}
 use mathlib.Core.Bool.{◌&&◌, true}
 use mathlib.Core.List.{List, [], ◌∷◌, map}
 use mathlib.Core.Path.{◌∙◌, ◌≡◌, ap, ap₂, refl, subst, sym}
-use native.Mathlib.Nat.{zero_add}
+use native.Mathlib.Nat.{zero-add}
 use native.Mathlib.Omega.{arith}
 use lib.ListN.{length}
 use Rattle.frames.specs.Frames.{Only}
@@ -35,7 +35,7 @@ collectable v a h = record { vocabulary = v; accepted = a; room = h }
 -- ---- none of the constraints is empty
 
 full : (w : List ℕ) (n : ℕ) → AllNonEmpty (first_constraints w n) → Full w n
-full w n a m h = subst (λ (i : ℕ). NonEmpty (constraint_at w i).lo (constraint_at w i).hi) (zero_add m) (each 0 n m a h)
+full w n a m h = subst (λ (i : ℕ). NonEmpty (constraint_at w i).lo (constraint_at w i).hi) (zero-add m) (each 0 n m a h)
   where
     each : (o n m : ℕ) → AllNonEmpty (map (constraint_at w) (counting o n)) → m < n → NonEmpty (constraint_at w (o + m)).lo (constraint_at w (o + m)).hi
     each o zero m a h = absurd (omega arith)

@@ -2,7 +2,7 @@
 use Prim.Native.Nat.{◌*◌, ◌+◌, ◌-◌, ◌<◌, ◌≤◌, min, suc, zero, ℕ}
 use mathlib.Core.List.{List, [], ◌∷◌}
 use mathlib.Core.Path.{◌∙◌, ◌≡◌, ap, ap₂, refl, subst, sym}
-use native.Mathlib.Nat.{mul-le-mul_left, mul-le-mul_right, mul-one, suc-add, zero_add}
+use native.Mathlib.Nat.{mul-le-mul_left, mul-le-mul_right, mul-one, suc-add, zero-add}
 use native.Mathlib.Numerals.{add-one}
 use native.Mathlib.Omega.{arith}
 use lib.ListN.{length}
@@ -47,7 +47,7 @@ module _ (Q : Policy) (w : List ℕ) where
       ap₂ (λ (x y : ℕ). x * y) p (q ∙ ap (λ (s : Constraint). length (pieces Q s)) (read_at w i ef el eh)) ∙ ap (ways Q w) (sym (add-one i))
 
   ways_le : (i m : ℕ) → ways Q w i ≤ ways Q w (m + i)
-  ways_le i zero = rw (zero_add i) (omega arith)
+  ways_le i zero = rw (zero-add i) (omega arith)
   ways_le i (suc m) = rw (suc-add m i) (grow (ways_le i m) (pieces_some Q (constraint_at w (m + i))))
     where
       grow : {x y c : ℕ} → x ≤ y → 1 ≤ c → x ≤ y * c

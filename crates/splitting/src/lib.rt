@@ -1,6 +1,8 @@
 // Splitting: the ends of the second policy, and the pieces of a constraint between them.
 // A piece needs no more than its two ends: the one after it starts at the next number, and a search among the ends, which rise, tells
 // where it stops.
+#![tactic(auto)]
+
 ghost use Rattle.std.specs.Prelude.{false, [], ◌∷◌, ◌≡◌, ◌+◌, ◌<◌, ◌≤◌, length};
 ghost use Rattle.keys.specs.Keys.{Gathered, key_of};
 ghost use Rattle.layout.specs.Tables.{interval_of};

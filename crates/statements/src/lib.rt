@@ -1,4 +1,6 @@
 // Tokens to statements: the eight forms, one after another.
+#![tactic(auto)]
+
 ghost use Rattle.std.specs.Prelude.{false, [], ◌∷◌, ◌≡◌, ◌≤◌, length};
 ghost use Rattle.tokens.specs.Places.{headed};
 ghost use Rattle.statements.specs.Forms.{closing, is_last};
@@ -8,13 +10,13 @@ ghost use Rattle.statements.specs.Found.{IsStatement, declaring, heading, item_o
 use tokens::{Token, is_name_token, next_token, same};
 
 // Whether what was asked for stands there, and the place behind it.
-#[derive(Drop)]
+#[derive(Clone, Copy)]
 pub struct Step {
     pub ok: bool,
     pub next: usize,
 }
 
-#[derive(Drop)]
+#[derive(Clone, Copy)]
 pub struct Name {
     pub ok: bool,
     pub from: usize,
@@ -22,7 +24,7 @@ pub struct Name {
 }
 
 // A form's names: of a form of one, the second is the first.
-#[derive(Drop)]
+#[derive(Clone, Copy)]
 pub struct Fit {
     pub ok: bool,
     pub from: usize,
@@ -34,7 +36,7 @@ pub struct Fit {
 
 // What stands from a place on, by its number: 1 to 5 an axiom of that kind, 6 to 8 a declaration of a class, a role or a feature, END the
 // end of the ontology, 0 none of these. A statement of one name has it twice.
-#[derive(Drop)]
+#[derive(Clone, Copy)]
 pub struct Item {
     pub kind: u32,
     pub from: usize,

@@ -1,12 +1,14 @@
 // Standard input read, an answer written, and what is told on standard error where either fails. Which bytes are read and written no
 // contract can say.
+#![tactic(auto)]
+
 ghost use Rattle.std.specs.Prelude.{◌-◌, ◌≤◌, ◌≡◌, length};
 ghost use Rattle.streams.specs.Streams.{Fits, Held, brought_by};
 
 use libc::{STDERR_FILENO, STDIN_FILENO, STDOUT_FILENO};
 
 // What one read brought.
-#[derive(Drop)]
+#[derive(Clone, Copy)]
 pub enum Brought {
     Bytes(usize),
     End,
@@ -14,7 +16,7 @@ pub enum Brought {
 }
 
 // What came of reading the input.
-#[derive(Drop)]
+#[derive(Clone, Copy)]
 pub enum Intake {
     Bytes(usize),
     Failed,

@@ -1,4 +1,6 @@
 // Algorithm 1: the structural test of a term's normal form, which the tables of the work slice hold, against a term, its constraints whole.
+#![tactic(auto)]
+
 ghost use Rattle.std.specs.Prelude.{◌≡◌, ◌-◌, ◌≤◌};
 ghost use Rattle.layout.specs.Nesting.{Nested};
 ghost use Rattle.layout.specs.Tables.{HasEntry, Standing, constraint_at};

@@ -1,6 +1,6 @@
 -- The tests of the tables are those of the form.
 use Prim.Native.Nat.{◌+◌, suc, ℕ}
-use mathlib.Core.Bool.{Bool, ◌&&◌, and_assoc, and_false, and-true, false, not, true}
+use mathlib.Core.Bool.{Bool, ◌&&◌, and_assoc, and-false, and-true, false, not, true}
 use mathlib.Core.List.{List, [], ◌++◌, ◌∷◌, append-nil, map}
 use mathlib.Core.Path.{◌∙◌, ◌≡◌, ap, ap₂, refl, sym}
 use lib.Dec.{T}
@@ -112,10 +112,10 @@ listed_agree {v} {w} h ws =
 -- three tests of two parts, as two of three
 parts_of : (a b c d e f : Bool) → (a && b) && ((c && d) && (e && f)) ≡ (a && (c && e)) && (b && (d && f))
 parts_of false b c d e f = refl
-parts_of true false c d e f = sym (and_false (c && e))
+parts_of true false c d e f = sym (and-false (c && e))
 parts_of true true false d e f = refl
 parts_of true true true true e f = refl
-parts_of true true true false e f = sym (and_false e)
+parts_of true true true false e f = sym (and-false e)
 
 module _ (K : Vocabulary) (w : List ℕ) where
   compatible_all : Successors → Bool

@@ -1,4 +1,6 @@
 // One term in the tables of the work slice: its normal form, and whether it is possible.
+#![tactic(auto)]
+
 ghost use Rattle.std.specs.Prelude.{◌≤◌, ◌≡◌};
 ghost use Rattle.layout.specs.Places.{most_pairs};
 ghost use Rattle.layout.specs.Tables.{HasEntries, Standing, set_at};

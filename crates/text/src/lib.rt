@@ -1,4 +1,6 @@
 // The program's output: the lines that it prints.
+#![tactic(auto)]
+
 ghost use Rattle.std.specs.Prelude.{[], ◌∷◌, ◌*◌, ◌+◌, ◌<◌, ◌≤◌, length};
 ghost use Rattle.meaning.specs.Lists.{flat_map};
 ghost use Rattle.meaning.specs.Model.{fact_at};

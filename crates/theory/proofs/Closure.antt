@@ -46,7 +46,7 @@ pub closure_trans : (l : List (ℕ × ℕ)) (a b c : ℕ) → T (closure l a b) 
 closure_trans [] a b c s t = eqb_of a c (subst (λ (k : ℕ). a ≡ k) (eqb→eq b c t) (eqb→eq a b s))
 closure_trans ((x, y) ∷ l) a b c s t = joined l x y a c (compose l x y a b c (λ d e f. closure_trans l d e f) (ways l x y a b s) (ways l x y b c t))
 
-pub closure_pair : {l : List (ℕ × ℕ)} {a b : ℕ} → (a, b) ∈ l → T (closure l a b)
+pub closure_pair : {a b : ℕ} {l : List (ℕ × ℕ)} → (a, b) ∈ l → T (closure l a b)
 closure_pair {a = a} {b = b} (here {l = l} e) =
     subst (λ (p : ℕ × ℕ). T (closure (p ∷ l) a b)) e (or_right (closure l a b) _ (and_T (closure l a a) (closure l b b) (closure_refl l a) (closure_refl l b)))
 closure_pair {a = a} {b = b} (there {x = p} {l = l} m) = or_left (closure l a b) _ (closure_pair m)

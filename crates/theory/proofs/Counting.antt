@@ -94,5 +94,6 @@ module _ (p : ℕ → Bool) (n : ℕ) where
       (a.0, omega arith, same_test (p a.0) true (λ _. tt) (λ _. a.2))
     where
       counting_in : (o n : ℕ) {z : ℕ} → z ∈ counting o n → z < o + n
+      counting_in o zero {z = z} m = elim m [ ]
       counting_in o (suc n) (here e) = omega arith
       counting_in o (suc n) (there i) = let h = counting_in (suc o) n i in omega arith

@@ -1,12 +1,12 @@
 -- One value unless said otherwise (SPECIFICATION 3.2): which names the default speaks of, who is functional, what that asks of an
 -- interpretation, and when 44 is told.
 use Prim.Native.Nat.{◌+◌, ◌≤◌, suc, zero, ℕ}
-use mathlib.Core.Bool.{Bool, ◌&&◌, and_false, cond, false, not, true}
+use mathlib.Core.Bool.{Bool, ◌&&◌, and-false, cond, false, not, true}
 use mathlib.Core.List.{List, [], ◌∷◌}
 use mathlib.Core.Logic.{◌↔◌, inl, inr, ⊎_elim}
 use mathlib.Core.Path.{◌≡◌, refl, subst, sym}
 use lib.Dec.{T}
-use lib.Ieee.Bits.{is_false_lem, is_true_lem}
+use lib.Ieee.Bits.{is_false as is_false_lem, is_true as is_true_lem}
 use lib.ListN.{length}
 use native.Mathlib.Omega.{arith}
 use borrow.Author.Tests.{le-leb}
@@ -146,7 +146,7 @@ module _ (v : List ℕ) (h : vocabulary_refusal v ≡ 0) where
 -- ---- what is asked of an interpretation
 
 not_both : (n functional many : Bool) → functional ≡ n && not many → T functional → T many → ⊥
-not_both n true true e t u = not_true {b = n && false} (and_false n) (is_true (sym e))
+not_both n true true e t u = not_true {b = n && false} (and-false n) (is_true (sym e))
 not_both n true false e t u = u
 not_both n false many e t u = t
 

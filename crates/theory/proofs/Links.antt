@@ -1,7 +1,7 @@
 -- Tests as facts: a test that holds is an equation with true, and `simp tests` turns it into the fact and back. Names, links,
 -- how long a chain of links can be, and distinct records.
 use Prim.Native.Nat.{◌+◌, ◌-◌, ◌<◌, ◌≤◌, suc, zero, ℕ}
-use mathlib.Core.Bool.{Bool, ◌&&◌, ◌||◌, and-eq-true_iff, cond, false, or_true, true}
+use mathlib.Core.Bool.{Bool, ◌&&◌, ◌||◌, and-eq-true_iff, cond, false, or-true, true}
 use mathlib.Core.List.{List, [], ◌∷◌}
 use mathlib.Core.Logic.{◌↔◌, inl, inr}
 use mathlib.Core.Path.{◌∙◌, ◌≡◌, ap, refl}
@@ -48,7 +48,7 @@ is_onward_iff last k next = (go (eqb next 0) refl, back)
 
     back : Onward last k next → is_onward last k next ≡ true
     back (inl e) = rw e
-    back (inr h) = let f : ltb k next && leb next last ≡ true = simp bounds h in rw f (or_true (eqb next 0))
+    back (inr h) = let f : ltb k next && leb next last ≡ true = simp bounds h in rw f (or-true (eqb next 0))
 
 pub ruleset tests = (bounds, is_onward_iff)
 

@@ -3,7 +3,7 @@ use Prim.Native.Nat.{◌*◌, ◌+◌, ◌<◌, suc, zero, ℕ}
 use mathlib.Core.List.{List, [], ◌++◌, ◌∷◌, map}
 use mathlib.Core.Path.{◌∙◌, ◌≡◌, ap, refl, subst, sym}
 use lib.ListN.{get_or, length, length-map}
-use native.Mathlib.Nat.{add-mul, mul_assoc, suc-mul, zero_add, zero-mul}
+use native.Mathlib.Nat.{add-mul, mul_assoc, suc-mul, zero-add, zero-mul}
 use native.Mathlib.Omega.{arith}
 use Rattle.meaning.specs.Intervals.{Constraint}
 use Rattle.meaning.specs.Lists.{At, at_here, at_there, flat_map}
@@ -33,7 +33,7 @@ module _ {A : Type 0} {x : A} where
   at_left m (at_there a) = at_there (at_left m a)
 
   at_right : (l : List A) {m : List A} {i : ℕ} → At x m i → At x (l ++ m) (length l + i)
-  at_right [] a = rw zero_add a
+  at_right [] a = rw zero-add a
   at_right (y ∷ l) {m} {i} a = subst (λ (k : ℕ). At x (y ∷ (l ++ m)) k) (omega arith) (at_there (at_right l a))
 
   pub at_map : {B : Type 0} (f : A → B) {l : List A} {i : ℕ} → At x l i → At (f x) (map f l) i
@@ -43,7 +43,7 @@ module _ {A : Type 0} {x : A} where
 -- the place in nested loops
 module _ {A B : Type 0} {x : A} {y : B} (f : A → List B) (n : ℕ) (h : (z : A) → length (f z) ≡ n) {j : ℕ} (b : At y (f x) j) where
   pub at_flat_map : {l : List A} {i : ℕ} → At x l i → At y (flat_map f l) (i * n + j)
-  at_flat_map (at_here {l = l} e) = rw (zero-mul, zero_add) (at_left (flat_map f l) (subst (λ z. At y (f z) j) e b))
+  at_flat_map (at_here {l = l} e) = rw (zero-mul, zero-add) (at_left (flat_map f l) (subst (λ z. At y (f z) j) e b))
   at_flat_map (at_there {y = z} {l = l} {i = i} a) =
       subst (λ (k : ℕ). At y (f z ++ flat_map f l) k) (omega (arith, h z, suc-mul i n)) (at_right (f z) (at_flat_map a))
 
@@ -53,7 +53,7 @@ at_each f {x} {m = m} n e a b = at_flat_map (λ z. map (f z) m) n (λ z. length-
 
 module _ (Q : Policy) (d : ℕ → ℕ) where
   pub number_append : (o : ℕ) (l m : List Constraint) → number Q d o (l ++ m) ≡ number Q d o l * product Q m + number Q d (o + length l) m
-  number_append o [] m = rw (zero-mul, zero_add) (ap (λ k. number Q d k m) (omega arith))
+  number_append o [] m = rw (zero-mul, zero-add) (ap (λ k. number Q d k m) (omega arith))
   number_append o (s ∷ l) m =
       rw (product_append Q l m, number_append (suc o) l m)
       (omega (arith, add-mul (d o * product Q l) (number Q d (suc o) l) (product Q m), mul_assoc (d o) (product Q l) (product Q m), same))
@@ -85,7 +85,7 @@ module _ (Q : Policy) (d : ℕ → ℕ) where
         let b = takes_append (o + length n.constraints) (constraints_below under) (constraints_below next) a.1 in
         rw (number_append, number_append, product_append)
         (at_flat_map _ _ (λ m. length_each (successor r m) (split_successors Q under) (split_successors Q next) ∙ rw (count_successors Q under, count_successors Q next))
-        (at_each (successor r (fill_node v o n)) _ (count_successors Q next) (successors_at _ under b.0) (successors_at _ next b.1))
+        (at_each (successor r (fill_node v o n)) _ (count_successors Q next) (successors_at (o + length n.constraints) under b.0) (successors_at (o + length n.constraints + length (constraints_below under)) next b.1))
         (node_at o n a.0))
 
     -- the digits' number is the place of the combination that takes their pieces
@@ -93,6 +93,6 @@ module _ (Q : Policy) (d : ℕ → ℕ) where
     unfolding combinations
     combination_at t h =
         let a = takes_append 0 t.node.constraints (constraints_below t.successors) h in
-        rw (number_append, zero_add)
+        rw (number_append, zero-add)
         (at_each (λ n under. record { node = n; successors = under }) _ (count_successors Q t.successors)
-        (node_at 0 t.node a.0) (successors_at _ t.successors (rw zero_add at a.1)))
+        (node_at 0 t.node a.0) (successors_at _ t.successors (rw zero-add at a.1)))

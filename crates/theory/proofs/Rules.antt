@@ -183,7 +183,7 @@ module _ {A : Type 0} where
     pub any_single : {x : A} → Any P (x ∷ []) → P x
     any_single h = ⊎_elim (λ k. k) (λ k. absurd (any_none k)) (any_cases h)
 
-  pub in_filter : (p : A → Bool) {l : List A} {x : A} → x ∈ l → T (p x) → x ∈ filter p l
+  pub in_filter : (p : A → Bool) {x : A} {l : List A} → x ∈ l → T (p x) → x ∈ filter p l
   in_filter p {x = x} (here {x = y} {l = l} h) t = go (p y) refl
     where
       go : (b : Bool) → p y ≡ b → x ∈ cond b (y ∷ filter p l) (filter p l)

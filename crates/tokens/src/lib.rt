@@ -1,4 +1,6 @@
 // Bytes to tokens: a token stands from a place to a place.
+#![tactic(auto)]
+
 ghost use Rattle.std.specs.Prelude.{◌≡◌, ◌≤◌, ◌<◌, ◌&&◌, leb, length};
 ghost use Rattle.tokens.specs.Places.{Read, Run, print_of};
 ghost use Rattle.tokens.specs.Tokens.{goes_on, is_letter, is_name_token, is_sign, is_space, same_bytes};
@@ -6,7 +8,7 @@ ghost use Rattle.tokens.specs.Tokens.{goes_on, is_letter, is_name_token, is_sign
 use meaning::limits::MOST_NAME_BYTES;
 
 // A token's bytes stand from the one to the other. Where they are equal, no token was left.
-#[derive(Drop)]
+#[derive(Clone, Copy)]
 pub struct Token {
     pub from: usize,
     pub to: usize,

@@ -3,6 +3,8 @@
 // While more than two combinations are tried, three tables are kept beside the work slice: the individuals with a dial at or below (crate
 // carriers), what the structural test remembers (crate retest), and who took the last combination whose number ended alike. They take
 // 46 KB of stack, and 15 KB for a policy of at most 119 records.
+#![tactic(auto)]
+
 ghost use Rattle.std.specs.Prelude.{◌≡◌, ◌≤◌, length};
 ghost use Rattle.carriers.specs.Carriers.{carriers_end};
 ghost use Rattle.meaning.specs.Lists.{any};
@@ -22,7 +24,7 @@ use splitting::start;
 use words::place;
 
 // A term that takes a combination, and the dials that it relies on; term 0 stands for none.
-#[derive(Drop)]
+#[derive(Clone, Copy)]
 pub struct Taken {
     pub term: u32,
     pub dials: u32,

@@ -1,6 +1,6 @@
 -- Laws of the definitions, over plain lists and numbers: what a function's proof cites at its returns.
 use Prim.Native.Nat.{◌<◌, ◌≤◌, ℕ}
-use mathlib.Core.Bool.{Bool, ◌&&◌, and_false, and-true, cond, false, not, true}
+use mathlib.Core.Bool.{Bool, ◌&&◌, and-false, and-true, cond, false, not, true}
 use mathlib.Core.List.{List}
 use mathlib.Core.Path.{◌∙◌, ◌≡◌, ap, refl, sym}
 use lib.Dec.{eqb, leb}
@@ -46,7 +46,7 @@ module _ (v : List ℕ) (k : ℕ) {l x : ℕ} {t : Bool} (p : l ≡ last_of 4 v)
   link = rw (sym p, sym q) e
 
   pub bad_link : not t ≡ true → Refuses v k 3
-  bad_link h = rw (sym link ∙ not-true t h, and_false (axiom_fits v k))
+  bad_link h = rw (sym link ∙ not-true t h, and-false (axiom_fits v k))
 
   -- and kind, a and b are its other words
   module _ {kind a b : ℕ} (h : not t ≡ false) (ek : kind ≡ axiom_kind v k) (ea : a ≡ axiom_left v k) (eb : b ≡ axiom_right v k) where

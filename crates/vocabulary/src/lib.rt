@@ -1,4 +1,6 @@
 // Read vocabulary: records of four words after a header, chained by links that rise.
+#![tactic(auto)]
+
 ghost use Rattle.std.specs.Prelude.{◌≡◌, ◌&&◌, cond, true, ◌≤◌, length};
 ghost use Rattle.meaning.specs.Answers.{reading_answer};
 ghost use Rattle.meaning.specs.Operations.{read_vocabulary};

@@ -1,9 +1,9 @@
 -- Numbers of a list put into a set, those of 1 to n that a set lacks, and whether two sets share one.
 use Prim.Native.Nat.{◌*◌, ◌+◌, ◌-◌, ◌<◌, ◌≤◌, suc, ℕ}
 use lib.Dec.{eqb, eqb→eq}
-use lib.Ieee.Bits.{is_true_lem}
+use lib.Ieee.Bits.{is_true as is_true_lem}
 use lib.ListN.{length, length-replicate, replicate}
-use mathlib.Core.Bool.{Bool, ◌&&◌, ◌||◌, cond, false, not, or_assoc, or_false, or_true, true}
+use mathlib.Core.Bool.{Bool, ◌&&◌, ◌||◌, cond, false, not, or_assoc, or-false, or-true, true}
 use mathlib.Core.List.{List, [], ◌∷◌}
 use mathlib.Core.Path.{◌∙◌, ◌≡◌, ap, refl, sym}
 use native.Mathlib.Omega.{arith}
@@ -26,13 +26,13 @@ in_with ws c d n = in_including ws c d ∙ go (eqb d c) refl
     go : (b : Bool) → eqb d c ≡ b → cond b (is_name (capacity ws) d) (in_set ws d) ≡ in_set ws d || b
     go true e =
         let same = eqb-true d c e in
-        named_within (capacity ws) d (omega (arith, n.0)) (omega (arith, n.1)) ∙ sym (or_true (in_set ws d))
-    go false e = sym (or_false (in_set ws d))
+        named_within (capacity ws) d (omega (arith, n.0)) (omega (arith, n.1)) ∙ sym (or-true (in_set ws d))
+    go false e = sym (or-false (in_set ws d))
 
 -- the numbers of a list, one after another
 pub in_including_all : (n : ℕ) (l ws : List ℕ) → length ws ≡ n → All (Name (32 * n)) l → (d : ℕ) → in_set (including_all ws l) d ≡ in_set ws d || any (eqb d) l
 unfolding including_all
-in_including_all n [] ws e h d = sym (or_false (in_set ws d))
+in_including_all n [] ws e h d = sym (or-false (in_set ws d))
 in_including_all n (c ∷ l) ws e h d =
     in_including_all n l (including ws c) (length_including ws c ∙ e) (tail h) d
     ∙ ap (λ (b : Bool). b || any (eqb d) l) (in_with ws c d (rw e (head h)))

@@ -1,5 +1,7 @@
 // Sets of numbers, from 1, in words of 32 bits: number x is bit (x - 1) % 32 of word (x - 1) / 32.
 // First sets in a slice of any number of words, then sets of classes.
+#![tactic(auto)]
+
 ghost use Rattle.std.specs.Prelude.{◌≡◌, ◌||◌, false, true, ◌↔◌, ◌+◌, ◌<◌, ◌^◌, ◌≤◌, ℕ, length, replicate};
 ghost use Rattle.frames.specs.Rows.{put_at, row_at};
 ghost use Rattle.meaning.specs.Lists.{any};
@@ -104,7 +106,7 @@ pub fn do_meet(words: &[u32], others: &[u32]) -> bool
 pub const NAME_WORDS: usize = MOST_ROLES as usize / 32;
 
 // A set of classes.
-#[derive(Drop)]
+#[derive(Clone, Copy)]
 pub struct ClassSet {
     pub words: [u32; ClassSet::WORDS],
 }

@@ -3,7 +3,7 @@ use Prim.Native.Nat.{◌*◌, ◌+◌, ◌<◌, ◌≤◌, suc, ℕ}
 use mathlib.Core.List.{List, [], ◌++◌, ◌∷◌}
 use mathlib.Core.Path.{◌∙◌, ◌≡◌, ap, ap₂, refl, sym}
 use lib.ListN.{drop, get_or, length}
-use native.Mathlib.Nat.{zero_add}
+use native.Mathlib.Nat.{zero-add}
 use native.Mathlib.Omega.{arith}
 use Rattle.entries.specs.Entries.{Item, item_at}
 use Rattle.frames.proofs.Rows.{put_append, put_nil}
@@ -108,4 +108,4 @@ module _ {w ds o : List ℕ} {top : ℕ} {out₀ : List ℕ} {i k : ℕ} {out o�
       ∙ x.says
       ∙ ap (λ (z : List ℕ). put_at z 6 ws) v
       ∙ record_then o₀ 0 first 0 0 0 0 0 (omega (arith, room.long)) ws
-      ∙ ap₂ (λ (f n : ℕ). record_words f 0 0 0 0 0 ws ++ drop n o₀) p (zero_add (length (record_words first 0 0 0 0 0 ws)))
+      ∙ ap₂ (λ (f n : ℕ). record_words f 0 0 0 0 0 ws ++ drop n o₀) p (zero-add (length (record_words first 0 0 0 0 0 ws)))

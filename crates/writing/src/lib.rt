@@ -1,4 +1,6 @@
 // What stands in order, counted and written as a policy's records.
+#![tactic(auto)]
+
 ghost use Rattle.std.specs.Prelude.{◌*◌, ◌+◌, ◌<◌, ◌≤◌, ℕ, cond, List, [], ◌≡◌, eqb, length};
 ghost use Rattle.entries.specs.Entries.{HasItem, item_at};
 ghost use Rattle.frames.specs.Rows.{put_at};
