@@ -3,7 +3,7 @@
 
 ghost use Rattle.std.specs.Prelude.{[], ◌∷◌, ◌≡◌, ◌+◌, ◌<◌, ◌^◌, ◌≤◌, get_or, length, set};
 ghost use Rattle.frames.specs.Rows.{Put};
-ghost use Rattle.meaning.specs.Answers.{accepted, reading_answer, refused, result};
+ghost use Rattle.meaning.specs.Answers.{accepted, reading_answer, refused, result as told};
 ghost use Rattle.meaning.specs.Operations.{unless};
 ghost use Rattle.meaning.specs.PolicyWords.{record_words};
 ghost use Rattle.meaning.specs.Records.{is_name, is_onward, is_sized};
@@ -13,14 +13,14 @@ use meaning::Reading;
 
 // A word of a table. Past the end stands 0, so that reading asks nothing of the caller.
 pub fn word(l: &[u32], i: usize) -> u32
-    ensures* { λ r. ⌜ r ≡ get_or l.now i 0 ⌝ }
+    ensures { result ≡ get_or l.now i 0 }
 {
     if i < l.len() { l[i] } else { 0 }
 }
 
 // A word past the end is not written.
 pub fn put_word(l: &mut [u32], i: usize, x: u32)
-    ensures* { λ _. ⌜ l.new ≡ set l.old i x ⌝ }
+    ensures { l.new ≡ set l.old i x }
 {
     if i < l.len() {
         l[i] = x;
@@ -30,7 +30,7 @@ pub fn put_word(l: &mut [u32], i: usize, x: u32)
 // A vocabulary's record has four words. They are put from a place on, and the next place is returned.
 pub fn put_four(l: &mut [u32], at: usize, a: u32, b: u32, c: u32, d: u32) -> usize
     requires { at + 4 ≤ length l.old }
-    ensures* { λ r. ⌜ Put l.old at (a ∷ (b ∷ (c ∷ (d ∷ [])))) l.new r ⌝ }
+    ensures { Put l.old at (a ∷ (b ∷ (c ∷ (d ∷ [])))) l.new result }
 {
     l[at] = a;
     l[at + 1] = b;
@@ -51,7 +51,7 @@ pub fn put_six(
     next: u32,
 ) -> usize
     requires { at + 6 ≤ length l.old }
-    ensures* { λ r. ⌜ Put l.old at (record_words kind a lo hi child next []) l.new r ⌝ }
+    ensures { Put l.old at (record_words kind a lo hi child next []) l.new result }
 {
     l[at] = kind;
     l[at + 1] = a;
@@ -64,14 +64,14 @@ pub fn put_six(
 
 // Names count from 1 in each series.
 pub fn is_name(count: u32, x: u32) -> bool
-    ensures* { λ r. ⌜ r ≡ is_name count x ⌝ }
+    ensures { result ≡ is_name count x }
 {
     1 <= x && x <= count
 }
 
 // A link only goes onward, so no chain comes back.
 pub fn is_onward(last: usize, k: u32, next: u32) -> bool
-    ensures* { λ r. ⌜ r ≡ is_onward last k next ⌝ }
+    ensures { result ≡ is_onward last k next }
 {
     next == 0 || k < next && next as usize <= last
 }
@@ -79,7 +79,7 @@ pub fn is_onward(last: usize, k: u32, next: u32) -> bool
 // Record k links to the one after it; the last record, and the header of no record, to none.
 pub fn link(k: usize, last: usize) -> u32
     requires { (k ≤ last) × (last < 2 ^ 32) }
-    ensures* { λ r. ⌜ r ≡ link_at last k ⌝ }
+    ensures { result ≡ link_at last k }
 {
     if k == last { 0 } else { k as u32 + 1 }
 }
@@ -87,14 +87,14 @@ pub fn link(k: usize, last: usize) -> u32
 // A header and records, of one width, and not too many.
 pub fn is_sized(width: usize, most: usize, n: usize) -> bool
     requires { 0 < width }
-    ensures* { λ r. ⌜ r ≡ is_sized width most n ⌝ }
+    ensures { result ≡ is_sized width most n }
 {
     n % width == 0 && (width <= n && n <= most)
 }
 
 // The answer of a reader whose first refusal has this number, 0 for none.
 pub fn reading(refusal: u32) -> Reading
-    ensures* { λ r. ⌜ reading_answer r ≡ unless refused refusal (result accepted) ⌝ }
+    ensures { reading_answer result ≡ unless refused refusal (told accepted) }
 {
     if refusal == 0 {
         Reading::Accepted

@@ -52,6 +52,7 @@ filter_within p q k (suc n) (suc s) l h g =
 
 module _ (p : ℕ → Bool) (z : ℕ) where
   pub filter_in : (l : List ℕ) → z ∈ filter p l → p z ≡ true
+  filter_in [] i = elim i [ ]
   filter_in (x ∷ l) i = go (p x) refl (filter_in l) i
     where
       go : (b : Bool) → p x ≡ b → (z ∈ filter p l → p z ≡ true) → z ∈ cond b (x ∷ filter p l) (filter p l) → p z ≡ true
@@ -60,6 +61,7 @@ module _ (p : ℕ → Bool) (z : ℕ) where
       go false t ih i = ih i
 
   pub filter_from : (l : List ℕ) → z ∈ filter p l → z ∈ l
+  filter_from [] i = elim i [ ]
   filter_from (x ∷ l) i = go (p x) (filter_from l) i
     where
       go : (b : Bool) → (z ∈ filter p l → z ∈ l) → z ∈ cond b (x ∷ filter p l) (filter p l) → z ∈ x ∷ l
@@ -68,6 +70,7 @@ module _ (p : ℕ → Bool) (z : ℕ) where
       go false ih i = there (ih i)
 
   pub in_filter : (l : List ℕ) → p z ≡ true → z ∈ l → z ∈ filter p l
+  in_filter [] t x'' = elim x'' [ ]
   in_filter (x ∷ l) t (here e) = rw (sym (ap p e) ∙ t) (here e)
   in_filter (x ∷ l) t (there i) = go (p x) (in_filter l t i)
     where
@@ -148,6 +151,7 @@ rising_filter p k (x ∷ l) r = go (p x) (rising_filter p x l r.1)
     go false s = rising_from k x (filter p l) (omega arith) s
 
 rising_above : (k : ℕ) (l : List ℕ) (z : ℕ) → Rising k l → z ∈ l → k < z
+rising_above k [] z r x'' = elim x'' [ ]
 rising_above k (x ∷ l) z r (here e) = omega arith
 rising_above k (x ∷ l) z r (there i) = let h = rising_above x l z r.1 i in omega arith
 
@@ -185,6 +189,7 @@ above_rest c k (y ∷ l) x m r e = go (ltb c y) refl (above_rest c y l x m r.1) 
 -- an element above c: the first above c is no greater
 pub above_least : (c k : ℕ) (l : List ℕ) (z : ℕ) → Rising k l → z ∈ l → c < z
     → (x : ℕ) × (m : List ℕ) × (filter (ltb c) l ≡ x ∷ m) × (x ≤ z)
+above_least c k [] z r x3 h = elim x3 [ ]
 above_least c k (y ∷ l) z r (here e) h = (y, filter (ltb c) l, rw (lt-ltb c y (omega arith)), omega arith)
 above_least c k (y ∷ l) z r (there i) h = go (ltb c y) refl (above_least c y l z r.1 i h)
   where

@@ -1,0 +1,15 @@
+use borrow.Author.Rules.{rules}
+use Prim.Native.Nat.{◌-◌, ◌≤◌}
+use mathlib.Core.Path.{◌∙◌, ◌≡◌, refl}
+use lib.ListN.{length, length-set}
+use lib.Seq.{paste, paste-zero}
+use native.Mathlib.Omega.{arith}
+use Rattle.frames.specs.Rows.{row_at}
+use Rattle.frames.proofs.Rows.{copied_all, copied_more}
+use Rattle.frames.proofs.copy.Given as goal
+
+abbrev pub invariant-loop-k : goal.invariant-loop-k
+invariant-loop-k l = (l.k ≤ l.n) × (length l.to ≡ length l.initial.to) × (l.to ≡ paste l.initial.to l.j (row_at l.n l.from l.i) l.k)
+
+abbrev pub decreases-loop-k : goal.decreases-loop-k
+decreases-loop-k l = l.n - l.k

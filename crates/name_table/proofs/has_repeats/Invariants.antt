@@ -1,0 +1,11 @@
+use borrow.Author.Rules.{rules}
+use Prim.Native.Nat.{◌-◌}
+use native.Mathlib.Omega.{arith}
+use Rattle.name_table.proofs.Laws.{Repeating, listed_at, listed_rest, repeating_ends, repeating_finds, repeating_on, repeating_starts}
+use Rattle.name_table.proofs.has_repeats.Given as goal
+
+abbrev pub invariant-loop-k : goal.invariant-loop-k
+invariant-loop-k l = Repeating l.text l.table l.base l.n l.k
+
+abbrev pub decreases-loop-k : goal.decreases-loop-k
+decreases-loop-k l = l.n - l.k

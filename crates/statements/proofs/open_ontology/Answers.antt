@@ -1,0 +1,6 @@
+use borrow.Author.Rules.{rules}
+use Rattle.statements.proofs.Laws.{opened}
+use Rattle.statements.proofs.open_ontology.Goals as goal
+
+pub returns : goal.returns
+returns c = search opened

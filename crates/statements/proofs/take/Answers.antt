@@ -1,0 +1,6 @@
+use borrow.Author.Rules.{rules}
+use Rattle.statements.proofs.Laws.{word_took}
+use Rattle.statements.proofs.take.Goals as goal
+
+pub returns : goal.returns
+returns c = search word_took

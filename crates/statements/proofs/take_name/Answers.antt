@@ -1,0 +1,6 @@
+use borrow.Author.Rules.{rules}
+use Rattle.statements.proofs.Laws.{name_read}
+use Rattle.statements.proofs.take_name.Goals as goal
+
+pub returns : goal.returns
+returns c = search name_read

@@ -1,0 +1,15 @@
+-- `ClassSet::load`: the words from at on, one by one.
+use Prim.Native.Nat.{◌+◌, ◌-◌, ◌≤◌, ℕ}
+use borrow.Author.Rules.{rules}
+use lib.ListN.{get_or, length, length-set}
+use mathlib.Core.Path.{◌∙◌, ◌≡◌}
+use native.Mathlib.Omega.{arith}
+use Rattle.words.proofs.Steps.{Filled, filled_more, row_filled}
+use Rattle.words.specs.Rows.{class_words}
+use Rattle.words.proofs.ClassSet.load.Given as goal
+
+abbrev pub invariant-loop-i : goal.invariant-loop-i
+invariant-loop-i l = (l.i ≤ class_words) × (length l.row ≡ class_words) × Filled (λ j. get_or l.words (l.at + j) 0) l.row l.i
+
+abbrev pub decreases-loop-i : goal.decreases-loop-i
+decreases-loop-i l = class_words - l.i

@@ -1,0 +1,19 @@
+-- `has`: 0 and a number past the words are in no set; any other is a bit of its word.
+use borrow.Author.Rules.{rules}
+use Rattle.words.proofs.Steps.{has_bit, has_past, has_zero}
+use Rattle.words.proofs.has.Goals as goal
+
+pub returns-then-x-eq0 : goal.returns-then-x-eq0
+returns-then-x-eq0 c = has_zero c.args.words.now c.args.x c.if-x-eq0.true
+
+pub returns-then-words-at : goal.returns-then-words-at
+returns-then-words-at c =
+    let a = c.args in
+    let at = c.place-at in
+    has_past a.words.now a.x at.result c.if-x-eq0.false at.ensures c.if-words-at.true
+
+pub returns : goal.returns
+returns c =
+    let a = c.args in
+    let at = c.place-at in
+    has_bit a.words.now a.x at.result c.if-x-eq0.false at.ensures

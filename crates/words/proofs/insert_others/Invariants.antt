@@ -1,0 +1,13 @@
+use Prim.Native.Nat.{◌-◌}
+use borrow.Author.Rules.{rules}
+use mathlib.Core.Path.{◌∙◌, ◌≡◌, ap, refl}
+use lib.ListN.{length}
+use Rattle.words.proofs.Laws.{length_including}
+use Rattle.words.proofs.Others.{Filling, filling_ends, filling_has, filling_more, filling_starts}
+use Rattle.words.proofs.insert_others.Given as goal
+
+abbrev pub invariant-loop-i : goal.invariant-loop-i
+invariant-loop-i l = (length l.words ≡ length l.initial.words) × Filling l.named l.n l.initial.words l.i l.words
+
+abbrev pub decreases-loop-i : goal.decreases-loop-i
+decreases-loop-i l = l.n - l.i
