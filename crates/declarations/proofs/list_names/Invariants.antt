@@ -1,0 +1,14 @@
+use borrow.Author.Rules.{rules}
+use Prim.Native.Nat.{◌-◌}
+use mathlib.Core.Path.{◌∙◌, ◌≡◌, refl}
+use lib.ListN.{length}
+use native.Mathlib.Omega.{arith}
+use Rattle.declarations.proofs.Listing.{Listing, list_ends, list_on, list_room, list_small, list_starts}
+use Rattle.declarations.proofs.Passing.{parses_some}
+use Rattle.declarations.proofs.list_names.Given as goal
+
+abbrev pub invariant-loop-c : goal.invariant-loop-c
+invariant-loop-c l = Listing l.text l.table l.start l.at l.c × (length l.table ≡ length l.initial.table)
+
+abbrev pub decreases-loop-c : goal.decreases-loop-c
+decreases-loop-c l = length l.text - l.at

@@ -1,0 +1,14 @@
+-- `next_successor`: what is sought from row j on is sought from row i on.
+use borrow.Author.Rules.{rules}
+use Prim.Native.Nat.{◌-◌, ◌≤◌}
+use mathlib.Core.Path.{◌∙◌, ◌≡◌, refl, sym}
+use native.Mathlib.Omega.{arith}
+use Rattle.layout.proofs.Successors.{next_behind, next_ends, next_here, next_on}
+use Rattle.layout.specs.Combination.{next_successor}
+use Rattle.layout.proofs.next_successor.Given as goal
+
+abbrev pub invariant-loop-i : goal.invariant-loop-i
+invariant-loop-i l = (l.i ≤ l.n) × (next_successor l.work l.x (l.n - l.j) l.j ≡ next_successor l.work l.x (l.n - l.i) l.i)
+
+abbrev pub decreases-loop-i : goal.decreases-loop-i
+decreases-loop-i l = l.n - l.i

@@ -1,0 +1,5 @@
+use borrow.Author.Rules.{rules}
+use Rattle.vocabulary.proofs.is_feature.Goals as goal
+
+pub returns : goal.returns
+returns c = cc
