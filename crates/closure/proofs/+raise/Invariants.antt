@@ -1,0 +1,16 @@
+use borrow.Author.Rules.{rules}
+use Prim.Native.Nat.{◌<◌, ℕ}
+use native.Mathlib.Omega.{arith}
+use Rattle.closure.proofs.Raising.{Raising, raising_call, raising_ends, raising_falls, raising_fits, raising_length, raising_less}
+use Rattle.closure.proofs.Raising.{raising_on, raising_starts, raising_within}
+use Rattle.words.specs.Sets.{word_sum}
+use Rattle.closure.proofs.+raise.Given as goal
+
+abbrev pub decreases-raise : goal.decreases-raise
+decreases-raise l = word_sum l.heads.now
+
+abbrev pub invariant-loop-k : goal.invariant-loop-k
+invariant-loop-k l = Raising l.v l.initial.work l.initial.heads l.initial.k l.work l.heads l.k
+
+abbrev pub decreases-loop-k : goal.decreases-loop-k
+decreases-loop-k l = l.k

@@ -1,0 +1,6 @@
+use borrow.Author.Rules.{rules}
+use Rattle.entries.proofs.Ordering.{fields_by}
+use Rattle.entries.proofs.compare_fields.Goals as goal
+
+pub returns : goal.returns
+returns c = search fields_by

@@ -1,0 +1,6 @@
+use borrow.Author.Rules.{rules}
+use Rattle.entries.proofs.Ordering.{siblings_by}
+use Rattle.entries.proofs.compare_siblings.Goals as goal
+
+pub returns : goal.returns
+returns c = search siblings_by

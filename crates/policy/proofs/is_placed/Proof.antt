@@ -1,6 +1,0 @@
-use borrow.Author.Tests.{eq-eqb, ne_eqb}
-use Rattle.policy.proofs.is_placed.Statement.{statement}
-use Rattle.policy.proofs.is_placed.Tie as tie
-
-pub is-placed-spec : {M : Type 1} → statement M
-is-placed-spec = tie.close (tie.spec (λ c. rw (eq-eqb _ _ c.if1.true)) (λ c. rw (ne_eqb _ _ c.if1.false)))

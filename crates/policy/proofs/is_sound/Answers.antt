@@ -1,0 +1,6 @@
+use borrow.Author.Rules.{rules}
+use Rattle.policy.proofs.Laws.{links_sound}
+use Rattle.policy.proofs.is_sound.Goals as goal
+
+pub returns : goal.returns
+returns c = search links_sound

@@ -1,0 +1,6 @@
+use borrow.Author.Rules.{rules}
+use Rattle.policy.proofs.Laws.{answers}
+use Rattle.policy.proofs.read_policy.Goals as goal
+
+pub returns : goal.returns
+returns c = search answers
