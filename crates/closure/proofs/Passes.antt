@@ -145,7 +145,7 @@ module _ (v w₀ : List ℕ) (fits : class_count v * class_words ≤ length w₀
 
     held_pass : {w : List ℕ} → Held v w₀ w → (R : List (ℕ × ℕ)) → Stated R → Held v w₀ (foldl lift w R)
     held_pass h [] s = h
-    held_pass h (p ∷ R) s = held_pass (held_lift h p (s p (here refl))) R (later s)
+    held_pass {w = w} h (p ∷ R) s = held_pass {w = lift w p} (held_lift h p (s p (here refl))) R (later s)
 
     -- a record's step
     pub held_lifted : {w : List ℕ} → Held v w₀ w → (x : Axiom) → x ∈ (vocabulary_of v).axioms → Held v w₀ (lifted w x)
@@ -153,9 +153,9 @@ module _ (v w₀ : List ℕ) (fits : class_count v * class_words ≤ length w₀
 
     pass_grows : {w : List ℕ} → Held v w₀ w → (R : List (ℕ × ℕ)) → Stated R → word_sum w ≤ word_sum (foldl lift w R)
     pass_grows h [] s = omega arith
-    pass_grows h (p ∷ R) s =
+    pass_grows {w = w} h (p ∷ R) s =
         let first = lift_grows h p (s p (here refl)) in
-        omega (arith, pass_grows (held_lift h p (s p (here refl))) R (later s))
+        omega (arith, pass_grows {w = lift w p} (held_lift h p (s p (here refl))) R (later s))
 
     -- a pass that changes nothing finds every pair's rows shut
     pass_shut : {w : List ℕ} → Held v w₀ w → (R : List (ℕ × ℕ)) → Stated R → foldl lift w R ≡ w → (p : ℕ × ℕ) → p ∈ R → Shut w p

@@ -102,7 +102,7 @@ module _ (v w₀ : List ℕ) (r : vocabulary_refusal v ≡ 0) (closed : ClosedRo
 
   only_all : {w : List ℕ} → Only (RolePlaces v) w₀ w → (R : List (ℕ × ℕ)) → All Named R → Only (RolePlaces v) w₀ (foldl extend w R)
   only_all h [] n = h
-  only_all h (x ∷ R) n = only_all (only_joined h x.0 x.1 (head n).0 (head n).1) R (tail n)
+  only_all {w = w} h (x ∷ R) n = only_all {w = extend w x} (only_joined h x.0 x.1 (head n).0 (head n).1) R (tail n)
 
   extend_all : {w : List ℕ} → Only (RolePlaces v) w₀ w → (R : List (ℕ × ℕ)) → All Named R → (q b : ℕ) → Name (role_count v) q →
       in_set (row_of (foldl extend w R) (role_row q)) b ≡ in_set (row_of w (role_row q)) b || any (λ c. is_below (vocabulary_of v) c b) (ranges_in R q)
@@ -110,7 +110,7 @@ module _ (v w₀ : List ℕ) (r : vocabulary_refusal v ≡ 0) (closed : ClosedRo
   extend_all {w} h (x ∷ R) n q b m =
       let p : ℕ → Bool = λ c. is_below (vocabulary_of v) c b in
       let old = in_set (row_of w (role_row q)) b in
-      extend_all (only_joined h x.0 x.1 (head n).0 (head n).1) R (tail n) q b m
+      extend_all {w = extend w x} (only_joined h x.0 x.1 (head n).0 (head n).1) R (tail n) q b m
       ∙ ap (λ (t : Bool). t || any p (ranges_in R q)) (extend_in h x (head n) q b m)
       ∙ or_assoc old (any p (ranges_in (x ∷ []) q)) (any p (ranges_in R q))
       ∙ ap (λ (t : Bool). old || t) (ranges_more p x R q)

@@ -13,13 +13,13 @@ pub bounds-heads-at-2 : goal.bounds-heads-at-2
 bounds-heads-at-2 t c = omega (arith, c.place-at.ensures, c.requires.class)
 
 pub loop-k-init : goal.loop-k-init
-loop-k-init t c = raising_starts _ _ c.args.heads.now _ c.place-at.result c.requires.room
+loop-k-init t c = raising_starts _ _ c.args.heads.now _ c.place-at.result c.requires
 
 pub raise-requires : goal.raise-requires
 raise-requires t c = let h = c.args.heads.now in
     let i = c.place-at.result in
     let z = c.loop-k-test.true in (
-      omega (arith, c.requires.accepted, raising_falls _ _ h _ i c.requires c.loop-k.invariant z),
+      omega (arith, c.decreases, raising_falls _ _ h _ i c.requires c.loop-k.invariant z),
       raising_call _ _ h _ i c.requires c.loop-k.invariant z c.axiom_right.ensures,
     )
 
@@ -53,4 +53,6 @@ pub shape_of-work : goal.shape_of-work
 shape_of-work t c = raising_length _ _ c.args.heads.now _ c.place-at.result c.requires c.loop-k.invariant
 
 pub returns : goal.returns
-returns t c = raising_ends _ _ c.args.heads.now _ c.place-at.result c.requires c.loop-k.invariant
+returns t c =
+    let told = raising_ends _ _ c.args.heads.now _ c.place-at.result c.requires c.loop-k.invariant in
+    record { raised = told.0; heads_taken = told.1 }

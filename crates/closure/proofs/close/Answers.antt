@@ -26,7 +26,7 @@ pub loop-smaller : goal.loop-smaller
 loop-smaller c =
     let n = c.class_count.ensures in
     let p = c.pass.ensures in
-    close_less _ _ _ c.requires.0 c.requires.1 n c.begin.ensures c.raise_all.ensures c.loop.invariant p.0 p.1 c.loop-test.true
+    close_less _ _ _ c.requires.0 c.requires.1 n c.begin.ensures c.raise_all.ensures c.loop.invariant p.work_after p.grown c.loop-test.true
     (λ k. omega (arith, c.type_inv.work k))
 
 pub loop-preserved : goal.loop-preserved
@@ -43,4 +43,4 @@ pub returns : goal.returns
 returns c =
     let n = c.class_count.ensures in
     let p = c.pass.ensures in
-    close_ends _ _ _ c.requires.0 c.requires.1 n c.begin.ensures c.raise_all.ensures c.loop.invariant p.0 p.1 c.loop-test.false
+    close_ends _ _ _ c.requires.0 c.requires.1 n c.begin.ensures c.raise_all.ensures c.loop.invariant p.work_after p.grown c.loop-test.false

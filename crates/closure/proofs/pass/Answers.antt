@@ -1,6 +1,5 @@
 use borrow.Author.Rules.{rules}
 use lib.ListN.{length}
-use mathlib.Core.Logic.{⊎_elim}
 use mathlib.Core.Path.{◌∙◌, ◌≡◌, ap, refl}
 use native.Mathlib.Omega.{arith}
 use Rattle.closure.proofs.Steps.{grown_more, grown_still, lifted_length}
@@ -11,6 +10,7 @@ use Rattle.vocabulary.proofs.Chain.{Folding, folding_ends, folding_falls, foldin
 use Rattle.vocabulary.proofs.Chain.{folding_fits}
 use Rattle.theory.proofs.Wellformed.{axiom_named}
 use Rattle.closure.proofs.pass.Goals as goal
+use Rattle.closure.proofs.pass.Goals.{else-lift, then-lift}
 
 pub loop-k-init : goal.loop-k-init
 loop-k-init c = (refl, folding_starts c.requires.0 c.first_axiom-k.ensures, refl)
@@ -31,8 +31,10 @@ loop-k-preserved c =
     let w₀ = c.args.work.now in (
       ap length e.work_after ∙ lifted_length v l.work (axiom_at v l.k) (axiom_named v l.k (folding_fits l.invariant.1 n)) (omega (arith, l.invariant.0, c.requires.1)) ∙ l.invariant.0,
       folding_on l.invariant.1 n c.axiom_next-k.ensures e.work_after,
-      ⊎_elim (λ x. grown_more l.grown c.lift.result w₀ l.work u l.invariant.2 e.grown x.0.taken x.1)
-          (λ x. grown_still l.grown c.lift.result w₀ l.work u l.invariant.2 e.grown x.0.left x.1) c.if-lift.branch,
+      elim c.if-lift.branch [
+          then-lift x ↦ grown_more l.grown c.lift.result w₀ l.work u l.invariant.2 e.grown x.if-lift.true x.grown-is
+          | else-lift x ↦ grown_still l.grown c.lift.result w₀ l.work u l.invariant.2 e.grown x.if-lift.false x.grown-is
+      ],
     )
 
 pub shape_of-work : goal.shape_of-work

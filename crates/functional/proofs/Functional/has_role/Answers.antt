@@ -1,0 +1,6 @@
+use borrow.Author.Rules.{rules}
+use mathlib.Core.Path.{◌∙◌}
+use Rattle.functional.proofs.Functional.has_role.Goals as goal
+
+pub returns : goal.returns
+returns c = record { value = c.has.ensures; by_index = λ v h. c.has.ensures ∙ h.role c.args.r.0 }

@@ -1,0 +1,7 @@
+-- `put_policy`: the count, the header, the terms.
+use borrow.Author.Rules.{rules}
+use Rattle.rehearsal.proofs.Parts.{policy_put}
+use Rattle.rehearsal.proofs.put_policy.Goals as goal
+
+pub returns : goal.returns
+returns c = policy_put c.requires c.put_word.ensures c.put_six-at.ensures c.put_terms.ensures
