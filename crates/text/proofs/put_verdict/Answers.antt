@@ -22,4 +22,4 @@ returns-in-Outside c = let out = c.args.out.now in
 
 pub returns-in-Refused : goal.returns-in-Refused
 returns-in-Refused c = let out = c.args.out.now in
-    put_as (line_printed (refused _) ∙ ap (λ (v : Verdict). printed (shown v out)) (sym c.in-Refused.is)) c.Put-refused.ensures
+    put_as (line_printed (refused _) ∙ ap (λ (v : Verdict). printed (shown v out)) (sym c.in-Refused.is)) c.put_refused.ensures

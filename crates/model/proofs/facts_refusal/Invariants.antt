@@ -1,0 +1,10 @@
+use borrow.Author.Rules.{rules}
+use Rattle.meaning.specs.Records.{falling, last_of}
+use Rattle.model.proofs.Laws.{ReadingFacts, facts_end, facts_fall, facts_on, facts_start, facts_stop}
+use Rattle.model.proofs.facts_refusal.Given as goal
+
+abbrev pub invariant-loop-k : goal.invariant-loop-k
+invariant-loop-k l = ReadingFacts l.v l.m l.k
+
+abbrev pub decreases-loop-k : goal.decreases-loop-k
+decreases-loop-k l = falling (last_of 5 l.m) l.k

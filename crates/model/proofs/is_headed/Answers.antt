@@ -1,0 +1,6 @@
+use borrow.Author.Rules.{rules}
+use Rattle.model.proofs.Laws.{headed}
+use Rattle.model.proofs.is_headed.Goals as goal
+
+pub returns : goal.returns
+returns c = search headed
