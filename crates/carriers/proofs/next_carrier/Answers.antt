@@ -1,0 +1,6 @@
+use borrow.Author.Rules.{rules}
+use Rattle.carriers.proofs.Reading.{read_beside}
+use Rattle.carriers.proofs.next_carrier.Goals as goal
+
+pub returns : goal.returns
+returns c = search read_beside

@@ -1,0 +1,13 @@
+-- `gather`: a loop over the pending roles.
+use borrow.Author.Rules.{rules}
+use Prim.Native.Nat.{◌-◌}
+use mathlib.Core.Logic.{⊎_elim}
+use lib.ListN.{length-set}
+use Rattle.normal_form.proofs.Joining.{Going, gather_ends, gather_pass, gather_skip, gather_starts, gather_take, take_good, take_room}
+use Rattle.normal_form.proofs.gather.Given as goal
+
+abbrev pub invariant-loop-at : goal.invariant-loop-at
+invariant-loop-at l = Going l.f l.p l.r.0 l.j l.stop l.x l.first l.initial.work l.initial.h l.work l.h l.at
+
+abbrev pub decreases-loop-at : goal.decreases-loop-at
+decreases-loop-at l = l.stop - l.at

@@ -1,0 +1,14 @@
+-- the answer for all is that for those that are left
+use Prim.Native.Nat.{◌+◌, ◌-◌}
+use mathlib.Core.Path.{◌≡◌, refl, sym}
+use borrow.Author.Rules.{rules}
+use Rattle.meaning.specs.Lists.{all, counting}
+use Rattle.satisfaction.proofs.Statements.{Counting, all_fails, all_on, counting_ends, counting_found, counting_on, counting_starts}
+use Rattle.satisfaction.specs.Classes.{follows}
+use Rattle.satisfaction.proofs.do_follow.Given as goal
+
+abbrev pub invariant-loop-i : goal.invariant-loop-i
+invariant-loop-i l = Counting (λ l. all (follows l.work l.a.0 l.b.0 l.apart) (counting 1 l.n) ≡ all (follows l.work l.a.0 l.b.0 l.apart) l) l.n l.i
+
+abbrev pub decreases-loop-i : goal.decreases-loop-i
+decreases-loop-i l = l.n - l.i

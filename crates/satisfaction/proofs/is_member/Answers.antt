@@ -1,0 +1,6 @@
+use mathlib.Core.Path.{◌∙◌}
+use borrow.Author.Rules.{rules}
+use Rattle.satisfaction.proofs.is_member.Goals as goal
+
+pub returns : goal.returns
+returns c = c.has_at.ensures ∙ rw c.class_place.ensures

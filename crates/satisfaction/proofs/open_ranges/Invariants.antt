@@ -1,0 +1,13 @@
+use Prim.Native.Nat.{◌-◌, ◌≤◌}
+use native.Mathlib.Omega.{arith}
+use borrow.Author.Rules.{rules}
+use Rattle.satisfaction.proofs.Ranges.{opened_more, opened_none}
+use Rattle.satisfaction.specs.Places.{range_words}
+use Rattle.satisfaction.specs.Ranges.{Opened}
+use Rattle.satisfaction.proofs.open_ranges.Given as goal
+
+abbrev pub invariant-loop-i : goal.invariant-loop-i
+invariant-loop-i l = (l.i ≤ range_words) × Opened l.i l.initial.work l.work
+
+abbrev pub decreases-loop-i : goal.decreases-loop-i
+decreases-loop-i l = range_words - l.i

@@ -1,0 +1,6 @@
+use borrow.Author.Rules.{rules}
+use Rattle.satisfaction.proofs.Rows.{put_part}
+use Rattle.satisfaction.proofs.put.Goals as goal
+
+pub returns : goal.returns
+returns c = search put_part

@@ -1,0 +1,34 @@
+-- The cycle of the structural test: a chain tests its conjuncts, a conjunct the successors, a successor a child chain, with a level less.
+use borrow.Author.Rules.{rules}
+use Prim.Native.Nat.{◌*◌, ◌+◌, ◌-◌, ◌<◌, ℕ}
+use mathlib.Core.List.{List}
+use mathlib.Core.Logic.{⊎_elim}
+use mathlib.Core.Path.{◌≡◌}
+use native.Mathlib.Omega.{arith}
+use Rattle.meaning.specs.Records.{falling, last_of}
+use Rattle.subsumption.proofs.Conjuncts.{Rest, class_told, impossible_told, interval_told, some_level, some_testable, some_told}
+use Rattle.subsumption.proofs.Conjuncts.{test_asked, test_ends, test_fails, test_on, test_starts}
+use Rattle.subsumption.proofs.Successors.{Seeking, walk_ends, walk_falls, walk_found, walk_other, walk_past, walk_starts}
+use Rattle.policy.proofs.Conjuncts.{Going, going_falls}
+use Rattle.subsumption.proofs.+test_test_conjunct_test_successors.Given as goal
+
+abbrev pub decreases-test : goal.decreases-test
+decreases-test l = 3 * l.left + 2
+
+abbrev pub invariant-loop-at : goal.invariant-loop-at
+invariant-loop-at l = Going (Rest l.q l.work l.t l.left l.k l.x) l.q l.at
+
+abbrev pub decreases-loop-at : goal.decreases-loop-at
+decreases-loop-at l = falling (last_of 6 l.q) l.at
+
+abbrev pub decreases-test_conjunct : goal.decreases-test_conjunct
+decreases-test_conjunct l = 3 * l.left + 1
+
+abbrev pub decreases-test_successors : goal.decreases-test_successors
+decreases-test_successors l = 3 * l.left
+
+abbrev pub invariant-loop-j : goal.invariant-loop-j
+invariant-loop-j l = Seeking l.q l.work l.t l.k l.x l.r.0 l.j
+
+abbrev pub decreases-loop-j : goal.decreases-loop-j
+decreases-loop-j l = l.n - l.j

@@ -1,0 +1,12 @@
+-- `first_constraint`: what is sought stands from low to high.
+use borrow.Author.Rules.{rules}
+use Prim.Native.Nat.{◌-◌}
+use native.Mathlib.Omega.{arith}
+use Rattle.subsumption.proofs.Pieces.{Halving, halving_earlier, halving_ends, halving_later, halving_starts}
+use Rattle.subsumption.proofs.first_constraint.Given as goal
+
+abbrev pub invariant-loop-low : goal.invariant-loop-low
+invariant-loop-low l = Halving l.work l.initial.high l.x l.low l.high
+
+abbrev pub decreases-loop-low : goal.decreases-loop-low
+decreases-loop-low l = l.high - l.low
