@@ -96,7 +96,7 @@ pub successors_cons : (K : Vocabulary) {one two : ℕ → Bool} → one ≡ is_f
     let every = a ∷ filter (joins one a.role) l in
     successors_of K (a ∷ l) ≡ successor a.role (record { classes = classes_all every (ranges K a.role); constraints = intervals_all two every [] })
     (successors_of K (roles_all every)) (successors_of K (filter (parts one a.role) l))
-successors_cons K e d a l = rw (e, d) (by_groups K a l)
+successors_cons K e d a l = simp (e, d) (by_groups K a l)
 
 -- the whole term: as the one arm of a role 0 without ranges
 pub successors_root : (K : Vocabulary) (c : Chain) → ranges K 0 ≡ [] →

@@ -39,7 +39,7 @@ module _ (v : ℕ → Constraint) where
   same_successors o (successor r n under next) h =
       let a = same_append o n.constraints (constraints_below under ++ constraints_below next) h in
       let b = same_append (o + length n.constraints) (constraints_below under) (constraints_below next) a.1 in
-      rw (same_node o n a.0, same_successors _ under b.0, same_successors _ next b.1)
+      rw (same_node o n a.0, same_successors (o + length n.constraints) under b.0, same_successors (o + length n.constraints + length (constraints_below under)) next b.1)
 
   same_form : (F : Form) → Same v 0 (constraints_of F) → fill v F ≡ F
   same_form F h =

@@ -1,0 +1,6 @@
+use borrow.Author.Rules.{rules}
+use Rattle.keys.proofs.Adding.{gathered_two}
+use Rattle.splitting.proofs.add_ends.Goals as goal
+
+pub returns : goal.returns
+returns c = search gathered_two
