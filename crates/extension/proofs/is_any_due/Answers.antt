@@ -18,6 +18,7 @@ loop-k-preserved c = (search rules, search undue_on)
 
 pub returns : goal.returns
 returns c =
+    λ h.
     let x = c.loop-k in
     let e : x.k ≡ last_of 6 c.args.p.now = omega arith in
     rw e at x.invariant.1
