@@ -36,7 +36,7 @@ write-requires c = let p = c.requires in
     let found = c.are_sound.ensures in
     let yes = not-false _ c.if-not-are_sound.false-raw in
     let sound = sym found.value ∙ yes in
-    record { ready = (p.0, p.1, p.2); text_value = (sound, many_sets p.0 sound (found.1 yes) (search rules) (search rules) c.find_others-many_roles.ensures c.find_others-many_features.ensures) }
+    record { ready = (p.0, p.1, p.2); text_value = (sound, many_sets p.0 sound (found.noted yes) (search rules) (search rules) c.find_others-many_roles.ensures c.find_others-many_features.ensures) }
 
 pub returns : goal.returns
 returns c = c.write.ensures

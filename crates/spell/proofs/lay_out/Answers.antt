@@ -24,8 +24,8 @@ normalise_all-requires c =
     let q = c.requires in
     let g = c.prepare-f.ensures in
     let t = c.collect_possible-n.ensures in (
-      laying_fit q.0 q.1 (t.collected_by.collected c.args.v.now (record { prepared = g.0; policy = q.1 }))
-          (omega (arith, q.2, g.1.size, t.1.0.size, c.prepare_flat-g.ensures.only.size)),
+      laying_fit q.0 q.1 (t.collected_by.collected c.args.v.now (record { prepared = g.prepared; policy = q.1 }))
+          (omega (arith, q.2, g.only.size, t.only.size, c.prepare_flat-g.ensures.only.size)),
       t.collected_by.few,
     )
 
@@ -35,5 +35,5 @@ returns c =
     let g = c.prepare-f.ensures in
     let t = c.collect_possible-n.ensures in
     let h = c.prepare_flat-g.ensures in
-    let n = c.normalise_all.ensures in record { laid_out = laid_out q.0 q.1 (t.collected_by.collected c.args.v.now (record { prepared = g.0; policy = q.1 })) h.0 n
-          (omega (arith, q.2, g.1.size, t.1.0.size, h.1.size, n.only.size)); only = only_then (worked g.only t.1.0) (worked h.1 n.only) }
+    let n = c.normalise_all.ensures in record { laid_out = laid_out q.0 q.1 (t.collected_by.collected c.args.v.now (record { prepared = g.prepared; policy = q.1 })) h.prepared n
+          (omega (arith, q.2, g.only.size, t.1.0.size, h.1.size, n.only.size)); only = only_then (worked g.only t.only) (worked h.only n.only) }

@@ -41,4 +41,4 @@ returns c =
     let l = c.lay_out-t.ensures in
     let P = spelled (vocabulary_of a.v.now) (policy_of a.p.now) in
     let f = c.file-answer.ensures.filed_by P l.laid_out.holds in
-    spell_post (done_answered r z {told = told_spelling a.v.now a.p.now (length a.out.now)} (filed_late P (length a.out.now)) f.answer f.output l.1 c.clear.ensures)
+    spell_post (done_answered r z {told = told_spelling a.v.now a.p.now (length a.out.now)} (filed_late P (length a.out.now)) f.answer f.output l.only c.clear.ensures)
