@@ -42,7 +42,7 @@ write_all-requires c = let p = c.requires in
     record { ready = (p.ready.0, p.ready.1, p.text_value.1); room_for = (words_room p.ready.0 p.ready.2 p.text_value.0 all c.if-last-gt-MOST_AXIOMS.false _ c.if-out-size.false, all) }
 
 pub shape_of-out : goal.shape_of-out
-shape_of-out c = c.write_all.auto.1.1.1.1.1.1.1.0
+shape_of-out c = c.write_all.auto.out
 
 pub returns : goal.returns
 returns c = let p = c.requires in
