@@ -141,6 +141,7 @@ module _ {A : Type 0} (p : A → Bool) where
   first_at l k u h a f = go l 1 k h a ∙ ap (λ (i : ℕ). found i u) (omega arith)
     where
       go : (l : List A) (o k : ℕ) → ((j : ℕ) (x : A) → j < k → At x l j → p x ≡ true) → At u l k → first_failing p o l ≡ found (o + k) u
+      go [] o _ h x'' = elim x'' [ ]
       go (x ∷ l) o zero h (at_here e) = rw (add-zero, ← e, f)
       go (x ∷ l) o (suc k) h (at_there a) =
           let e : suc o + k ≡ o + suc k = omega arith in

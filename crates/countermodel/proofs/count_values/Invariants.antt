@@ -1,0 +1,16 @@
+-- `count_values`: those found and those left are all.
+use borrow.Author.Rules.{rules}
+use Prim.Native.Nat.{◌+◌}
+use mathlib.Core.Path.{◌≡◌, ap}
+use native.Mathlib.Omega.{arith}
+use lib.ListN.{length}
+use Rattle.countermodel.proofs.Pairs.{values_end_lem, values_more, values_start}
+use Rattle.countermodel.proofs.Sizes.{values_most}
+use Rattle.countermodel.specs.Facts.{value_facts, values_from}
+use Rattle.countermodel.proofs.count_values.Given as goal
+
+abbrev pub invariant-loop-m : goal.invariant-loop-m
+invariant-loop-m l = l.found + length (values_from l.work l.n l.x l.m) ≡ length (value_facts l.work l.n l.x)
+
+abbrev pub decreases-loop-m : goal.decreases-loop-m
+decreases-loop-m l = length (values_from l.work l.n l.x l.m)

@@ -1,0 +1,14 @@
+-- `next_pair`: after i constraints the best of them is known.
+use borrow.Author.Rules.{rules}
+use Prim.Native.Nat.{◌-◌, ◌≤◌, ℕ}
+use mathlib.Core.Logic.{⊎_elim}
+use mathlib.Core.Path.{◌∙◌, ◌≡◌, subst, sym}
+use native.Mathlib.Omega.{arith}
+use Rattle.countermodel.proofs.Pairs.{Best, best_kept, best_new, best_next, best_start}
+use Rattle.countermodel.proofs.next_pair.Given as goal
+
+abbrev pub invariant-loop-i : goal.invariant-loop-i
+invariant-loop-i l = (l.i ≤ l.n) × (l.best ≤ l.n) × Best l.work l.n l.x l.m l.i l.best
+
+abbrev pub decreases-loop-i : goal.decreases-loop-i
+decreases-loop-i l = l.n - l.i

@@ -1,0 +1,18 @@
+use borrow.Author.Rules.{rules}
+use native.Mathlib.Omega.{arith}
+use Rattle.flattening.proofs.Laws.{flat_refusal}
+use Rattle.flattening.proofs.Steps.{flat_part}
+use Rattle.theory.proofs.Wellformed.{accepted_size}
+use Rattle.flattening.proofs.prepare_flat.Goals as goal
+
+pub flatten-requires : goal.flatten-requires
+flatten-requires c = let l = accepted_size _ c.requires.0 in omega arith
+
+pub slice_bounds-prepare-end : goal.slice_bounds-prepare-end
+slice_bounds-prepare-end c = let l = accepted_size _ c.requires.0 in let s = c.flatten.ensures.size in omega arith
+
+pub prepare-requires : goal.prepare-requires
+prepare-requires c = (rw (flat_part c.flatten.ensures) (flat_refusal _ c.requires.0), c.requires.1)
+
+pub returns : goal.returns
+returns c = record { prepared = rw (flat_part c.flatten.ensures) at c.prepare.ensures.prepared; only = c.prepare.ensures.only }

@@ -1,0 +1,6 @@
+use borrow.Author.Rules.{rules}
+use Rattle.words.proofs.Bits.{bit_mask}
+use Rattle.odometer.proofs.has_dial.Goals as goal
+
+pub returns : goal.returns
+returns c = bit_mask c.args.mask c.args.d

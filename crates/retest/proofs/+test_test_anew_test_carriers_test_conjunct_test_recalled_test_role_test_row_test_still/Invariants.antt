@@ -1,0 +1,59 @@
+-- The cycle of the structural test: a chain tests its conjuncts, a conjunct what is remembered of it, its kind, a role the successors, a
+-- successor a child chain, with a level less.
+use borrow.Author.Rules.{rules}
+use Prim.Native.Nat.{◌*◌, ◌+◌, ◌-◌, ◌<◌, ℕ}
+use mathlib.Core.List.{List}
+use mathlib.Core.Path.{◌≡◌, refl}
+use lib.ListN.{length}
+use native.Mathlib.Omega.{arith}
+use Rattle.meaning.specs.Records.{falling, last_of}
+use Rattle.retest.specs.Memory.{Sure}
+use Rattle.retest.proofs.Carried.{Carrying, list_ends, list_falls, list_found, list_on, list_row, list_starts}
+use Rattle.retest.proofs.Conjuncts.{Rest, class_told, impossible_told, individual_few, kind_other, recalled_fails, recalled_noted, recalled_passes, recalled_pending, settled_small}
+use Rattle.retest.proofs.Conjuncts.{role_below, role_carried, role_none, role_noted, role_open, role_still}
+use Rattle.retest.proofs.Conjuncts.{test_asked, test_ends, test_fails, test_on, test_starts}
+use Rattle.retest.proofs.Successors.{Seeking, row_other, row_own, still_ends, still_falls, still_found, still_listed, still_on, still_row, still_starts}
+use Rattle.policy.proofs.Conjuncts.{Going, going_falls}
+use Rattle.retest.proofs.+test_test_anew_test_carriers_test_conjunct_test_recalled_test_role_test_row_test_still.Given as goal
+
+abbrev pub decreases-test : goal.decreases-test
+decreases-test l = 8 * l.left + 7
+
+abbrev pub invariant-test-loop-at : goal.invariant-test-loop-at
+invariant-test-loop-at l = (length l.memory ≡ length l.initial.memory) × Sure l.q l.carriers l.work l.t l.memory × Going (Rest l.q l.dials l.work l.t l.left l.k l.x l.all) l.q l.at
+
+abbrev pub decreases-test-loop-at : goal.decreases-test-loop-at
+decreases-test-loop-at l = falling (last_of 6 l.q) l.at
+
+abbrev pub decreases-test_anew : goal.decreases-test_anew
+decreases-test_anew l = 8 * l.left + 4
+
+abbrev pub decreases-test_carriers : goal.decreases-test_carriers
+decreases-test_carriers l = 8 * l.left + 2
+
+abbrev pub invariant-test_carriers-loop-y : goal.invariant-test_carriers-loop-y
+invariant-test_carriers-loop-y l = (length l.memory ≡ length l.initial.memory) × Carrying l.q l.dials l.carriers l.work l.t l.memory l.left l.k l.x l.r.0 l.all l.y
+
+abbrev pub decreases-test_carriers-loop-y : goal.decreases-test_carriers-loop-y
+decreases-test_carriers-loop-y l = falling l.t.individuals l.y
+
+abbrev pub decreases-test_conjunct : goal.decreases-test_conjunct
+decreases-test_conjunct l = 8 * l.left + 6
+
+abbrev pub decreases-test_recalled : goal.decreases-test_recalled
+decreases-test_recalled l = 8 * l.left + 5
+
+abbrev pub decreases-test_role : goal.decreases-test_role
+decreases-test_role l = 8 * l.left + 3
+
+abbrev pub decreases-test_row : goal.decreases-test_row
+decreases-test_row l = 8 * l.left + 1
+
+abbrev pub decreases-test_still : goal.decreases-test_still
+decreases-test_still l = 8 * l.left + 2
+
+abbrev pub invariant-test_still-loop-j : goal.invariant-test_still-loop-j
+invariant-test_still-loop-j l = (length l.memory ≡ length l.initial.memory) × Seeking l.q l.dials l.carriers l.work l.t l.memory l.left l.k l.x l.r.0 l.all l.j
+
+abbrev pub decreases-test_still-loop-j : goal.decreases-test_still-loop-j
+decreases-test_still-loop-j l = l.n - l.j

@@ -1,0 +1,21 @@
+use borrow.Author.Rules.{rules}
+use Prim.Native.Nat.{◌-◌, ◌≤◌}
+use native.Mathlib.Omega.{arith}
+use Rattle.spans.proofs.Joining.{joined_more, joined_none}
+use Rattle.spans.specs.Joining.{Joined}
+use Rattle.satisfaction.specs.Places.{record_words}
+use Rattle.spans.proofs.join.Goals as goal
+
+pub loop-i-init : goal.loop-i-init
+loop-i-init c = (search rules, joined_none)
+
+pub loop-i-preserved : goal.loop-i-preserved
+loop-i-preserved c = (search rules, search joined_more)
+
+pub shape_of-work : goal.shape_of-work
+shape_of-work c = c.loop-i.invariant.1.only.size
+
+pub returns : goal.returns
+returns c =
+    let l = c.loop-i in
+    record { only = l.invariant.1.only; words = λ i h. l.invariant.1.words i (omega arith); rest = λ i h. l.invariant.1.rest i (omega arith) }
