@@ -120,8 +120,7 @@ def listed():
         line = line.split('#')[0]
         if line.strip():
             name, used = line.split(':')
-            # a static library has that word behind its name
-            uses[name.split()[0]] = used.split()
+            uses[name.strip()] = used.split()
     return uses
 
 
