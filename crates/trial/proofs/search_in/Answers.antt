@@ -10,4 +10,4 @@ pub round_of-round-requires : goal.round_of-round-requires
 round_of-round-requires c = searchable_positive c.requires.searchable
 
 pub search-requires : goal.search-requires
-search-requires c = let r = c.requires in record { searchable = (r.searchable, c.round_of-round.ensures); remembers = blank_remembers r.searchable c.list_carriers.ensures r.1.1 r.1.2 }
+search-requires c = let r = c.requires in record { searchable = (r.searchable, c.round_of-round.ensures); remembers = blank_remembers r.searchable c.list_carriers.ensures r.carriers_end_in_bounds.1 r.carriers_end_in_bounds.2 }
