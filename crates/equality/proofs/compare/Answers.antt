@@ -31,7 +31,7 @@ returns-then-forth-eq0 c =
     let i = c.find_stop-back.ensures in
     let s = c.settle_from.ensures in record { compared_by = λ v r.
           let b = both_stopped r h.only i.only h.stops_by i.stops_by in
-          compares_second b c.if-forth-eq0.true (s.0 v b.second) c.sided.ensures; only = only_then (only_then h.only i.only) s.only; out_len_unchanged = s.out_len_unchanged }
+          compares_second b c.if-forth-eq0.true (s.settles_from v b.second) c.sided.ensures; only = only_then (only_then h.only i.only) s.only; out_len_unchanged = s.out_len_unchanged }
 
 pub settle_from-requires-then-back-eq0 : goal.settle_from-requires-then-back-eq0
 settle_from-requires-then-back-eq0 c =
@@ -52,7 +52,7 @@ returns-then-back-eq0 c =
     let i = c.find_stop-back.ensures in
     let s = c.settle_from-then-back-eq0.ensures in record { compared_by = λ v r.
           let b = both_stopped r h.only i.only h.stops_by i.stops_by in
-          compares_first b c.if-back-eq0.true (s.0 v b.first) c.sided-then-back-eq0.ensures; only = only_then (only_then h.only i.only) s.only; out_len_unchanged = s.out_len_unchanged }
+          compares_first b c.if-back-eq0.true (s.settles_from v b.first) c.sided-then-back-eq0.ensures; only = only_then (only_then h.only i.only) s.only; out_len_unchanged = s.out_len_unchanged }
 
 pub compare_split-requires : goal.compare_split-requires
 compare_split-requires c =
@@ -72,4 +72,4 @@ returns c =
     let h = c.find_stop-forth.ensures in
     let i = c.find_stop-back.ensures in
     let s = c.compare_split.ensures in
-    record { compared_by = λ v r. s.compared_from v (both_stopped r h.only i.only h.stops_by i.0); only = only_then (only_then h.only i.only) s.only; out_len_unchanged = s.out_len_unchanged }
+    record { compared_by = λ v r. s.compared_from v (both_stopped r h.only i.only h.stops_by i.stops_by); only = only_then (only_then h.only i.only) s.only; out_len_unchanged = s.out_len_unchanged }

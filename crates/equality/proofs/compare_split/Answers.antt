@@ -58,7 +58,7 @@ differ-requires c =
     let b = r.1 in
     let many = h.counts r.0 (ready_accepts b.first.ready) _ y in
     let more = i.counts r.0 (ready_accepts (second_still b h.only).ready) _ x in
-    record { by_index = (r.0, compares_none c.args.out.now b n many more c.if-many-more.false (only_then h.only i.1)); both_ends = (x, y) }
+    record { by_index = (r.0, compares_none c.args.out.now b n many more c.if-many-more.false (only_then h.only i.only)); both_ends = (x, y) }
 
 pub shape_of-work : goal.shape_of-work
 shape_of-work c = c.differ.ensures.only.size ∙ c.has_too_many-more.ensures.only.size ∙ c.has_too_many-many.ensures.only.size
@@ -76,6 +76,6 @@ returns c =
     let d = c.differ.ensures in
     let o = only_then h.only i.only in record { compared_from = λ v b.
           let many = h.counts v (ready_accepts b.first.ready) _ y in
-          let more = i.counts v (ready_accepts (second_still b h.1).ready) _ x in
+          let more = i.counts v (ready_accepts (second_still b h.only).ready) _ x in
           let none = compares_none c.args.out.now b n many more c.if-many-more.false o in
-          compares_both c.args.out.now b n many more c.if-many-more.false (d.0 v none); only = only_then o d.only; out_len_unchanged = d.out_len_unchanged }
+          compares_both c.args.out.now b n many more c.if-many-more.false (d.difference_by v none); only = only_then o d.only; out_len_unchanged = d.out_len_unchanged }

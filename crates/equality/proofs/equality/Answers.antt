@@ -46,4 +46,4 @@ returns c =
     let g = c.prepare-f.ensures in
     let s = c.compare-comparison.ensures in
     let t = s.compared_by a.v.now (pair_ready (accepted_input a.v.now a.p.now a.q.now (done_before r z)) (done_full r z) g.only g.prepared) in
-    equality_post (done_answered r z {told = compared a.v.now a.p.now a.q.now (length a.out.now)} (compared_late _ _ _ _) t.answer t.output (worked g.only s.1.0) c.clear.ensures)
+    equality_post (done_answered r z {told = compared a.v.now a.p.now a.q.now (length a.out.now)} (compared_late _ _ _ _) t.answer t.output (worked g.only s.only) c.clear.ensures)
