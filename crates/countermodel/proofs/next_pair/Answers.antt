@@ -1,10 +1,10 @@
 use borrow.Author.Rules.{rules}
 use Prim.Native.Nat.{◌-◌, ◌≤◌, ℕ}
-use mathlib.Core.Logic.{⊎_elim}
 use mathlib.Core.Path.{◌∙◌, ◌≡◌, subst, sym}
 use native.Mathlib.Omega.{arith}
 use Rattle.countermodel.proofs.Pairs.{Best, best_kept, best_new, best_next, best_start}
 use Rattle.countermodel.proofs.next_pair.Goals as goal
+use Rattle.countermodel.proofs.next_pair.Goals.{else-is_better, then-is_better}
 
 pub loop-i-init : goal.loop-i-init
 loop-i-init c = (search rules, search rules, best_start _ _ _ _)
@@ -15,10 +15,10 @@ loop-i-preserved c =
     let l = c.loop-i in
     let told = c.is_better.ensures in
     let more = c.loop-i-test.true in
-    ⊎_elim
-    (λ v. (search rules, omega (arith, v.1), rw v.1 (best_new a.work.now a.n a.x a.m l.i l.best l.invariant.2 (sym told ∙ v.0.taken) more)))
-    (λ v. (search rules, omega (arith, v.1), rw v.1 (best_kept a.work.now a.n a.x a.m l.i l.best l.invariant.2 (sym told ∙ v.0.left))))
-    c.if-is_better.branch
+    elim c.if-is_better.branch [
+        then-is_better v ↦ (search rules, omega arith, rw v.best-is (best_new a.work.now a.n a.x a.m l.i l.best l.invariant.2 (sym told ∙ v.if-is_better.true) more))
+        | else-is_better v ↦ (search rules, omega arith, rw v.best-is (best_kept a.work.now a.n a.x a.m l.i l.best l.invariant.2 (sym told ∙ v.if-is_better.false)))
+    ]
 
 pub returns : goal.returns
 returns c =

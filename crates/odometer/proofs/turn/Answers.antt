@@ -1,10 +1,10 @@
 -- `turn`: the next piece, or the first.
 use borrow.Author.Rules.{rules}
-use mathlib.Core.Logic.{⊎_elim}
 use lib.Dec.{T}
 use mathlib.Core.Path.{◌∙◌, subst, sym}
 use Rattle.odometer.proofs.Turning.{turn_back, turn_on}
 use Rattle.odometer.proofs.turn.Goals as goal
+use Rattle.odometer.proofs.turn.Goals.{else-relied, then-relied+else-p-hi}
 
 pub returns-then-p-hi : goal.returns-then-p-hi
 returns-then-p-hi c = search turn_on
@@ -12,4 +12,4 @@ returns-then-p-hi c = search turn_on
 pub returns : goal.returns
 returns c =
     turn_back c.requires.0 c.requires.1 c.lo_of-lo.ensures c.hi_of-hi.ensures c.piece_hi-p.ensures
-    (λ y. ⊎_elim (λ x. x.1.left) (λ x. absurd (subst T (sym y ∙ x.left) tt)) c.if-relied.branch) c.put_piece-2.ensures
+    (λ y. elim c.if-relied.branch [ then-relied+else-p-hi x ↦ x.if-p-hi.false | else-relied x ↦ absurd (subst T (sym y ∙ x.if-relied.false) tt) ]) c.put_piece-2.ensures

@@ -72,7 +72,7 @@ pub test_recalled-remember-requires : goal.test_recalled-remember-requires
 test_recalled-remember-requires t c = search (individual_few, settled_small)
 
 pub test_recalled-returns-then-one-eq0 : goal.test_recalled-returns-then-one-eq0
-test_recalled-returns-then-one-eq0 t c = let p = c.requires in recalled_noted p.fact.0 c.slot_of-slot.ensures c.recall-state.ensures c.test_anew-one.ensures c.if-one-eq0.true c.settled.ensures c.remember.ensures
+test_recalled-returns-then-one-eq0 t c = let p = c.requires in recalled_noted p.asked c.slot_of-slot.ensures c.recall-state.ensures c.test_anew-one.ensures c.if-one-eq0.true c.settled.ensures c.remember.ensures
 
 pub test_role-test_carriers-requires : goal.test_role-test_carriers-requires
 test_role-test_carriers-requires t c = search (rules, role_below)
@@ -90,13 +90,13 @@ pub test_role-remember_open-requires : goal.test_role-remember_open-requires
 test_role-remember_open-requires t c = search (rules, individual_few)
 
 pub test_role-test_carriers-one-requires : goal.test_role-test_carriers-one-requires
-test_role-test_carriers-one-requires t c = let p = c.requires.k_value in (omega arith, role_below p.0 p.1 c.name_of.ensures c.child_of-child.ensures (role_noted p.0 p.1 c.name_of.ensures c.child_of-child.ensures c.test_still-still.ensures c.if-still.false c.remember_open.ensures))
+test_role-test_carriers-one-requires t c = let p = c.requires in (omega arith, role_below p.pending p.k_value c.name_of.ensures c.child_of-child.ensures (role_noted p.pending p.k_value c.name_of.ensures c.child_of-child.ensures c.test_still-still.ensures c.if-still.false c.remember_open.ensures))
 
 pub test_role-returns-then-one : goal.test_role-returns-then-one
-test_role-returns-then-one t c = let p = c.requires.k_value in role_carried p.0 p.1 c.name_of.ensures c.child_of-child.ensures c.test_carriers-one.ensures c.if-one.true
+test_role-returns-then-one t c = let p = c.requires in role_carried p.pending p.k_value c.name_of.ensures c.child_of-child.ensures c.test_carriers-one.ensures c.if-one.true
 
 pub test_role-returns : goal.test_role-returns
-test_role-returns t c = let p = c.requires.k_value in role_none p.0 p.1 c.name_of.ensures c.child_of-child.ensures c.test_still-still.ensures c.if-still.false c.test_carriers-one.ensures c.if-one.false (search rules) (search rules)
+test_role-returns t c = let p = c.requires in role_none p.pending p.k_value c.name_of.ensures c.child_of-child.ensures c.test_still-still.ensures c.if-still.false c.test_carriers-one.ensures c.if-one.false (search rules) (search rules)
 
 pub test_row-returns-then-role-r : goal.test_row-returns-then-role-r
 test_row-returns-then-role-r t c = search (rules, row_other)

@@ -1,0 +1,12 @@
+use borrow.Author.Rules.{rules}
+use Prim.Native.Nat.{◌-◌}
+use native.Mathlib.Omega.{arith}
+use Rattle.extension.proofs.Columns.{Filling, filling_ends, filling_on, filling_starts}
+use Rattle.satisfaction.proofs.Statements.{Counting, counting_ends, counting_on, counting_starts}
+use Rattle.extension.proofs.fill_column.Given as goal
+
+abbrev pub invariant-loop-j : goal.invariant-loop-j
+invariant-loop-j l = Counting (Filling l.p l.m l.work l.k l.initial.columns l.columns) l.n l.j
+
+abbrev pub decreases-loop-j : goal.decreases-loop-j
+decreases-loop-j l = l.n - l.j

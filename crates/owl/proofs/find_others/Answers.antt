@@ -1,0 +1,6 @@
+use borrow.Author.Rules.{rules}
+use Rattle.owl.proofs.Others.{others_only}
+use Rattle.owl.proofs.find_others.Goals as goal
+
+pub returns : goal.returns
+returns c = others_only c.requires c.args.names.now c.insert_others.ensures

@@ -1,0 +1,5 @@
+use borrow.Author.Rules.{rules}
+use Rattle.owl.proofs.put.Goals as goal
+
+pub returns : goal.returns
+returns c = rw (← c.link.ensures) c.put_four.ensures.is

@@ -1,0 +1,15 @@
+-- `are_few`: the product of the dials before d fits.
+use borrow.Author.Rules.{rules}
+use Prim.Native.Nat.{◌-◌, ◌≤◌}
+use mathlib.Core.Path.{◌≡◌}
+use lib.ListN.{length}
+use native.Mathlib.Omega.{arith}
+use Rattle.trial.proofs.Rounds.{Within, within_on}
+use Rattle.trial.specs.Trials.{Positive}
+use Rattle.trial.proofs.are_few.Given as goal
+
+abbrev pub invariant-loop-d : goal.invariant-loop-d
+invariant-loop-d l = (l.d ≤ length l.counts) × (l.d-end ≡ length l.counts) × Positive l.counts × Within 2 l.all
+
+abbrev pub decreases-loop-d : goal.decreases-loop-d
+decreases-loop-d l = l.d-end - l.d

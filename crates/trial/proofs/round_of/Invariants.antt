@@ -1,0 +1,14 @@
+-- `round_of`: the product of the dials behind d fits.
+use borrow.Author.Rules.{rules}
+use Prim.Native.Nat.{◌-◌, ◌≤◌}
+use lib.ListN.{length}
+use native.Mathlib.Omega.{arith}
+use Rattle.trial.proofs.Rounds.{Within, within_on}
+use Rattle.trial.specs.Trials.{Positive}
+use Rattle.trial.proofs.round_of.Given as goal
+
+abbrev pub invariant-loop-d : goal.invariant-loop-d
+invariant-loop-d l = (l.d ≤ length l.counts) × Positive l.counts × Within 1024 l.round
+
+abbrev pub decreases-loop-d : goal.decreases-loop-d
+decreases-loop-d l = l.d

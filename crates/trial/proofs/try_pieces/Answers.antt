@@ -1,0 +1,32 @@
+-- `try_pieces`.
+use mathlib.Core.Path.{refl}
+use borrow.Author.Rules.{rules}
+use Rattle.trial.proofs.Starting.{searchable_positive, tried_kept, triable_split, turnable_kept, turnable_searchable}
+use Rattle.trial.proofs.try_pieces.Goals as goal
+
+pub count_pieces-requires : goal.count_pieces-requires
+count_pieces-requires c =
+    let r = c.requires in
+    let k = turnable_kept r.turnable c.start.ensures.only in
+    record { split = triable_split k.triable; dialled = k.dialled; size = r.counts_len.0 }
+
+pub are_few-requires : goal.are_few-requires
+are_few-requires c = searchable_positive {earlier = c.args.dials.now} (turnable_searchable c.requires.turnable c.start.ensures c.count_pieces.ensures refl)
+
+pub search_few-requires : goal.search_few-requires
+search_few-requires c = let r = c.requires in turnable_searchable r.turnable c.start.ensures c.count_pieces.ensures r.counts_len.1
+
+pub returns-then-are_few : goal.returns-then-are_few
+returns-then-are_few c = tried_kept c.requires.turnable c.start.ensures.only c.search_few.ensures
+
+pub search_short-requires : goal.search_short-requires
+search_short-requires c = let r = c.requires in turnable_searchable r.turnable c.start.ensures c.count_pieces.ensures r.counts_len.1
+
+pub returns-then-q-le-SHORT : goal.returns-then-q-le-SHORT
+returns-then-q-le-SHORT c = tried_kept c.requires.turnable c.start.ensures.only c.search_short.ensures
+
+pub search_long-requires : goal.search_long-requires
+search_long-requires c = let r = c.requires in turnable_searchable r.turnable c.start.ensures c.count_pieces.ensures r.counts_len.1
+
+pub returns : goal.returns
+returns c = tried_kept c.requires.turnable c.start.ensures.only c.search_long.ensures

@@ -1,0 +1,10 @@
+use borrow.Author.Rules.{rules}
+use mathlib.Core.Path.{◌∙◌}
+use Rattle.writing.proofs.Counting.{long_deep, long_many}
+use Rattle.writing.proofs.is_too_long.Goals as goal
+
+pub returns-then-place-gt-MOST_RECORDS : goal.returns-then-place-gt-MOST_RECORDS
+returns-then-place-gt-MOST_RECORDS c = long_many _ (c.place.ensures ∙ c.count_records.ensures c.args.depths.now) c.if-place-gt-MOST_RECORDS.true
+
+pub returns : goal.returns
+returns c = long_deep _ (c.place.ensures ∙ c.count_records.ensures c.args.depths.now) c.if-place-gt-MOST_RECORDS.false c.is_too_deep.ensures

@@ -1,0 +1,5 @@
+use borrow.Author.Rules.{rules}
+use Rattle.writing.proofs.put.Goals as goal
+
+pub returns : goal.returns
+returns c = rw (← c.place.ensures) c.put_six.ensures.is
