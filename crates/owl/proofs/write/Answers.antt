@@ -23,7 +23,7 @@ overflow_add-last-2 c = let p = c.requires in
 pub returns-then-last-gt-MOST_AXIOMS : goal.returns-then-last-gt-MOST_AXIOMS
 returns-then-last-gt-MOST_AXIOMS c = let p = c.requires in
     let all = last_record p.ready.0 p.text_value.1 (c.place.ensures ∙ c.count.ensures) (c.place-2.ensures ∙ c.count-2.ensures) in
-    refused _ _ _ (too_many_lem p.ready.0 p.ready.2 p.1.0 all (omega (arith, c.if-last-gt-MOST_AXIOMS.true)))
+    refused _ _ _ (too_many_lem p.ready.0 p.ready.2 p.text_value.0 all (omega (arith, c.if-last-gt-MOST_AXIOMS.true)))
 
 pub overflow_add-size : goal.overflow_add-size
 overflow_add-size c = omega (arith, c.if-last-gt-MOST_AXIOMS.false)
@@ -34,17 +34,17 @@ overflow_mul-size c = omega (arith, c.if-last-gt-MOST_AXIOMS.false)
 pub returns-then-out-size : goal.returns-then-out-size
 returns-then-out-size c = let p = c.requires in
     let all = last_record p.ready.0 p.text_value.1 (c.place.ensures ∙ c.count.ensures) (c.place-2.ensures ∙ c.count-2.ensures) in
-    too_short p.ready.0 p.ready.2 p.1.0 all c.if-last-gt-MOST_AXIOMS.false _ c.if-out-size.true
+    too_short p.ready.0 p.ready.2 p.text_value.0 all c.if-last-gt-MOST_AXIOMS.false _ c.if-out-size.true
 
 pub write_all-requires : goal.write_all-requires
 write_all-requires c = let p = c.requires in
     let all = last_record p.ready.0 p.text_value.1 (c.place.ensures ∙ c.count.ensures) (c.place-2.ensures ∙ c.count-2.ensures) in
-    record { ready = (p.ready.0, p.ready.1, p.text_value.1); room_for = (words_room p.ready.0 p.ready.2 p.1.0 all c.if-last-gt-MOST_AXIOMS.false _ c.if-out-size.false, all) }
+    record { ready = (p.ready.0, p.ready.1, p.text_value.1); room_for = (words_room p.ready.0 p.ready.2 p.text_value.0 all c.if-last-gt-MOST_AXIOMS.false _ c.if-out-size.false, all) }
 
 pub shape_of-out : goal.shape_of-out
-shape_of-out c = c.write_all.auto.1.1.1.1.1.1.1.0
+shape_of-out c = c.write_all.auto.out
 
 pub returns : goal.returns
 returns c = let p = c.requires in
     let all = last_record p.ready.0 p.text_value.1 (c.place.ensures ∙ c.count.ensures) (c.place-2.ensures ∙ c.count-2.ensures) in
-    filled p.ready.0 p.ready.2 p.1.0 all c.if-last-gt-MOST_AXIOMS.false _ c.if-out-size.false c.write_all.ensures
+    filled p.ready.0 p.ready.2 p.text_value.0 all c.if-last-gt-MOST_AXIOMS.false _ c.if-out-size.false c.write_all.ensures
