@@ -1,8 +1,8 @@
 #!/usr/bin/env python3
 """comply.py PROGRAM WRAPPER: what the program tells where its input cannot be read or its answer cannot be written (SPECIFICATION 10.3).
 
-Each case has the status, standard output and standard error that it must have. The program cannot set its exit status: it is 0 unless a
-signal ends the program. The wrapper, scripts/comply, runs the program and ends with 2 where there was trouble. One example comes in pieces: no contract says that the bytes of several reads are put one behind another.
+Each case has the status, standard output and standard error that it must have. The program's exit status is 0 unless a signal ends it.
+The wrapper, scripts/comply, runs the program and ends with 2 where there was trouble. One example comes in pieces.
 """
 import os
 import signal
