@@ -1,4 +1,4 @@
-//! Links the static library that `rt staticlib exports` writes.
+//! Links the static library that `scripts/build exports` writes.
 
 use std::env;
 use std::path::{Path, PathBuf};
@@ -25,7 +25,7 @@ fn main() {
     } else {
         println!("cargo::error=the proved library is not there: {}", library.display());
         println!(
-            "cargo::error=first run `rt staticlib exports` at the top of the repository: it proves the library, which takes minutes"
+            "cargo::error=first run `scripts/build exports` at the top of the repository: it proves the library, which takes minutes"
         );
         println!(
             "cargo::error=if the library stands elsewhere, say where: GIMBUKA_LIBRARY=FOLDER cargo .."

@@ -1,4 +1,4 @@
-/* The operations for C. Link with libexports.a, which `rt staticlib exports` writes.
+/* The operations for C. Link with libexports.a, which `scripts/build exports` writes to target/staticlib.
  *
  * A slice is a pointer and a number of elements. The pointer is aligned and not null, also where the number is 0. Slices and numbers
  * that are written overlap nothing else that is lent. The words of a slice may be anything: an operation takes any contents and ends.

@@ -44,7 +44,7 @@
 //!
 //! # What is linked
 //!
-//! `rt staticlib exports` proves the library and writes it to `target/staticlib`, where this package finds it. The environment variable
+//! `scripts/build exports` proves the library and writes it to `target/staticlib`, where this package finds it. The environment variable
 //! `GIMBUKA_LIBRARY` names another folder. The library is proved; this package, which calls it, is not.
 
 #![expect(unsafe_code, reason = "the static library's functions are called")]

@@ -1,20 +1,41 @@
 // Reads a vocabulary and two policies from standard input, and says whether the first policy complies with the second.
 #![tactic(auto)]
 
+ghost use Rattle.comply.specs.Run.{Ran};
+
 use meaning::limits::{MOST_BYTES, OUTPUT_SIZE, WORK_SIZE};
-use streams::Intake;
+use std::io::{Read, Write};
+use streams::{Delivery, Intake};
 use text::TEXT;
 
-fn main() {
+// What came of a run.
+#[derive(Clone, Copy)]
+enum Ending {
+    Answered,
+    Unread,
+    Unanswered,
+}
+
+// The program, whatever it reads from and writes to.
+fn run<I: Read, O: Write>(rt: &impl Eprint, input: &mut I, output: &mut O) -> Ending
+    ensures { Ran (I.remaining input.old) (O.contents output.old) (O.contents output.new) result }
+{
     // one byte more than the longest input, so that a longer one shows
-    let mut input = [0u8; MOST_BYTES + 1];
+    let mut bytes = [0u8; MOST_BYTES + 1];
     let mut words = [0u32; MOST_BYTES / 4];
     let mut work = [0u32; WORK_SIZE];
     let mut out = [0u32; OUTPUT_SIZE];
     let mut text = [0u8; TEXT];
-    let Intake::Bytes(n) = streams::read_input(&mut input) else {
-        return;
+    let Intake::Bytes(n) = streams::read_input(rt, input, &mut bytes) else {
+        return Ending::Unread;
     };
-    let r = desk::answer(&input[..n], &mut words, &mut work, &mut out, &mut text);
-    streams::write_answer(&text[..r]);
+    let r = desk::answer(&bytes[..n], &mut words, &mut work, &mut out, &mut text);
+    match streams::write_answer(rt, output, &text[..r]) {
+        Delivery::Written => Ending::Answered,
+        Delivery::Failed => Ending::Unanswered,
+    }
+}
+
+fn main(rt: HostRuntime) {
+    run(&rt, &mut rt.stdin(), &mut rt.stdout());
 }

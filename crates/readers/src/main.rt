@@ -4,7 +4,6 @@
 
 ghost use Rattle.std.specs.Prelude.{◌<◌};
 
-use libc::STDOUT_FILENO;
 use meaning::Reading;
 
 // A record of each kind; damage makes names that stand both ways, too.
@@ -21,64 +20,60 @@ const POLICY: [u32; 60] = [
 
 const VALUES: [u32; 15] = [0, 1, 2, 3, 4, 5, 6, 7, 8, 9, 10, 65, 256, 257, 4294967295];
 
-fn long(x: u32) -> u64 {
-    x as u64
+// What cannot be printed is left out: what must be printed shows it.
+fn print(rt: &impl Print, n: u32) {
+    let _ = println!(rt; "{n}");
 }
 
-fn print(n: u32) {
-    io::print_decimal(STDOUT_FILENO, long(n));
-    io::write_all(STDOUT_FILENO, b"\n");
-}
-
-fn say(r: Reading) {
+fn say(rt: &impl Print, r: Reading) {
     match r {
-        Reading::Accepted => print(0),
-        Reading::Refused(n) => print(n),
+        Reading::Accepted => print(rt, 0),
+        Reading::Refused(n) => print(rt, n),
     }
 }
 
 // The first n words.
-fn vocabulary_to(v: &[u32], n: usize) {
+fn vocabulary_to(rt: &impl Print, v: &[u32], n: usize) {
     if n <= v.len() {
-        say(vocabulary::read_vocabulary(&v[..n]));
+        say(rt, vocabulary::read_vocabulary(&v[..n]));
     }
 }
 
-fn policy_to(v: &[u32], p: &[u32], n: usize) {
+fn policy_to(rt: &impl Print, v: &[u32], p: &[u32], n: usize) {
     if n <= p.len() {
-        say(policy::read_policy(v, &p[..n]));
+        say(rt, policy::read_policy(v, &p[..n]));
     }
 }
 
-fn vocabularies() {
+fn vocabularies(rt: &impl Print) {
     for n in 0..45usize {
-        vocabulary_to(&VOCABULARY, n);
+        vocabulary_to(rt, &VOCABULARY, n);
     }
     for i in 0..44usize {
         for j in 0..15usize {
             let mut damaged = VOCABULARY;
             damaged[i] = VALUES[j];
-            say(vocabulary::read_vocabulary(&damaged));
+            say(rt, vocabulary::read_vocabulary(&damaged));
         }
     }
 }
 
-fn policies() {
+fn policies(rt: &impl Print) {
     for n in 0..61usize {
-        policy_to(&VOCABULARY, &POLICY, n);
+        policy_to(rt, &VOCABULARY, &POLICY, n);
     }
     for i in 0..60usize {
         for j in 0..15usize {
             let mut damaged = POLICY;
             damaged[i] = VALUES[j];
-            say(policy::read_policy(&VOCABULARY, &damaged));
-            say(policy::read_second_policy(&VOCABULARY, &damaged));
+            say(rt, policy::read_policy(&VOCABULARY, &damaged));
+            say(rt, policy::read_second_policy(&VOCABULARY, &damaged));
         }
     }
 }
 
 // A term of n roles, each the child of the one before: 16 are read, and one more is too deep.
-fn nested(n: usize)
+fn nested(rt: &impl Print, n: usize)
     requires { n < 20 }
 {
     let mut p = [0u32; 132];
@@ -91,13 +86,13 @@ fn nested(n: usize)
         p[6 * k + 4] = (k + 1) as u32;
     }
     p[6 * (n + 1) + 4] = 0;
-    policy_to(&VOCABULARY, &p, 6 * (n + 2));
+    policy_to(rt, &VOCABULARY, &p, 6 * (n + 2));
 }
 
-fn main() {
-    vocabularies();
-    policies();
+fn main(rt: HostRuntime) {
+    vocabularies(&rt);
+    policies(&rt);
     for n in 1..20usize {
-        nested(n);
+        nested(&rt, n);
     }
 }

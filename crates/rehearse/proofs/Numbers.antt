@@ -1,18 +1,18 @@
 -- An argument's digits, one after another. Assumes nothing.
 use Prim.Native.Nat.{◌*◌, ◌+◌, ◌-◌, ◌<◌, ◌≤◌, ℕ}
-use mathlib.Core.Bool.{Bool, cond, false, not, true}
+use mathlib.Core.Bool.{Bool, cond, false, true}
 use mathlib.Core.List.{List, [], ◌∷◌}
 use mathlib.Core.Path.{◌∙◌, ◌≡◌, refl, sym}
 use native.Mathlib.Numerals.{add-one}
 use native.Mathlib.Omega.{arith}
 use lib.ListN.{drop, drop_of_length-le, get_or, length}
 use lib.Seq.{drop-cons}
-use borrow.Author.Tests.{le-leb, lt-leb, not-false, not-true}
+use borrow.Author.Tests.{le-leb, lt-leb}
 use Rattle.rehearse.specs.Arguments.{is_digit, most_word, number_from, number_of}
 use Rattle.theory.proofs.Links.{bounds}
 
-pub digit_bounds : (b : ℕ) {d : Bool} → d ≡ is_digit b → not d ≡ false → (48 ≤ b) × (b ≤ 57)
-digit_bounds b {d} e h = let f : is_digit b ≡ true = sym e ∙ not-false d h in simp bounds at f
+pub digit_bounds : (b : ℕ) {d : Bool} → d ≡ is_digit b → d ≡ true → (48 ≤ b) × (b ≤ 57)
+digit_bounds b {d} e h = let f : is_digit b ≡ true = sym e ∙ h in simp bounds at f
 
 -- a number that no word holds stays one, whatever follows
 too_great : (v : ℕ) (t : List ℕ) → most_word < v → number_from v t ≡ 0
@@ -42,12 +42,12 @@ module _ {t : List ℕ} {v i : ℕ} (g : DigitsLeft t v i) where
     next : number_of t ≡ cond d (number_from (10 * v + (get_or t i 0 - 48)) (drop (i + 1) t)) 0
     next = g.same ∙ rw (drop-cons t i 0 l, e, add-one i)
 
-    pub no_digit : not d ≡ true → 0 ≡ number_of t
-    no_digit h = sym (next ∙ rw (not-true d h))
+    pub no_digit : d ≡ false → 0 ≡ number_of t
+    no_digit h = sym (next ∙ rw h)
 
-    module _ (h : not d ≡ false) {x : ℕ} (f : x ≡ get_or t i 0 - 48) where
+    module _ (h : d ≡ true) {x : ℕ} (f : x ≡ get_or t i 0 - 48) where
       pub no_word : most_word < 10 * v + x → 0 ≡ number_of t
-      no_word k = sym (next ∙ rw (not-false d h) (too_great _ (drop (i + 1) t) (rw f at k)))
+      no_word k = sym (next ∙ rw h (too_great _ (drop (i + 1) t) (rw f at k)))
 
       pub digits_more : 10 * v + x ≤ most_word → DigitsLeft t (10 * v + x) (i + 1)
-      digits_more k = record { small = k; same = next ∙ rw (not-false d h, f) }
+      digits_more k = record { small = k; same = next ∙ rw (h, f) }

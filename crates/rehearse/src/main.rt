@@ -2,14 +2,16 @@
 // Which arguments come, and where the bytes go, no contract can say: `put_load` is the program as a function.
 #![tactic(auto)]
 
-ghost use Rattle.std.specs.Prelude.{◌≡◌, ◌*◌, ◌-◌, ◌≤◌, length, take};
+ghost use Rattle.std.specs.Prelude.{◌≡◌, ◌*◌, ◌-◌, ◌≤◌, IfSome, length, take};
 ghost use Rattle.rehearse.specs.Arguments.{is_digit, load_bytes, most_load, number_of};
+ghost use Rattle.rehearse.specs.Delivery.{WasWritten};
 
 use input::encode;
-use libc::{STDERR_FILENO, STDOUT_FILENO};
 use meaning::Filling;
 use meaning::limits::MOST_CLASSES;
 use rehearsal::{MOST_TERMS, rehearse};
+use std::env::{Env, FillError};
+use std::io::Write;
 
 // The words of the longest load.
 const MOST_LOAD: usize = 3 + 4 * (MOST_CLASSES as usize + 1) + 12 * (3 * MOST_TERMS as usize + 1);
@@ -66,44 +68,92 @@ fn put_load(seed: &[u8], classes: &[u8], terms: &[u8], words: &mut [u32], bytes:
 
 // ---- the program
 
+// An argument stands at the front of the buffer, in so many bytes; there may be no such argument. One that is longer than the buffer is
+// read as none, and none is no number.
+fn argument<E: Env>(rt: &E, i: usize, buffer: &mut [u8]) -> Option<usize>
+    ensures { IfSome result (λ n. n ≤ length buffer.new) }
+{
+    match rt.arg(i, buffer) {
+        Ok(n) => Some(n),
+        Err(FillError::TooLong) => Some(0),
+        Err(FillError::NotPresent) => None,
+    }
+}
+
+fn tell_usage(rt: &impl Eprint) {
+    let _ = eprintln!(rt; "usage: rehearse SEED CLASSES TERMS");
+}
+
 // A text cannot cite MOST_SEED, MOST_CLASSES and MOST_TERMS.
-fn tell_refused() {
-    io::write_all(
-        STDERR_FILENO,
-        b"rehearse: refused 45: SEED is from 1 to 2147483646, CLASSES from 1 to 256, TERMS from 1 to 100\n",
+fn tell_refused(rt: &impl Eprint) {
+    let _ = eprintln!(rt;
+        "rehearse: refused 45: SEED is from 1 to 2147483646, CLASSES from 1 to 256, TERMS from 1 to 100"
     );
 }
 
-fn write_load(bytes: &[u8]) {
-    if bytes.len() == 0 {
-        tell_refused();
-        return;
+fn tell_unwritten(rt: &impl Eprint) {
+    let _ = eprintln!(rt; "rehearse: the load cannot be written");
+}
+
+// What came of writing a load.
+#[derive(Clone, Copy)]
+pub enum Delivery {
+    Written,
+    Refused,
+    Failed,
+}
+
+fn write_load<W: Write>(rt: &impl Eprint, output: &mut W, bytes: &[u8]) -> Delivery
+    ensures { WasWritten (W.contents output.old) (W.contents output.new) result bytes.now }
+{
+    if bytes.is_empty() {
+        tell_refused(rt);
+        return Delivery::Refused;
     }
-    if !io::write_all(STDOUT_FILENO, bytes) {
-        io::write_all(STDERR_FILENO, b"rehearse: the load cannot be written\n");
+    match output.write_all(bytes) {
+        Ok(()) => Delivery::Written,
+        Err(_) => {
+            tell_unwritten(rt);
+            Delivery::Failed
+        }
     }
 }
 
-fn main() {
-    if os::arg_count() != 4 {
-        io::write_all(STDERR_FILENO, b"usage: rehearse SEED CLASSES TERMS\n");
-        return;
-    }
-    // an argument that is longer than this is read as none, and none is no number
+// From the arguments to what is written, whatever the writer.
+fn give_load<W: Write>(
+    rt: &impl Eprint,
+    seed: &[u8],
+    classes: &[u8],
+    terms: &[u8],
+    output: &mut W,
+) -> Delivery
+    ensures { WasWritten (W.contents output.old) (W.contents output.new) result
+        (load_bytes seed.now classes.now terms.now) }
+{
+    let mut words = [0u32; MOST_LOAD];
+    let mut bytes = [0u8; 4 * MOST_LOAD];
+    let n = put_load(seed, classes, terms, &mut words, &mut bytes);
+    write_load(rt, output, &bytes[..n])
+}
+
+fn main(rt: HostRuntime) {
     let mut seed = [0u8; 16];
     let mut classes = [0u8; 16];
     let mut terms = [0u8; 16];
-    let mut words = [0u32; MOST_LOAD];
-    let mut bytes = [0u8; 4 * MOST_LOAD];
-    let s = os::arg(1, &mut seed);
-    let c = os::arg(2, &mut classes);
-    let t = os::arg(3, &mut terms);
-    let n = put_load(
+    let (Some(s), Some(c), Some(t), None) = (
+        argument(&rt, 1, &mut seed),
+        argument(&rt, 2, &mut classes),
+        argument(&rt, 3, &mut terms),
+        argument(&rt, 4, &mut []),
+    ) else {
+        tell_usage(&rt);
+        return;
+    };
+    give_load(
+        &rt,
         &seed[..s],
         &classes[..c],
         &terms[..t],
-        &mut words,
-        &mut bytes,
+        &mut rt.stdout(),
     );
-    write_load(&bytes[..n]);
 }

@@ -1,11 +1,12 @@
-// Standard input read, an answer written, and what is told on standard error where either fails. Which bytes are read and written no
-// contract can say.
+// Standard input read, an answer written, and what is told on standard error where either fails. Which bytes the system gives and takes no
+// contract can say; of a reader that says which bytes it has left, and a writer that says which it holds, the clauses do.
 #![tactic(auto)]
 
-ghost use Rattle.std.specs.Prelude.{◌-◌, ◌≤◌, ◌≡◌, length};
-ghost use Rattle.streams.specs.Streams.{Fits, Held, brought_by};
+ghost use Rattle.std.specs.Prelude.{◌-◌, ◌≤◌, ◌≡◌, drop, length, take};
+ghost use Rattle.streams.specs.Streams.{Fits, Held, Took, WasRead, WasWritten, brought_by};
 
-use libc::{STDERR_FILENO, STDIN_FILENO, STDOUT_FILENO};
+use std::io;
+use std::io::{Read, Write};
 
 // What one read brought.
 #[derive(Clone, Copy)]
@@ -22,44 +23,52 @@ pub enum Intake {
     Failed,
 }
 
+// What came of writing an answer.
+#[derive(Clone, Copy)]
+pub enum Delivery {
+    Written,
+    Failed,
+}
+
 // What the answer of a read says.
-fn brought_by(got: isize) -> Brought
+fn brought_by(got: io::Result<usize>) -> Brought
     ensures { result ≡ brought_by got }
 {
-    if got < 0 {
-        return Brought::Failure;
+    match got {
+        Ok(0) => Brought::End,
+        Ok(n) => Brought::Bytes(n),
+        Err(_) => Brought::Failure,
     }
-    if got > 0 {
-        return Brought::Bytes(got as usize);
-    }
-    Brought::End
 }
 
 // One read into the buffer, from a place on.
-fn read_from(buffer: &mut [u8], from: usize) -> Brought
+fn read_from<R: Read>(input: &mut R, buffer: &mut [u8], from: usize) -> Brought
     requires { from ≤ length buffer.old }
-    ensures { Fits result (length buffer.old - from) }
+    ensures fits { Fits result (length buffer.old - from) }
+    ensures before { take from buffer.new ≡ take from buffer.old }
+    ensures bytes { Took (R.remaining input.old) (R.remaining input.new) result (drop from buffer.new) }
 {
-    let got = libc::read(STDIN_FILENO, &mut buffer[from..]);
+    let got = input.read(&mut buffer[from..]);
     brought_by(got)
 }
 
-fn tell_unread() {
-    io::write_all(STDERR_FILENO, b"comply: the input cannot be read\n");
+fn tell_unread(rt: &impl Eprint) {
+    let _ = eprintln!(rt; "comply: the input cannot be read");
 }
 
-// Reads until the input ends or the buffer is full. io::read_full does not tell the end from a failure.
-pub fn read_input(buffer: &mut [u8]) -> Intake
-    ensures { Held result buffer.new }
+// Reads until the input ends or the buffer is full.
+pub fn read_input<R: Read>(rt: &impl Eprint, input: &mut R, buffer: &mut [u8]) -> Intake
+    ensures held { Held result buffer.new }
+    ensures bytes { WasRead (R.remaining input.old) (R.remaining input.new) result buffer.new }
 {
     let mut done = 0;
     while done < buffer.len() {
-        let brought = read_from(buffer, done);
+        let brought = read_from(input, buffer, done);
         match brought {
             Brought::Bytes(n) => done += n,
             Brought::End => return Intake::Bytes(done),
             Brought::Failure => {
-                tell_unread();
+                tell_unread(rt);
                 return Intake::Failed;
             }
         }
@@ -67,8 +76,18 @@ pub fn read_input(buffer: &mut [u8]) -> Intake
     Intake::Bytes(done)
 }
 
-pub fn write_answer(answer: &[u8]) {
-    if !io::write_all(STDOUT_FILENO, answer) {
-        io::write_all(STDERR_FILENO, b"comply: the answer cannot be written\n");
+fn tell_unwritten(rt: &impl Eprint) {
+    let _ = eprintln!(rt; "comply: the answer cannot be written");
+}
+
+pub fn write_answer<W: Write>(rt: &impl Eprint, output: &mut W, answer: &[u8]) -> Delivery
+    ensures { WasWritten (W.contents output.old) (W.contents output.new) result answer.now }
+{
+    match output.write_all(answer) {
+        Ok(()) => Delivery::Written,
+        Err(_) => {
+            tell_unwritten(rt);
+            Delivery::Failed
+        }
     }
 }

@@ -1,0 +1,2 @@
+-- What is promised of a run.
+pub mod Running

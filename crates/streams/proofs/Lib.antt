@@ -1,2 +1,0 @@
--- Laws that the functions' proofs cite; comply cites one, too.
-pub mod Reading
