@@ -1,11 +1,10 @@
 #!/usr/bin/env python3
 """comply.py PROGRAM WRAPPER: what the program tells where its input cannot be read or its answer cannot be written (SPECIFICATION 10.3).
 
-Each case has the status, standard output and standard error that it must have. The program's exit status is 0 unless a signal ends it.
+Each case has the status, standard output and standard error that it must have. The program's exit status is 0.
 The wrapper, scripts/comply, runs the program and ends with 2 where there was trouble. One example comes in pieces.
 """
 import os
-import signal
 import subprocess
 import sys
 import time
@@ -43,7 +42,7 @@ def redirected(program, redirections):
 
 
 def unread_pipe(program, is_ignored):
-    """Standard output is a pipe that nobody reads; the signal for that is ignored or ends the program."""
+    """Standard output is a pipe that nobody reads; the program begins with the signal for that ignored or not, and ignores it."""
     reading, writing = os.pipe()
     os.close(reading)
     # Python ignores the signal, and so does what it starts unless it is told to restore it
@@ -74,12 +73,12 @@ def waiting(program):
     return run.returncode, run.stdout, run.stderr
 
 
-def cases(program, trouble, killed):
-    """The name of each case, what the program did, and what it must do: with this status in trouble, and this where a signal ends it."""
+def cases(program, trouble):
+    """The name of each case, what the program did, and what it must do: with this status in trouble."""
     for name, (redirections, output, error) in REDIRECTED.items():
         yield name, redirected(program, redirections), (0 if output else trouble, output, error)
     yield 'a pipe that nobody reads, the signal ignored', unread_pipe(program, True), (trouble, b'', UNWRITTEN)
-    yield 'a pipe that nobody reads', unread_pipe(program, False), (killed, b'', b'')
+    yield 'a pipe that nobody reads', unread_pipe(program, False), (trouble, b'', UNWRITTEN)
     yield 'an input that has nothing yet', waiting(program), (trouble, b'', UNREAD)
     with open(os.path.join(HERE, PIECES + '.txt'), 'rb') as stored:
         yield 'an input in pieces', in_pieces(program), (0, stored.read(), b'')
@@ -87,8 +86,7 @@ def cases(program, trouble, killed):
 
 def main():
     program, wrapper = (os.path.abspath(path) for path in sys.argv[1:])
-    # a shell tells of a signal by 128 and its number
-    ways = [(program, 0, -signal.SIGPIPE), (wrapper, 2, 128 + signal.SIGPIPE)]
+    ways = [(program, 0), (wrapper, 2)]
     tried, failed = 0, 0
     for way in ways:
         for name, did, wanted in cases(*way):
