@@ -29,6 +29,7 @@ first_some (here h) = h
 first_some (later f) = first_some f
 
 pub first_all : {P : ℕ → Type 0} {n : ℕ} {l : List ℕ} → All P l → FirstRefusal n l → P n
+first_all {P = P} {n = n} nil x3 = elim x3 [ ]
 first_all (cons h t) (here k) = h
 first_all (cons h t) (later f) = first_all t f
 
