@@ -16,7 +16,7 @@ PAGE = 'docs/PROVED.md'
 CONTRACTS = {'requires', 'ensures'}
 DECLARES = re.compile(r' *(?:abbrev |unfoldable |pub )*(?:(?:record|data|mod) (\S+)|(\S+) : )')
 INNER = re.compile(r' *(?:(?:pub )?record .*|where)$')
-KIT = re.compile(r'use (?!Rattle)\S+\.\{(.*)\}')
+KIT = re.compile(r'use (?!Rattle\.(?!std\.))\S+\.\{(.*)\}')
 SOURCE = re.compile(r'\b(?:fn|struct|enum|const) (\w+)|\b(\w+): ')
 QUOTED = re.compile(r'`([^`]+)`')
 PLACED = re.compile(r'((?:`[^`\s]+`(?:, | and | ))+)\(`([^`]+)`')
@@ -62,7 +62,7 @@ def words(quoted):
     quoted = quoted.split()
     for word in quoted[:1] if '/' in quoted[0] else quoted:
         for part in [word.rstrip('/')] if '/' in word else re.split(r'[(){}.,:]+', word):
-            part = part.rstrip('′')
+            part = part.rstrip("'")
             if len(part) > 1 and any(c.isalpha() for c in part) and part not in CONTRACTS:
                 yield part
 

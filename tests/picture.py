@@ -120,7 +120,8 @@ def listed():
         line = line.split('#')[0]
         if line.strip():
             name, used = line.split(':')
-            uses[name.strip()] = used.split()
+            # behind the name may stand what kind of library it is
+            uses[name.split()[0]] = used.split()
     return uses
 
 

@@ -7,7 +7,7 @@ SPECIFICATION.md that an operation's link leads to has the line "Refusals, in or
 order in which its definition looks for them.
 
 The numbers are read from the text of the definitions, which stand in DEFINED. A number is given by `refused`, `refuses`, `fault` or
-`refusalAlong` with a numeral behind it, and in a definition whose name ends in Refusal by a clause or an arm of `cond` that is a
+`refusal_along` with a numeral behind it, and in a definition whose name ends in _refusal by a clause or an arm of `cond` that is a
 numeral. An operation gives what its definition names and what is given by those that it names. An arm that is written out is looked
 for before one that is a name of `let`, since the definitions bind by `let` what comes later.
 
@@ -22,14 +22,14 @@ from glob import glob
 TABLE, PAGE, HEADER = 'docs/REFUSALS.md', 'docs/SPECIFICATION.md', 'crates/exports/gimbuka.h'
 # the operations by their names in C, and the program: the name in the table, and the definition
 OPERATIONS = {
-    'read_vocabulary': ('Read vocabulary', 'readVocabulary'),
-    'read_policy': ('Read policy', 'readPolicy'),
-    'read_second_policy': ('Read second policy', 'readSecondPolicy'),
+    'read_vocabulary': ('Read vocabulary', 'read_vocabulary'),
+    'read_policy': ('Read policy', 'read_policy'),
+    'read_second_policy': ('Read second policy', 'read_second_policy'),
     'possible': ('Possible', 'possibility'),
     'compliance': ('Compliance', 'compliance'),
     'equality': ('Equality', 'equality'),
-    'model_check': ('Model check', 'modelCheck'),
-    'read_owl': ('Read OWL', 'readOwl'),
+    'model_check': ('Model check', 'model_check'),
+    'read_owl': ('Read OWL', 'read_owl'),
     'spell': ('Spell', 'spell'),
     'rehearse': ('Rehearse', 'rehearse'),
 }
@@ -42,9 +42,9 @@ SAID = {
     'gimbuka/src/refusal.rs': (r'\((\d+), "([^"]*)"\)', {40}),
     'reasoner/src/text/mod.rs': (r'(\d+) => "([^"]*)"', set()),
 }
-REFERRING = ['README.md', 'CONTRIBUTING.md', 'docs/*.md', 'tests/*', 'crates/*/src/*.rt', 'crates/*/specs/*.antt', 'crates/*/proofs/*.antt',
-             'crates/*/proofs/*/*.antt', 'crates/exports/gimbuka.h', 'gimbuka/**/*.rs', 'reasoner/**/*.rs', 'judges/**/*.rs']
-GIVES = ('refused', 'refuses', 'fault', 'refusalAlong')
+REFERRING = ['README.md', 'CONTRIBUTING.md', 'docs/*.md', 'tests/*', 'crates/*/src/*.rt', 'crates/*/specs/*.antt', 'crates/*/proofs/**/*.antt',
+             'crates/exports/gimbuka.h', 'gimbuka/**/*.rs', 'reasoner/**/*.rs', 'judges/**/*.rs']
+GIVES = ('refused', 'refuses', 'fault', 'refusal_along')
 SIGNATURE = re.compile(r'(?:abbrev |unfoldable )?(?:pub )?([^\s(]+) : ')
 
 
@@ -88,7 +88,7 @@ class Numbers:
         self.bodies = definitions()
         self.within, self.known = [], {}
         # a second policy's numbers are so many more
-        (self.more,) = [int(clause[0]) for clause in self.bodies['secondRefusal'] if clause[1:] == ['+', 'suc', 'n']]
+        (self.more,) = [int(clause[0]) for clause in self.bodies['second_refusal'] if clause[1:] == ['+', 'suc', 'n']]
 
     def given(self, name):
         if name not in self.bodies or name in self.within:
@@ -102,7 +102,7 @@ class Numbers:
 
     def arm(self, items, lets):
         """What a clause or an arm of `cond` gives: in a refusal it may be the number itself, and 0 is none."""
-        if len(items) == 1 and is_numeral(items[0]) and self.within[-1].endswith('Refusal'):
+        if len(items) == 1 and is_numeral(items[0]) and self.within[-1].endswith('_refusal'):
             return [int(items[0])] if int(items[0]) else []
         return self.of(items, lets)
 
@@ -119,7 +119,7 @@ class Numbers:
                 for arm in sorted(items[i + 2:i + 4], key=lambda arm: isinstance(arm, str) and arm in lets):
                     numbers += self.arm([arm], lets)
                 i += 3
-            elif item == 'secondRefusal' and i + 1 < len(items):
+            elif item == 'second_refusal' and i + 1 < len(items):
                 numbers += [self.more + n for n in self.of([items[i + 1]], lets)]
                 i += 1
             elif item in GIVES and i + 1 < len(items) and is_numeral(items[i + 1]):
@@ -141,12 +141,12 @@ def orders(numbers, wrong):
     wrong += ['%s: an operation that this test does not know: %s' % (HEADER, name) for name in exported if name not in OPERATIONS]
     found = {title: list(dict.fromkeys(numbers.given(name))) for title, name in [*OPERATIONS.values(), PROGRAM]}
     # the program lends Compliance a full work slice
-    assert 'workSize' in str(numbers.bodies['program'])
+    assert 'work_size' in str(numbers.bodies['program'])
     found['program'] = [n for n in found['program'] if n != 21]
     known = {n for name in numbers.bodies for n in numbers.given(name)}
     wrong += ['the definitions give %d, and no operation does' % n for n in sorted(known - set(sum(found.values(), [])))]
     for name in numbers.bodies:
-        if re.match('[a-z].*Refusal$', name) and name != 'secondRefusal' and not numbers.given(name):
+        if re.match('[a-z].*_refusal$', name) and name != 'second_refusal' and not numbers.given(name):
             wrong.append('%s: no number is found in its definition' % name)
     return found
 

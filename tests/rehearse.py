@@ -2,8 +2,8 @@
 """rehearse.py PROGRAM WRAPPER: what the program `rehearse` writes, and what it tells where it writes nothing (SPECIFICATION 10.5).
 
 A load's bytes are held to those that SPECIFICATION 9.14 asks for, which are worked out here once more. Each case has the status, standard
-output and standard error that it must have. The program cannot set its exit status: it is 0. The wrapper, scripts/rehearse, runs the program
-and ends with 2 where there was trouble. The command with scripts/rehearse that README shows prints what README says.
+output and standard error that it must have. The program's exit status is 0. The wrapper, scripts/rehearse, runs the program and ends with 2
+where there was trouble. The command with scripts/rehearse that README shows prints what README says.
 """
 import os
 import re
