@@ -37,7 +37,6 @@ use Rattle.short_way.specs.Stops.{Behind, LeftAt, PreparedPair, StopsBy}
 use Rattle.short_way.specs.declared.Stop.{Stop}
 use Rattle.tabulation.specs.Tabulation.{Tabulated}
 use Rattle.meaning.specs.declared.Verdict.TheVariants as verdict
-use Rattle.trial.specs.Trials as Tries
 use Rattle.decision.proofs.Terms.{pieces_tables}
 use Rattle.theory.proofs.Bounds.{bounded, chain_bounded}
 use Rattle.theory.proofs.Containment.{witness}

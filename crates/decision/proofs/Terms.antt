@@ -31,7 +31,6 @@ use Rattle.splitting.specs.Constraints.{Few, Splittable, first_constraints}
 use Rattle.tabulation.specs.Clean.{DecidesClean, clean_form}
 use Rattle.tabulation.specs.Tabulation.{Shaped, Tabulated}
 use Rattle.trial.specs.Trials.{Triable, Tried}
-use Rattle.meaning.specs.declared.Verdict.TheVariants as verdict
 use Rattle.theory.proofs.Rules.{order}
 use Rattle.theory.proofs.Sizes.{normal_intervals}
 use Rattle.trial.specs.Trials as Tries

@@ -6,7 +6,6 @@ use Rattle.layout.specs.Places.{InTables, tables_end}
 use Rattle.layout.specs.Tables.{Tabled}
 use Rattle.layout.specs.declared.Tables.{Tables}
 use Rattle.meaning.specs.Accepted.{ChainOf, NamedChain, Reads, count}
-use Rattle.meaning.specs.Countermodel.{individuals}
 use Rattle.meaning.specs.Limits.{most_classes, most_features, most_records, most_roles}
 use Rattle.meaning.specs.Lists.{All}
 use Rattle.meaning.specs.NormalForm.{has_bottom, normal_form}

@@ -8,7 +8,6 @@ use native.Mathlib.Omega.{arith}
 use lib.Dec.{T}
 use Rattle.layout.specs.Tables.{PiecePut, constraint_at, interval_of, piece_at}
 use Rattle.meaning.specs.Intervals.{NonEmpty}
-use Rattle.meaning.specs.Splitting.{only}
 use Rattle.odometer.specs.Odometer.{Split, Turned}
 use Rattle.splitting.proofs.Pieces.{piece_first, piece_last, piece_next}
 use Rattle.splitting.specs.Ends.{NextUpper}

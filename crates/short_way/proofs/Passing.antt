@@ -1,10 +1,9 @@
 -- Laws of the short way: one term with its constraints whole, and the terms one after another.
-use Prim.Native.Nat.{◌+◌, ◌<◌, ◌≤◌, suc, ℕ}
-use mathlib.Core.Bool.{Bool, ◌&&◌, ◌||◌, false, not, true}
+use Prim.Native.Nat.{◌+◌, ℕ}
+use mathlib.Core.Bool.{Bool, ◌||◌, false, not, true}
 use mathlib.Core.List.{List, [], ◌++◌, ◌∷◌, append_assoc, append-nil}
 use mathlib.Core.Path.{◌∙◌, ◌≡◌, ap, refl, subst, sym}
-use lib.Dec.{T}
-use lib.ListN.{length, length-append}
+use lib.ListN.{length-append}
 use native.Mathlib.Omega.{arith}
 use Rattle.frames.specs.Frames.{Only}
 use Rattle.functional.specs.declared.Functional.{Functional}
@@ -14,7 +13,7 @@ use Rattle.layout.specs.Tables.{constraint_at}
 use Rattle.layout.specs.declared.Tables.{Tables}
 use Rattle.meaning.specs.Accepted.{ChainOf}
 use Rattle.meaning.specs.Containment.{passes, passes_whole, short_way}
-use Rattle.meaning.specs.Lists.{All, all, any, cons, nil}
+use Rattle.meaning.specs.Lists.{all, any, cons, nil}
 use Rattle.meaning.specs.NormalForm.{normal_form, possible}
 use Rattle.meaning.specs.Policy.{Chain, Policy, next_of, policy_of, policy_refusal, term_at}
 use Rattle.meaning.specs.Vocabulary.{vocabulary_of}
@@ -22,13 +21,11 @@ use Rattle.policy.proofs.Terms.{Asking, asking_ends, asking_found, asking_on, as
 use Rattle.preparation.proofs.Laws.{prepared_kept}
 use Rattle.preparation.specs.Prepared.{Accepting, Prepared}
 use Rattle.short_way.specs.Stops.{Askable, Behind, LeftAt, PreparedPair, Stops}
-use Rattle.short_way.specs.declared.Stop.{Stop}
 use Rattle.splitting.proofs.Callers.{constraints_at_lem, whole_form}
 use Rattle.subsumption.specs.Tests.{holds_whole}
 use Rattle.tabulation.proofs.Laws.{term_ready}
 use Rattle.tabulation.specs.Clean.{DecidesClean}
 use Rattle.tabulation.specs.Tabulation.{Shaped}
-use Rattle.theory.proofs.Digits.{fill}
 use Rattle.theory.proofs.Rules.{all_append, all_in, all_out, all_snd, head, is_false, is_true, not_true, same_test}
 use Rattle.trial.proofs.Trying.{passes_held}
 use Rattle.trial.specs.Trials.{Formed}

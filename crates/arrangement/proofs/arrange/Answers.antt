@@ -1,7 +1,5 @@
-use borrow.Author.Rules.{rules}
-use Prim.Native.Nat.{◌+◌}
 use native.Mathlib.Omega.{arith}
-use Rattle.arrangement.proofs.Emptying.{Emptied, emptied_constraint, emptied_ends, emptied_individual, emptied_last, emptied_ready, emptied_some, emptied_starts}
+use Rattle.arrangement.proofs.Emptying.{emptied_constraint, emptied_ends, emptied_individual, emptied_last, emptied_ready, emptied_some, emptied_starts}
 use Rattle.arrangement.proofs.arrange.Goals as goal
 
 pub loop-i-init : goal.loop-i-init

@@ -1,9 +1,9 @@
 use borrow.Author.Rules.{rules}
-use Prim.Native.Nat.{◌+◌, ◌-◌}
-use mathlib.Core.Path.{◌∙◌, ◌≡◌, ap, refl}
-use lib.ListN.{length, length-set}
+use Prim.Native.Nat.{◌+◌}
+use mathlib.Core.Path.{◌∙◌, ap, refl}
+use lib.ListN.{length-set}
 use native.Mathlib.Omega.{arith}
-use Rattle.arrangement.proofs.Deepening.{Deepened, deepened_ends, deepened_more, deepened_starts, depth_low, depth_read}
+use Rattle.arrangement.proofs.Deepening.{deepened_ends, deepened_more, deepened_starts, depth_low, depth_read}
 use Rattle.arrangement.proofs.find_depths.Goals as goal
 
 pub bounds-depths-0 : goal.bounds-depths-0

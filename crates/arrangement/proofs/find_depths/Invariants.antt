@@ -1,9 +1,7 @@
-use borrow.Author.Rules.{rules}
-use Prim.Native.Nat.{◌+◌, ◌-◌}
-use mathlib.Core.Path.{◌∙◌, ◌≡◌, ap, refl}
-use lib.ListN.{length, length-set}
-use native.Mathlib.Omega.{arith}
-use Rattle.arrangement.proofs.Deepening.{Deepened, deepened_ends, deepened_more, deepened_starts, depth_low, depth_read}
+use Prim.Native.Nat.{◌-◌}
+use mathlib.Core.Path.{◌≡◌}
+use lib.ListN.{length}
+use Rattle.arrangement.proofs.Deepening.{Deepened}
 use Rattle.arrangement.proofs.find_depths.Given as goal
 
 abbrev pub invariant-loop-i : goal.invariant-loop-i

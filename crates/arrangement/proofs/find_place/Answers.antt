@@ -1,11 +1,8 @@
-use borrow.Author.Rules.{rules}
-use Prim.Native.Nat.{◌-◌}
 use mathlib.Core.Path.{◌∙◌, ap, sym}
-use lib.ListN.{length}
 use native.Mathlib.Omega.{arith}
 use Rattle.entries.specs.Entries.{depth_at}
 use Rattle.entries.proofs.Runs.{has_item}
-use Rattle.arrangement.proofs.Finding.{Finding, comparable, finding_starts, finds_before, finds_further, finds_last, finds_same, here}
+use Rattle.arrangement.proofs.Finding.{comparable, finding_starts, finds_before, finds_further, finds_last, finds_same, here}
 use Rattle.arrangement.proofs.find_place.Goals as goal
 
 pub depth_of-d-requires : goal.depth_of-d-requires

@@ -1,4 +1,3 @@
-use borrow.Author.Rules.{rules}
 use Rattle.arrangement.proofs.Ends.{next_past, next_told}
 use Rattle.entries.proofs.Runs.{has_item}
 use Rattle.arrangement.proofs.is_at.Goals as goal

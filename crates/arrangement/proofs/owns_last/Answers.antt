@@ -1,4 +1,3 @@
-use borrow.Author.Rules.{rules}
 use native.Mathlib.Omega.{arith}
 use Rattle.arrangement.proofs.Emptying.{owns_none, owns_told}
 use Rattle.arrangement.proofs.owns_last.Goals as goal

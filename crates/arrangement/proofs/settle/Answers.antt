@@ -1,4 +1,3 @@
-use borrow.Author.Rules.{rules}
 use Rattle.arrangement.proofs.Settling.{place_rotatable, settled_dropped, settled_left, settled_moved}
 use Rattle.arrangement.proofs.settle.Goals as goal
 

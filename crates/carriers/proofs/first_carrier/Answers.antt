@@ -1,4 +1,3 @@
-use borrow.Author.Rules.{rules}
 use Rattle.carriers.proofs.Reading.{read_under}
 use Rattle.carriers.proofs.first_carrier.Goals as goal
 

@@ -1,6 +1,5 @@
 use lib.ListN.{length-set}
 use native.Mathlib.Omega.{arith}
-use borrow.Author.Rules.{rules}
 use Rattle.carriers.proofs.Links.{link_made}
 use Rattle.carriers.proofs.link.Goals as goal
 

@@ -1,5 +1,4 @@
 use native.Mathlib.Omega.{arith}
-use borrow.Author.Rules.{rules}
 use Rattle.carriers.proofs.Noting.{unlisted_cleared}
 use Rattle.carriers.proofs.list_carriers.Goals as goal
 

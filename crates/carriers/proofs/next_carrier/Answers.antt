@@ -1,4 +1,3 @@
-use borrow.Author.Rules.{rules}
 use Rattle.carriers.proofs.Reading.{read_beside}
 use Rattle.carriers.proofs.next_carrier.Goals as goal
 

@@ -1,10 +1,7 @@
 use borrow.Author.Rules.{rules}
 use native.Mathlib.Omega.{arith}
-use Prim.Native.Nat.{◌-◌, ◌≤◌}
-use mathlib.Core.Path.{◌≡◌}
-use lib.ListN.{length}
+use Prim.Native.Nat.{◌-◌}
 use Rattle.carriers.proofs.Noting.{unlisted_noted}
-use Rattle.carriers.specs.Carriers.{Unlisted}
 use Rattle.carriers.proofs.note_dials.Goals as goal
 
 pub holder_of-x-requires : goal.holder_of-x-requires

@@ -1,9 +1,8 @@
 use borrow.Author.Rules.{rules}
 use Prim.Native.Nat.{◌-◌}
-use mathlib.Core.Path.{◌≡◌, refl}
-use lib.ListN.{length}
+use mathlib.Core.Path.{refl}
 use native.Mathlib.Omega.{arith}
-use Rattle.carriers.proofs.Linking.{Linking, linking_ends, linking_none, linking_some, linking_starts}
+use Rattle.carriers.proofs.Linking.{linking_ends, linking_none, linking_some, linking_starts}
 use Rattle.carriers.proofs.note_rows.Goals as goal
 
 pub loop-j-init : goal.loop-j-init

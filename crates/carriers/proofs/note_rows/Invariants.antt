@@ -1,10 +1,7 @@
 -- `note_rows`: the rows from j on are in their lists.
-use borrow.Author.Rules.{rules}
-use Prim.Native.Nat.{◌-◌}
-use mathlib.Core.Path.{◌≡◌, refl}
+use mathlib.Core.Path.{◌≡◌}
 use lib.ListN.{length}
-use native.Mathlib.Omega.{arith}
-use Rattle.carriers.proofs.Linking.{Linking, linking_ends, linking_none, linking_some, linking_starts}
+use Rattle.carriers.proofs.Linking.{Linking}
 use Rattle.carriers.proofs.note_rows.Given as goal
 
 abbrev pub invariant-loop-j : goal.invariant-loop-j

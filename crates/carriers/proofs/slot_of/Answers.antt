@@ -1,4 +1,3 @@
-use borrow.Author.Rules.{rules}
 use Rattle.carriers.proofs.Reading.{read_slot}
 use Rattle.carriers.proofs.slot_of.Goals as goal
 

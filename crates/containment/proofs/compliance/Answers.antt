@@ -1,6 +1,5 @@
 use lib.ListN.{length}
 use native.Mathlib.Omega.{arith}
-use borrow.Author.Rules.{rules}
 use Rattle.containment.proofs.Complying.{compliance_post, pair_ready, settled_late}
 use Rattle.decision.specs.Decisions.{settled}
 use Rattle.frames.proofs.Work.{done_answered, done_before, done_full, done_refused, in_order}

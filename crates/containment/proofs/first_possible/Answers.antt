@@ -1,24 +1,13 @@
-use Prim.Native.Nat.{ℕ}
-use mathlib.Core.List.{List}
-use mathlib.Core.Path.{◌∙◌, ◌≡◌, ap, refl, sym}
+use mathlib.Core.Path.{◌∙◌, ap, refl, sym}
 use native.Mathlib.Omega.{arith}
-use borrow.Author.Rules.{rules}
 use borrow.Author.Tests.{not-false, not-true}
 use Rattle.containment.proofs.Laws.{possible_found, possible_on}
 use Rattle.frames.proofs.Frames.{only_none, only_then}
-use Rattle.frames.specs.Frames.{Only}
-use Rattle.layout.specs.Places.{InTables}
 use Rattle.meaning.specs.Answers.{result}
-use Rattle.meaning.specs.Operations.{possible_from}
-use Rattle.meaning.specs.Policy.{Policy, policy_of}
-use Rattle.meaning.specs.Records.{falling, last_of}
-use Rattle.meaning.specs.Vocabulary.{vocabulary_of}
-use Rattle.policy.proofs.Terms.{Asking, asking_ends, asking_falls, asking_found, asking_on, asking_room, asking_starts, asking_term}
+use Rattle.policy.proofs.Terms.{asking_ends, asking_falls, asking_found, asking_on, asking_room, asking_starts, asking_term}
 use Rattle.preparation.proofs.Laws.{prepared_kept}
-use Rattle.preparation.specs.Prepared.{Accepting}
 use Rattle.tabulation.proofs.Laws.{term_ready}
 use Rattle.containment.proofs.first_possible.Goals as goal
-use Rattle.containment.proofs.first_possible.Invariants.{Rest}
 
 pub loop-k-init : goal.loop-k-init
 loop-k-init c = (λ v a. asking_starts a.policy c.first_term-k.ensures refl, only_none)
@@ -36,9 +25,12 @@ pub returns-then-not-t : goal.returns-then-not-t
 returns-then-not-t c =
     let i = c.loop-k.invariant in
     let t = c.tabulate-t.ensures in
-    let n = c.loop-k-test.true in record { possible_by = λ v a.
+    let n = c.loop-k-test.true in record {
+      possible_by = λ v a.
           let x = i.0 v a in
-          asking_found x n (λ l e. ap result (sym (possible_found _ _ _ (t.impossible v (prepared_kept i.1 a.prepared) (asking_term x n).named) (not-true _ c.if-not-t.true) l) ∙ e)); only = only_then i.1 t.only }
+          asking_found x n (λ l e. ap result (sym (possible_found _ _ _ (t.impossible v (prepared_kept i.1 a.prepared) (asking_term x n).named) (not-true _ c.if-not-t.true) l) ∙ e));
+      only = only_then i.1 t.only;
+    }
 
 pub overflow_add-s : goal.overflow_add-s
 overflow_add-s c = omega (arith, asking_room (c.loop-k.invariant.0 c.requires.1.0 c.requires.1.1) c.loop-k-test.true)

@@ -3,23 +3,15 @@
 -- what the rest tells is what all tell
 use Prim.Native.Nat.{ℕ}
 use mathlib.Core.List.{List}
-use mathlib.Core.Path.{◌∙◌, ◌≡◌, ap, refl, sym}
-use native.Mathlib.Omega.{arith}
-use borrow.Author.Rules.{rules}
-use borrow.Author.Tests.{not-false, not-true}
-use Rattle.containment.proofs.Laws.{possible_found, possible_on}
-use Rattle.frames.proofs.Frames.{only_none, only_then}
+use mathlib.Core.Path.{◌≡◌}
 use Rattle.frames.specs.Frames.{Only}
 use Rattle.layout.specs.Places.{InTables}
-use Rattle.meaning.specs.Answers.{result}
 use Rattle.meaning.specs.Operations.{possible_from}
 use Rattle.meaning.specs.Policy.{Policy, policy_of}
 use Rattle.meaning.specs.Records.{falling, last_of}
 use Rattle.meaning.specs.Vocabulary.{vocabulary_of}
-use Rattle.policy.proofs.Terms.{Asking, asking_ends, asking_falls, asking_found, asking_on, asking_room, asking_starts, asking_term}
-use Rattle.preparation.proofs.Laws.{prepared_kept}
+use Rattle.policy.proofs.Terms.{Asking}
 use Rattle.preparation.specs.Prepared.{Accepting}
-use Rattle.tabulation.proofs.Laws.{term_ready}
 use Rattle.containment.proofs.first_possible.Given as goal
 
 abbrev pub Rest : List ℕ → List ℕ → ℕ → Policy → Type 0

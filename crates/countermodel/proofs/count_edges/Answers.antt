@@ -1,11 +1,8 @@
-use borrow.Author.Rules.{rules}
-use Prim.Native.Nat.{◌+◌}
-use mathlib.Core.Path.{◌≡◌, ap}
+use mathlib.Core.Path.{ap}
 use native.Mathlib.Omega.{arith}
 use lib.ListN.{length}
-use Rattle.countermodel.proofs.Edges.{edges_end, edges_more, edges_start, edges_left}
+use Rattle.countermodel.proofs.Edges.{edges_end, edges_more, edges_start}
 use Rattle.countermodel.proofs.Sizes.{edges_most}
-use Rattle.countermodel.specs.Facts.{edge_facts}
 use Rattle.countermodel.proofs.count_edges.Goals as goal
 
 pub loop-j-init : goal.loop-j-init

@@ -1,11 +1,8 @@
 -- `count_edges`: those found and those left are all.
-use borrow.Author.Rules.{rules}
 use Prim.Native.Nat.{◌+◌}
-use mathlib.Core.Path.{◌≡◌, ap}
-use native.Mathlib.Omega.{arith}
+use mathlib.Core.Path.{◌≡◌}
 use lib.ListN.{length}
-use Rattle.countermodel.proofs.Edges.{edges_end, edges_more, edges_start, edges_left}
-use Rattle.countermodel.proofs.Sizes.{edges_most}
+use Rattle.countermodel.proofs.Edges.{edges_left}
 use Rattle.countermodel.specs.Facts.{edge_facts}
 use Rattle.countermodel.proofs.count_edges.Given as goal
 

@@ -1,11 +1,8 @@
-use borrow.Author.Rules.{rules}
-use Prim.Native.Nat.{◌+◌}
-use mathlib.Core.Path.{◌≡◌, ap}
+use mathlib.Core.Path.{ap}
 use native.Mathlib.Omega.{arith}
 use lib.ListN.{length}
 use Rattle.countermodel.proofs.Pairs.{values_end_lem, values_more, values_start}
 use Rattle.countermodel.proofs.Sizes.{values_most}
-use Rattle.countermodel.specs.Facts.{value_facts, values_from}
 use Rattle.countermodel.proofs.count_values.Goals as goal
 
 pub loop-m-init : goal.loop-m-init

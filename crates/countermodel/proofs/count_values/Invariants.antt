@@ -1,11 +1,7 @@
 -- `count_values`: those found and those left are all.
-use borrow.Author.Rules.{rules}
 use Prim.Native.Nat.{◌+◌}
-use mathlib.Core.Path.{◌≡◌, ap}
-use native.Mathlib.Omega.{arith}
+use mathlib.Core.Path.{◌≡◌}
 use lib.ListN.{length}
-use Rattle.countermodel.proofs.Pairs.{values_end_lem, values_more, values_start}
-use Rattle.countermodel.proofs.Sizes.{values_most}
 use Rattle.countermodel.specs.Facts.{value_facts, values_from}
 use Rattle.countermodel.proofs.count_values.Given as goal
 

@@ -1,4 +1,3 @@
-use borrow.Author.Rules.{rules}
 use Rattle.countermodel.proofs.Before.{above_all, above_some}
 use Rattle.countermodel.proofs.is_above.Goals as goal
 

@@ -1,4 +1,3 @@
-use borrow.Author.Rules.{rules}
 use Rattle.countermodel.proofs.Before.{before_other, before_same}
 use Rattle.countermodel.proofs.is_before.Goals as goal
 

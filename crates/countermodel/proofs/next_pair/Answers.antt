@@ -1,5 +1,5 @@
 use borrow.Author.Rules.{rules}
-use Prim.Native.Nat.{◌-◌, ◌≤◌, ℕ}
+use Prim.Native.Nat.{ℕ}
 use mathlib.Core.Path.{◌∙◌, ◌≡◌, subst, sym}
 use native.Mathlib.Omega.{arith}
 use Rattle.countermodel.proofs.Pairs.{Best, best_kept, best_new, best_next, best_start}
@@ -16,8 +16,8 @@ loop-i-preserved c =
     let told = c.is_better.ensures in
     let more = c.loop-i-test.true in
     elim c.if-is_better.branch [
-        then-is_better v ↦ (search rules, omega arith, rw v.best-is (best_new a.work.now a.n a.x a.m l.i l.best l.invariant.2 (sym told ∙ v.if-is_better.true) more))
-        | else-is_better v ↦ (search rules, omega arith, rw v.best-is (best_kept a.work.now a.n a.x a.m l.i l.best l.invariant.2 (sym told ∙ v.if-is_better.false)))
+      | then-is_better v ↦ (search rules, omega arith, rw v.best-is (best_new a.work.now a.n a.x a.m l.i l.best l.invariant.2 (sym told ∙ v.if-is_better.true) more))
+      | else-is_better v ↦ (search rules, omega arith, rw v.best-is (best_kept a.work.now a.n a.x a.m l.i l.best l.invariant.2 (sym told ∙ v.if-is_better.false)))
     ]
 
 pub returns : goal.returns

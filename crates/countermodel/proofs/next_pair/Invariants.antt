@@ -1,10 +1,6 @@
 -- `next_pair`: after i constraints the best of them is known.
-use borrow.Author.Rules.{rules}
-use Prim.Native.Nat.{◌-◌, ◌≤◌, ℕ}
-use mathlib.Core.Logic.{⊎_elim}
-use mathlib.Core.Path.{◌∙◌, ◌≡◌, subst, sym}
-use native.Mathlib.Omega.{arith}
-use Rattle.countermodel.proofs.Pairs.{Best, best_kept, best_new, best_next, best_start}
+use Prim.Native.Nat.{◌-◌, ◌≤◌}
+use Rattle.countermodel.proofs.Pairs.{Best}
 use Rattle.countermodel.proofs.next_pair.Given as goal
 
 abbrev pub invariant-loop-i : goal.invariant-loop-i

@@ -1,11 +1,7 @@
 -- `size`: the records counted and those of the rows left are all.
-use borrow.Author.Rules.{rules}
-use Prim.Native.Nat.{◌+◌, ◌-◌, ◌≤◌, ℕ}
-use mathlib.Core.Path.{◌∙◌, ◌≡◌, ap}
-use native.Mathlib.Omega.{arith}
+use Prim.Native.Nat.{◌+◌, ◌-◌, ◌≤◌}
+use mathlib.Core.Path.{◌≡◌}
 use lib.ListN.{length}
-use Rattle.countermodel.proofs.Model.{table_facts_lem}
-use Rattle.countermodel.proofs.Sizes.{records_most, rows_end, rows_length}
 use Rattle.countermodel.specs.Facts.{facts_from, record_count}
 use Rattle.countermodel.proofs.size.Given as goal
 

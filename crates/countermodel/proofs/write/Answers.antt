@@ -43,5 +43,8 @@ shape_of-out c =
 pub returns : goal.returns
 returns c =
     let rows = c.write_rows.ensures in
-    let o = c.args.out.now in record { out_len_unchanged = model_length _ _ _ _ o _ c.requires.1 c.requires.2 rows; model_written = λ K u m. model_written _ _ _ _ o _ c.requires.1 c.requires.2 rows c.link.ensures
-          ∙ ap (λ (ws : List ℕ). output_after ws o) (table_words c.requires.0 m) }
+    let o = c.args.out.now in record {
+      out_len_unchanged = model_length _ _ _ _ o _ c.requires.1 c.requires.2 rows;
+      model_written = λ K u m. model_written _ _ _ _ o _ c.requires.1 c.requires.2 rows c.link.ensures
+          ∙ ap (λ (ws : List ℕ). output_after ws o) (table_words c.requires.0 m);
+    }

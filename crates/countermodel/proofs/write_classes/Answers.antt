@@ -1,11 +1,7 @@
-use borrow.Author.Rules.{rules}
 use mathlib.Core.Path.{refl}
 use native.Mathlib.Omega.{arith}
-use lib.ListN.{length}
-use Rattle.countermodel.proofs.Members.{members_end, members_more, members_start, members_left}
-use Rattle.countermodel.specs.Written.{facts}
-use Rattle.records.proofs.Writing.{Left, left_end, left_start, turn_less, turn_more, turn_room}
-use Rattle.countermodel.specs.Facts.{member_facts}
+use Rattle.countermodel.proofs.Members.{members_end, members_more, members_start}
+use Rattle.records.proofs.Writing.{left_end, left_start, turn_less, turn_more, turn_room}
 use Rattle.theory.proofs.ModelWords.{fact_length}
 use Rattle.countermodel.proofs.write_classes.Goals as goal
 

@@ -1,13 +1,9 @@
 -- `write_classes`: at class c its fact and those of the classes above it are left.
-use borrow.Author.Rules.{rules}
-use mathlib.Core.Path.{refl}
-use native.Mathlib.Omega.{arith}
 use lib.ListN.{length}
-use Rattle.countermodel.proofs.Members.{members_end, members_more, members_start, members_left}
+use Rattle.countermodel.proofs.Members.{members_left}
 use Rattle.countermodel.specs.Written.{facts}
-use Rattle.records.proofs.Writing.{Left, left_end, left_start, turn_less, turn_more, turn_room}
+use Rattle.records.proofs.Writing.{Left}
 use Rattle.countermodel.specs.Facts.{member_facts}
-use Rattle.theory.proofs.ModelWords.{fact_length}
 use Rattle.countermodel.proofs.write_classes.Given as goal
 
 abbrev pub invariant-loop-c : goal.invariant-loop-c

@@ -1,13 +1,9 @@
 -- `write_edges`: at row j its edge and those of the rows after it are left.
-use borrow.Author.Rules.{rules}
-use mathlib.Core.Path.{refl}
-use native.Mathlib.Omega.{arith}
 use lib.ListN.{length}
-use Rattle.countermodel.proofs.Edges.{edges_end, edges_more, edges_start, edges_left}
+use Rattle.countermodel.proofs.Edges.{edges_left}
 use Rattle.countermodel.specs.Written.{facts}
-use Rattle.records.proofs.Writing.{Left, left_end, left_start, turn_less, turn_more, turn_room}
+use Rattle.records.proofs.Writing.{Left}
 use Rattle.countermodel.specs.Facts.{edge_facts}
-use Rattle.theory.proofs.ModelWords.{fact_length}
 use Rattle.countermodel.proofs.write_edges.Given as goal
 
 abbrev pub invariant-loop-j : goal.invariant-loop-j

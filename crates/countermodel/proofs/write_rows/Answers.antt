@@ -1,11 +1,10 @@
 use borrow.Author.Rules.{rules}
-use Prim.Native.Nat.{◌-◌, ◌≤◌, ℕ}
+use Prim.Native.Nat.{◌-◌, ℕ}
 use mathlib.Core.Path.{◌≡◌, ap}
 use native.Mathlib.Omega.{arith}
-use Rattle.countermodel.specs.Written.{facts}
-use Rattle.records.proofs.Writing.{Left, left_end, left_more, left_start, room_same}
+use Rattle.records.proofs.Writing.{left_end, left_more, left_start, room_same}
 use Rattle.countermodel.proofs.Sizes.{rows_end, rows_length, rows_more}
-use Rattle.countermodel.specs.Facts.{facts_from, table_facts}
+use Rattle.countermodel.specs.Facts.{facts_from}
 use Rattle.theory.proofs.ModelWords.{fact_length}
 use Rattle.countermodel.proofs.write_rows.Goals as goal
 

@@ -1,10 +1,6 @@
-use borrow.Author.Rules.{rules}
 use native.Mathlib.Omega.{arith}
-use lib.ListN.{length}
-use Rattle.countermodel.specs.Written.{facts}
-use Rattle.records.proofs.Writing.{Left, left_end, left_start, turn_less, turn_more, turn_room}
+use Rattle.records.proofs.Writing.{left_end, left_start, turn_less, turn_more, turn_room}
 use Rattle.countermodel.proofs.Pairs.{values_end_lem, values_here, values_more, values_start}
-use Rattle.countermodel.specs.Facts.{value_facts, values_from}
 use Rattle.layout.specs.Tables.{constraint_at, piece_at}
 use Rattle.meaning.specs.Intervals.{value_of}
 use Rattle.theory.proofs.ModelWords.{fact_length}

@@ -1,18 +1,11 @@
-use Prim.Native.Nat.{ℕ}
-use mathlib.Core.List.{List}
-use mathlib.Core.Path.{◌∙◌, ◌≡◌, ap, refl}
+use mathlib.Core.Path.{◌∙◌, ap, refl}
 use lib.ListN.{length}
 use native.Mathlib.Omega.{arith}
-use borrow.Author.Rules.{rules}
-use Rattle.decision.proofs.Policies.{Undecided, delivers_compliant, term_fails, term_few, term_only, term_passes, term_standing}
+use Rattle.decision.proofs.Policies.{delivers_compliant, term_fails, term_few, term_only, term_passes, term_standing}
 use Rattle.decision.proofs.Policies.{undecided_starts}
 use Rattle.decision.proofs.Terms.{term_triable}
-use Rattle.decision.specs.Decisions.{Countable}
 use Rattle.frames.proofs.Frames.{only_none, only_then}
-use Rattle.frames.specs.Frames.{Only}
-use Rattle.layout.specs.Places.{InTables}
-use Rattle.meaning.specs.Records.{falling, last_of}
-use Rattle.policy.proofs.Terms.{Asking, asking_ends, asking_falls, asking_room, asking_term}
+use Rattle.policy.proofs.Terms.{asking_ends, asking_falls, asking_room, asking_term}
 use Rattle.preparation.proofs.Laws.{prepared_kept}
 use Rattle.tabulation.proofs.Laws.{term_ready}
 use Rattle.decision.proofs.decide.Goals as goal

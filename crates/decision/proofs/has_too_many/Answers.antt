@@ -1,16 +1,10 @@
-use Prim.Native.Nat.{◌+◌, ℕ}
-use mathlib.Core.List.{List}
+use Prim.Native.Nat.{◌+◌}
 use mathlib.Core.Path.{◌∙◌}
 use native.Mathlib.Omega.{arith}
-use borrow.Author.Rules.{rules}
-use Rattle.decision.proofs.Terms.{Uncounted, uncounted_ends, uncounted_found, uncounted_on, uncounted_starts}
+use Rattle.decision.proofs.Terms.{uncounted_ends, uncounted_found, uncounted_on, uncounted_starts}
 use Rattle.frames.proofs.Frames.{only_none, only_then}
-use Rattle.frames.specs.Frames.{Only}
-use Rattle.layout.specs.Places.{InTables}
-use Rattle.meaning.specs.Records.{falling, last_of}
-use Rattle.policy.proofs.Terms.{Asking, asking_ends, asking_falls, asking_found, asking_on, asking_starts, asking_term}
+use Rattle.policy.proofs.Terms.{asking_ends, asking_falls, asking_found, asking_on, asking_starts, asking_term}
 use Rattle.preparation.proofs.Laws.{prepared_kept}
-use Rattle.preparation.specs.Prepared.{Accepting}
 use Rattle.tabulation.proofs.Laws.{term_ready}
 use Rattle.decision.proofs.has_too_many.Goals as goal
 
@@ -35,9 +29,12 @@ pub returns-then-is_too_many : goal.returns-then-is_too_many
 returns-then-is_too_many c =
     let i = c.loop-k.invariant in
     let t = c.is_too_many.ensures in
-    let n = c.loop-k-test.true in record { counts = λ v a.
+    let n = c.loop-k-test.true in record {
+      counts = λ v a.
           let x = (i.0 v a).1 in
-          asking_found x n (λ l u. uncounted_found v _ _ _ l u (t.exceeds v (prepared_kept i.1 a.prepared) (asking_term x n).named) c.if-is_too_many.true); only = only_then i.1 t.only }
+          asking_found x n (λ l u. uncounted_found v _ _ _ l u (t.exceeds v (prepared_kept i.1 a.prepared) (asking_term x n).named) c.if-is_too_many.true);
+      only = only_then i.1 t.only;
+    }
 
 pub loop-k-smaller : goal.loop-k-smaller
 loop-k-smaller c = asking_falls (c.loop-k.invariant.0 c.requires.1.0 c.requires.1.1).1 c.loop-k-test.true c.next_of-k.ensures

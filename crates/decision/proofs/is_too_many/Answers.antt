@@ -1,5 +1,4 @@
 use native.Mathlib.Omega.{arith}
-use borrow.Author.Rules.{rules}
 use borrow.Author.Tests.{not-true}
 use Rattle.decision.proofs.Terms.{intervals_within, shape_few, shape_impossible, shape_many, shape_splittable}
 use Rattle.frames.proofs.Frames.{only_none}

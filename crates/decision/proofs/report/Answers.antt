@@ -24,7 +24,10 @@ pub shape_of-out : goal.shape_of-out
 shape_of-out c = c.write.ensures.out_len_unchanged
 
 pub returns : goal.returns
-returns c = record { reports = λ K u m.
+returns c = record {
+  reports = λ K u m.
       let e = c.size-records.ensures.counts_model K u m in
       let l = countermodel_length K u in
-      reports_words _ _ (countermodel K u) c.args.out.now (omega (arith, c.if-out-words.false)) (omega arith) (c.write.ensures.model_written K u m); out_len_unchanged = c.write.ensures.out_len_unchanged }
+      reports_words _ _ (countermodel K u) c.args.out.now (omega (arith, c.if-out-words.false)) (omega arith) (c.write.ensures.model_written K u m);
+  out_len_unchanged = c.write.ensures.out_len_unchanged;
+}

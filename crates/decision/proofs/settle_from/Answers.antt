@@ -2,7 +2,6 @@
 use mathlib.Core.Path.{◌∙◌, refl, sym}
 use lib.Seq.{length-take-le}
 use native.Mathlib.Omega.{arith}
-use borrow.Author.Rules.{rules}
 use Rattle.decision.proofs.Policies.{settles_22, settles_short, settles_split, stopped_countable}
 use Rattle.frames.proofs.Frames.{only_none, only_then}
 use Rattle.short_way.proofs.Passing.{ready_accepts}
@@ -50,6 +49,10 @@ pub returns : goal.returns
 returns c =
     let h = c.has_too_many-many.ensures in
     let e = c.collect-n.ensures.ends in
-    let d = c.decide.ensures in record { settles_from = λ v a.
+    let d = c.decide.ensures in record {
+      settles_from = λ v a.
           let many = h.counts v (ready_accepts a.ready) _ e in
-          settles_split a c.if-stop-eq0.false many c.if-many.false _ (d.decides v (stopped_countable a c.if-stop-eq0.false many c.if-many.false h.only)); only = only_then h.only d.only; out_len_unchanged = d.out_len_unchanged }
+          settles_split a c.if-stop-eq0.false many c.if-many.false _ (d.decides v (stopped_countable a c.if-stop-eq0.false many c.if-many.false h.only));
+      only = only_then h.only d.only;
+      out_len_unchanged = d.out_len_unchanged;
+    }

@@ -1,9 +1,6 @@
-use borrow.Author.Rules.{rules}
-use Prim.Native.Nat.{◌-◌}
-use mathlib.Core.Path.{◌∙◌, ◌≡◌, refl}
-use lib.ListN.{length}
+use mathlib.Core.Path.{◌∙◌, refl}
 use native.Mathlib.Omega.{arith}
-use Rattle.declarations.proofs.Listing.{Listing, list_ends, list_on, list_room, list_small, list_starts}
+use Rattle.declarations.proofs.Listing.{list_ends, list_on, list_room, list_small, list_starts}
 use Rattle.declarations.proofs.Passing.{parses_some}
 use Rattle.declarations.proofs.list_names.Goals as goal
 

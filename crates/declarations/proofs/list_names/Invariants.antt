@@ -1,10 +1,7 @@
-use borrow.Author.Rules.{rules}
 use Prim.Native.Nat.{◌-◌}
-use mathlib.Core.Path.{◌∙◌, ◌≡◌, refl}
+use mathlib.Core.Path.{◌≡◌}
 use lib.ListN.{length}
-use native.Mathlib.Omega.{arith}
-use Rattle.declarations.proofs.Listing.{Listing, list_ends, list_on, list_room, list_small, list_starts}
-use Rattle.declarations.proofs.Passing.{parses_some}
+use Rattle.declarations.proofs.Listing.{Listing}
 use Rattle.declarations.proofs.list_names.Given as goal
 
 abbrev pub invariant-loop-c : goal.invariant-loop-c

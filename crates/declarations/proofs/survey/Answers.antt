@@ -1,8 +1,5 @@
-use borrow.Author.Rules.{rules}
-use Prim.Native.Nat.{◌-◌}
-use lib.ListN.{length}
 use native.Mathlib.Omega.{arith}
-use Rattle.declarations.proofs.Counting.{Surveying, survey_ends, survey_fails, survey_on, survey_starts}
+use Rattle.declarations.proofs.Counting.{survey_ends, survey_fails, survey_on, survey_starts}
 use Rattle.declarations.proofs.survey.Goals as goal
 
 pub loop-c-init : goal.loop-c-init

@@ -1,8 +1,6 @@
-use borrow.Author.Rules.{rules}
 use Prim.Native.Nat.{◌-◌}
 use lib.ListN.{length}
-use native.Mathlib.Omega.{arith}
-use Rattle.declarations.proofs.Counting.{Surveying, survey_ends, survey_fails, survey_on, survey_starts}
+use Rattle.declarations.proofs.Counting.{Surveying}
 use Rattle.declarations.proofs.survey.Given as goal
 
 abbrev pub invariant-loop-c : goal.invariant-loop-c

@@ -1,4 +1,3 @@
-use borrow.Author.Rules.{rules}
 use Rattle.entries.proofs.Reading.{constraint_classes, role_classes, role_entry}
 use Rattle.entries.proofs.classes_at.Goals as goal
 

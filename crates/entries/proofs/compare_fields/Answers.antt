@@ -1,4 +1,3 @@
-use borrow.Author.Rules.{rules}
 use Rattle.entries.proofs.Ordering.{fields_by}
 use Rattle.entries.proofs.compare_fields.Goals as goal
 

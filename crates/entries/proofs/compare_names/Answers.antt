@@ -1,4 +1,3 @@
-use borrow.Author.Rules.{rules}
 use Rattle.entries.proofs.Ordering.{names_by_lem}
 use Rattle.entries.proofs.compare_names.Goals as goal
 

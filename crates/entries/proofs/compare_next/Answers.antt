@@ -1,4 +1,3 @@
-use borrow.Author.Rules.{rules}
 use mathlib.Core.Path.{◌∙◌, ap}
 use Rattle.entries.specs.Entries.{fields_at}
 use Rattle.entries.proofs.Runs.{has_item, next_ends, next_fields, next_longer, next_shorter}

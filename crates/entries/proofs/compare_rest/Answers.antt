@@ -1,8 +1,6 @@
-use borrow.Author.Rules.{rules}
 use borrow.Author.Tests.{not-false, not-true}
-use Prim.Native.Nat.{◌-◌}
 use mathlib.Core.Path.{◌∙◌, sym}
-use Rattle.entries.proofs.Runs.{Along, along_comparable, along_ends, along_more, along_starts, along_told}
+use Rattle.entries.proofs.Runs.{along_comparable, along_ends, along_more, along_starts, along_told}
 use Rattle.entries.proofs.compare_rest.Goals as goal
 
 pub loop-i-init : goal.loop-i-init

@@ -1,8 +1,5 @@
-use borrow.Author.Rules.{rules}
-use borrow.Author.Tests.{not-false, not-true}
 use Prim.Native.Nat.{◌-◌}
-use mathlib.Core.Path.{◌∙◌, sym}
-use Rattle.entries.proofs.Runs.{Along, along_comparable, along_ends, along_more, along_starts, along_told}
+use Rattle.entries.proofs.Runs.{Along}
 use Rattle.entries.proofs.compare_rest.Given as goal
 
 abbrev pub invariant-loop-i : goal.invariant-loop-i

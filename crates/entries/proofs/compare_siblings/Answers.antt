@@ -1,4 +1,3 @@
-use borrow.Author.Rules.{rules}
 use Rattle.entries.proofs.Ordering.{siblings_by}
 use Rattle.entries.proofs.compare_siblings.Goals as goal
 

@@ -1,4 +1,3 @@
-use borrow.Author.Rules.{rules}
 use Rattle.entries.proofs.Reading.{depth_read}
 use Rattle.entries.proofs.depth_of.Goals as goal
 

@@ -1,4 +1,3 @@
-use borrow.Author.Rules.{rules}
 use Rattle.entries.proofs.Classes.{continues_else}
 use Rattle.entries.proofs.does_continue.Goals as goal
 

@@ -1,4 +1,3 @@
-use borrow.Author.Rules.{rules}
 use Rattle.entries.proofs.Reading.{constraint_entry, constraint_fields_lem, role_entry, role_fields_lem}
 use Rattle.entries.proofs.fields_of.Goals as goal
 

@@ -1,10 +1,9 @@
 use borrow.Author.Rules.{rules}
-use Prim.Native.Nat.{◌*◌, ◌+◌, ◌-◌, ◌≤◌, ℕ}
+use Prim.Native.Nat.{◌+◌}
 use mathlib.Core.Path.{◌≡◌, refl}
 use lib.ListN.{length}
 use native.Mathlib.Omega.{arith}
 use Rattle.words.specs.Rows.{class_words}
-use Rattle.words.specs.Sets.{in_set}
 use Rattle.entries.proofs.Classes.{agree_more, both_alike, differs_here, differs_nowhere, one_apart, words_agree}
 use Rattle.entries.proofs.first_difference.Goals as goal
 

@@ -1,8 +1,6 @@
 use borrow.Author.Rules.{rules}
-use Prim.Native.Nat.{◌-◌, ◌≤◌}
 use native.Mathlib.Omega.{arith}
-use Rattle.words.specs.Rows.{class_words}
-use Rattle.entries.proofs.Classes.{AlikeTo, alike_more}
+use Rattle.entries.proofs.Classes.{alike_more}
 use Rattle.entries.proofs.first_word.Goals as goal
 
 pub loop-i-init : goal.loop-i-init

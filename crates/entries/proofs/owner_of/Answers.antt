@@ -1,4 +1,3 @@
-use borrow.Author.Rules.{rules}
 use Rattle.entries.proofs.Reading.{constraint_entry, constraint_owner, role_entry, role_owner}
 use Rattle.entries.proofs.owner_of.Goals as goal
 

@@ -1,6 +1,5 @@
 -- `compare`: the short way in both directions, then what it leaves.
 use mathlib.Core.Path.{◌∙◌}
-use borrow.Author.Rules.{rules}
 use Rattle.equality.proofs.Comparing.{both_stopped, compares_first, compares_second}
 use Rattle.frames.proofs.Frames.{only_then}
 use Rattle.short_way.proofs.Passing.{ready_back, ready_still}
@@ -29,9 +28,13 @@ pub returns-then-forth-eq0 : goal.returns-then-forth-eq0
 returns-then-forth-eq0 c =
     let h = c.find_stop-forth.ensures in
     let i = c.find_stop-back.ensures in
-    let s = c.settle_from.ensures in record { compared_by = λ v r.
+    let s = c.settle_from.ensures in record {
+      compared_by = λ v r.
           let b = both_stopped r h.only i.only h.stops_by i.stops_by in
-          compares_second b c.if-forth-eq0.true (s.settles_from v b.second) c.sided.ensures; only = only_then (only_then h.only i.only) s.only; out_len_unchanged = s.out_len_unchanged }
+          compares_second b c.if-forth-eq0.true (s.settles_from v b.second) c.sided.ensures;
+      only = only_then (only_then h.only i.only) s.only;
+      out_len_unchanged = s.out_len_unchanged;
+    }
 
 pub settle_from-requires-then-back-eq0 : goal.settle_from-requires-then-back-eq0
 settle_from-requires-then-back-eq0 c =
@@ -50,9 +53,13 @@ pub returns-then-back-eq0 : goal.returns-then-back-eq0
 returns-then-back-eq0 c =
     let h = c.find_stop-forth.ensures in
     let i = c.find_stop-back.ensures in
-    let s = c.settle_from-then-back-eq0.ensures in record { compared_by = λ v r.
+    let s = c.settle_from-then-back-eq0.ensures in record {
+      compared_by = λ v r.
           let b = both_stopped r h.only i.only h.stops_by i.stops_by in
-          compares_first b c.if-back-eq0.true (s.settles_from v b.first) c.sided-then-back-eq0.ensures; only = only_then (only_then h.only i.only) s.only; out_len_unchanged = s.out_len_unchanged }
+          compares_first b c.if-back-eq0.true (s.settles_from v b.first) c.sided-then-back-eq0.ensures;
+      only = only_then (only_then h.only i.only) s.only;
+      out_len_unchanged = s.out_len_unchanged;
+    }
 
 pub compare_split-requires : goal.compare_split-requires
 compare_split-requires c =

@@ -2,7 +2,6 @@
 use mathlib.Core.Path.{◌∙◌, refl, sym}
 use lib.Seq.{length-take-le}
 use native.Mathlib.Omega.{arith}
-use borrow.Author.Rules.{rules}
 use Rattle.equality.proofs.Comparing.{compares_22, compares_both, compares_none, second_still}
 use Rattle.frames.proofs.Frames.{only_then}
 use Rattle.short_way.proofs.Passing.{ready_accepts}
@@ -74,8 +73,12 @@ returns c =
     let x = c.collect-n.ensures.ends in
     let y = c.collect-m.ensures.ends in
     let d = c.differ.ensures in
-    let o = only_then h.only i.only in record { compared_from = λ v b.
+    let o = only_then h.only i.only in record {
+      compared_from = λ v b.
           let many = h.counts v (ready_accepts b.first.ready) _ y in
           let more = i.counts v (ready_accepts (second_still b h.only).ready) _ x in
           let none = compares_none c.args.out.now b n many more c.if-many-more.false o in
-          compares_both c.args.out.now b n many more c.if-many-more.false (d.difference_by v none); only = only_then o d.only; out_len_unchanged = d.out_len_unchanged }
+          compares_both c.args.out.now b n many more c.if-many-more.false (d.difference_by v none);
+      only = only_then o d.only;
+      out_len_unchanged = d.out_len_unchanged;
+    }

@@ -1,6 +1,5 @@
 -- `differ`: by the verdict of the first direction.
 use mathlib.Core.Path.{◌∙◌}
-use borrow.Author.Rules.{rules}
 use Rattle.equality.proofs.Comparing.{back_countable, differs_back, differs_outside, differs_refused}
 use Rattle.frames.proofs.Frames.{only_then}
 use Rattle.equality.proofs.differ.Goals as goal

@@ -1,6 +1,5 @@
 use lib.ListN.{length}
 use native.Mathlib.Omega.{arith}
-use borrow.Author.Rules.{rules}
 use Rattle.containment.proofs.Complying.{pair_ready}
 use Rattle.equality.proofs.Comparing.{compared_late, equality_post}
 use Rattle.equality.specs.Comparisons.{compared}

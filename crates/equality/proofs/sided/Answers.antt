@@ -1,5 +1,4 @@
 use mathlib.Core.Path.{ap, sym}
-use borrow.Author.Rules.{rules}
 use Rattle.equality.specs.Comparisons.{sided_answer}
 use Rattle.meaning.specs.Answers.{verdict_answer}
 use Rattle.meaning.specs.declared.Verdict.{Verdict}

@@ -1,10 +1,7 @@
 use borrow.Author.Rules.{rules}
-use Prim.Native.Nat.{◌-◌, ◌≤◌}
 use mathlib.Core.Path.{◌∙◌, ◌≡◌}
-use lib.ListN.{length}
 use native.Mathlib.Omega.{arith}
 use Rattle.extension.proofs.Columns.{filled_on, filled_starts}
-use Rattle.extension.specs.Columns.{FilledTo}
 use Rattle.meaning.specs.Records.{last_of}
 use Rattle.extension.proofs.fill_all.Goals as goal
 

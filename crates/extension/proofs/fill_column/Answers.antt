@@ -1,8 +1,6 @@
-use borrow.Author.Rules.{rules}
-use Prim.Native.Nat.{◌-◌}
 use native.Mathlib.Omega.{arith}
-use Rattle.extension.proofs.Columns.{Filling, filling_ends, filling_on, filling_starts}
-use Rattle.satisfaction.proofs.Statements.{Counting, counting_ends, counting_on, counting_starts}
+use Rattle.extension.proofs.Columns.{filling_ends, filling_on, filling_starts}
+use Rattle.satisfaction.proofs.Statements.{counting_ends, counting_on, counting_starts}
 use Rattle.extension.proofs.fill_column.Goals as goal
 
 pub loop-j-init : goal.loop-j-init

@@ -1,4 +1,3 @@
-use borrow.Author.Rules.{rules}
 use Rattle.extension.proofs.Columns.{mask_filled, mask_named, mask_none, mask_room}
 use Rattle.satisfaction.proofs.Rows.{put_size}
 use Rattle.extension.proofs.fill_mask.Goals as goal

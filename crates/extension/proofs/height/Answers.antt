@@ -1,4 +1,3 @@
-use borrow.Author.Rules.{rules}
 use Rattle.extension.proofs.Heights.{height_whole}
 use Rattle.extension.proofs.height.Goals as goal
 

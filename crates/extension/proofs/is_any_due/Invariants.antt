@@ -1,10 +1,5 @@
-use borrow.Author.Rules.{rules}
-use Prim.Native.Nat.{◌-◌, ◌≤◌, ℕ}
-use mathlib.Core.Path.{◌≡◌}
-use native.Mathlib.Omega.{arith}
-use Rattle.extension.proofs.Rounds.{undue_on, undue_starts}
+use Prim.Native.Nat.{◌-◌, ◌≤◌}
 use Rattle.extension.specs.Depths.{NoneDueTo}
-use Rattle.meaning.specs.Records.{last_of}
 use Rattle.extension.proofs.is_any_due.Given as goal
 
 abbrev pub invariant-loop-k : goal.invariant-loop-k

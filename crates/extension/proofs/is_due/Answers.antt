@@ -1,4 +1,3 @@
-use borrow.Author.Rules.{rules}
 use Rattle.extension.proofs.Heights.{due_none, due_told}
 use Rattle.extension.proofs.is_due.Goals as goal
 

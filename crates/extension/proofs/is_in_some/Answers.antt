@@ -1,7 +1,5 @@
-use borrow.Author.Rules.{rules}
 use native.Mathlib.Omega.{arith}
-use Rattle.extension.proofs.Policies.{Seeking, seeking_ends, seeking_falls, seeking_found, seeking_inside, seeking_on, seeking_starts, sized}
-use Rattle.meaning.specs.Records.{falling, last_of}
+use Rattle.extension.proofs.Policies.{seeking_ends, seeking_falls, seeking_found, seeking_inside, seeking_on, seeking_starts, sized}
 use Rattle.extension.proofs.is_in_some.Goals as goal
 
 pub loop-k-init : goal.loop-k-init

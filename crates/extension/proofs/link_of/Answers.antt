@@ -1,4 +1,3 @@
-use borrow.Author.Rules.{rules}
 use Rattle.extension.proofs.Links.{link_back, link_on, link_past}
 use Rattle.extension.proofs.link_of.Goals as goal
 

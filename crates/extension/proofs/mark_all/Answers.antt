@@ -1,14 +1,10 @@
 use borrow.Author.Rules.{rules}
-use Prim.Native.Nat.{◌-◌, ◌≤◌}
 use mathlib.Core.Path.{◌∙◌, ◌≡◌}
 use native.Mathlib.Omega.{arith}
 use Rattle.extension.proofs.Marks.{cleared_sets, marked_on, marked_starts}
-use Rattle.extension.specs.Sets.{MarkedTo}
 use Rattle.frames.proofs.Frames.{only_none, only_then}
-use Rattle.frames.specs.Frames.{Only, Span}
 use Rattle.meaning.specs.Records.{last_of}
 use Rattle.satisfaction.proofs.Classes.{interpreted_kept}
-use Rattle.satisfaction.specs.Places.{heights_at, sets_at}
 use Rattle.extension.proofs.mark_all.Goals as goal
 
 pub clear-requires : goal.clear-requires

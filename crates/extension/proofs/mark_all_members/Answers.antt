@@ -1,9 +1,7 @@
-use borrow.Author.Rules.{rules}
-use Prim.Native.Nat.{◌-◌}
 use native.Mathlib.Omega.{arith}
-use Rattle.extension.proofs.Marks.{Telling, telling_ends, telling_on, telling_starts}
+use Rattle.extension.proofs.Marks.{telling_ends, telling_on, telling_starts}
 use Rattle.satisfaction.proofs.Classes.{interpreted_kept}
-use Rattle.satisfaction.proofs.Statements.{Counting, counting_ends, counting_on, counting_starts}
+use Rattle.satisfaction.proofs.Statements.{counting_ends, counting_on, counting_starts}
 use Rattle.extension.proofs.mark_all_members.Goals as goal
 
 pub loop-i-init : goal.loop-i-init

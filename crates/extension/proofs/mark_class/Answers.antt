@@ -1,4 +1,3 @@
-use borrow.Author.Rules.{rules}
 use Rattle.extension.proofs.Marks.{class_marked, class_none}
 use Rattle.extension.proofs.mark_class.Goals as goal
 

@@ -1,9 +1,6 @@
-use borrow.Author.Rules.{rules}
 use native.Mathlib.Omega.{arith}
-use Rattle.extension.specs.Columns.{hands}
-use Rattle.meaning.specs.Records.{falling, last_of}
-use Rattle.model.proofs.Chain.{Scanning, scanning_ends, scanning_falls, scanning_on, scanning_starts, scanning_stated}
-use Rattle.spans.proofs.Joining.{Handing, handing_ends, handing_on, handing_starts}
+use Rattle.model.proofs.Chain.{scanning_ends, scanning_falls, scanning_on, scanning_starts, scanning_stated}
+use Rattle.spans.proofs.Joining.{handing_ends, handing_on, handing_starts}
 use Rattle.extension.proofs.mark_edges.Goals as goal
 
 pub loop-f-init : goal.loop-f-init

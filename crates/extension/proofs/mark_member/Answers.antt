@@ -1,4 +1,3 @@
-use borrow.Author.Rules.{rules}
 use Rattle.extension.proofs.Marks.{member_one, not_member}
 use Rattle.satisfaction.proofs.Rows.{put_size}
 use Rattle.extension.proofs.mark_member.Goals as goal

@@ -2,7 +2,7 @@ use borrow.Author.Rules.{rules}
 use mathlib.Core.Path.{◌∙◌}
 use lib.ListN.{length-set}
 use Rattle.satisfaction.specs.Places.{heights_at}
-use Rattle.extension.proofs.Heights.{Measuring, measuring_ends, measuring_on, measuring_starts}
+use Rattle.extension.proofs.Heights.{measuring_ends, measuring_on, measuring_starts}
 use Rattle.extension.proofs.measure_all.Goals as goal
 
 pub loop-k-init : goal.loop-k-init

@@ -1,4 +1,3 @@
-use borrow.Author.Rules.{rules}
 use Rattle.extension.proofs.Heights.{height_more, height_most, height_none}
 use Rattle.extension.proofs.own_height.Goals as goal
 

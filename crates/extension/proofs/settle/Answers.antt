@@ -1,4 +1,3 @@
-use borrow.Author.Rules.{rules}
 use native.Mathlib.Omega.{arith}
 use Rattle.extension.proofs.Rounds.{settled_none, settled_on}
 use Rattle.frames.proofs.Frames.{only_none, only_span}

@@ -1,12 +1,7 @@
 use borrow.Author.Rules.{rules}
-use Prim.Native.Nat.{◌-◌, ◌≤◌}
 use mathlib.Core.Path.{◌≡◌}
-use lib.ListN.{length}
 use native.Mathlib.Omega.{arith}
-use Rattle.extension.specs.Depths.{Settled}
 use Rattle.frames.proofs.Frames.{only_none, only_then}
-use Rattle.frames.specs.Frames.{Only, Span}
-use Rattle.satisfaction.specs.Places.{sets_at, sets_end}
 use Rattle.extension.proofs.settle_all.Goals as goal
 
 pub loop-n-init : goal.loop-n-init

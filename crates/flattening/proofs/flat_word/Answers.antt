@@ -1,4 +1,3 @@
-use borrow.Author.Rules.{rules}
 use mathlib.Core.Path.{◌∙◌, sym}
 use Rattle.flattening.proofs.Steps.{word_beside, word_early, word_first, word_other}
 use Rattle.flattening.proofs.flat_word.Goals as goal

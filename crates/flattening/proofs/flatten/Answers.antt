@@ -1,12 +1,8 @@
 use borrow.Author.Rules.{rules}
-use Prim.Native.Nat.{◌-◌, ◌≤◌}
-use mathlib.Core.List.{map}
-use mathlib.Core.Path.{◌∙◌, ◌≡◌, refl}
-use lib.ListN.{length, length-set, take}
+use mathlib.Core.Path.{◌∙◌, refl}
+use lib.ListN.{length-set}
 use native.Mathlib.Omega.{arith}
-use Rattle.flattening.specs.Flat.{flat_word_at}
 use Rattle.flattening.proofs.Steps.{words_all, words_more}
-use Rattle.meaning.specs.Lists.{counting}
 use Rattle.flattening.proofs.flatten.Goals as goal
 
 pub loop-i-init : goal.loop-i-init

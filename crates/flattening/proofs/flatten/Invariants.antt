@@ -1,11 +1,8 @@
-use borrow.Author.Rules.{rules}
 use Prim.Native.Nat.{◌-◌, ◌≤◌}
 use mathlib.Core.List.{map}
-use mathlib.Core.Path.{◌∙◌, ◌≡◌, refl}
-use lib.ListN.{length, length-set, take}
-use native.Mathlib.Omega.{arith}
+use mathlib.Core.Path.{◌≡◌}
+use lib.ListN.{length, take}
 use Rattle.flattening.specs.Flat.{flat_word_at}
-use Rattle.flattening.proofs.Steps.{words_all, words_more}
 use Rattle.meaning.specs.Lists.{counting}
 use Rattle.flattening.proofs.flatten.Given as goal
 

@@ -1,4 +1,3 @@
-use borrow.Author.Rules.{rules}
 use native.Mathlib.Omega.{arith}
 use Rattle.flattening.proofs.Laws.{flat_refusal}
 use Rattle.flattening.proofs.Steps.{flat_part}

@@ -1,6 +1,4 @@
-use borrow.Author.Rules.{rules}
-use Prim.Native.Nat.{◌-◌}
-use Rattle.keys.proofs.Adding.{Shifting, key_stands, shifting_before, shifting_ends, shifting_last, shifting_on}
+use Rattle.keys.proofs.Adding.{key_stands, shifting_before, shifting_ends, shifting_last, shifting_on}
 use Rattle.keys.proofs.add.Goals as goal
 use Rattle.keys.proofs.add.Goals.{else-at-n, then-at-n+else-keys-at}
 

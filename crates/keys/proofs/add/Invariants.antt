@@ -1,8 +1,6 @@
 -- `add`: from its place on the keys make room, each one place further.
-use borrow.Author.Rules.{rules}
 use Prim.Native.Nat.{◌-◌}
-use mathlib.Core.Logic.{⊎_elim}
-use Rattle.keys.proofs.Adding.{Shifting, key_stands, shifting_before, shifting_ends, shifting_last, shifting_on}
+use Rattle.keys.proofs.Adding.{Shifting}
 use Rattle.keys.proofs.add.Given as goal
 
 abbrev pub invariant-loop-i : goal.invariant-loop-i

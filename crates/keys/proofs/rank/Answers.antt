@@ -1,7 +1,5 @@
-use borrow.Author.Rules.{rules}
-use Prim.Native.Nat.{◌-◌}
 use native.Mathlib.Omega.{arith}
-use Rattle.keys.proofs.Ranking.{Halving, halving_down, halving_ends, halving_starts, halving_up}
+use Rattle.keys.proofs.Ranking.{halving_down, halving_ends, halving_starts, halving_up}
 use Rattle.keys.proofs.rank.Goals as goal
 
 pub loop-low-init : goal.loop-low-init

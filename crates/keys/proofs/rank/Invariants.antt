@@ -1,8 +1,6 @@
 -- `rank`: the place lies from low to high.
-use borrow.Author.Rules.{rules}
 use Prim.Native.Nat.{◌-◌}
-use native.Mathlib.Omega.{arith}
-use Rattle.keys.proofs.Ranking.{Halving, halving_down, halving_ends, halving_starts, halving_up}
+use Rattle.keys.proofs.Ranking.{Halving}
 use Rattle.keys.proofs.rank.Given as goal
 
 abbrev pub invariant-loop-low : goal.invariant-loop-low

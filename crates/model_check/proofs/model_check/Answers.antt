@@ -1,7 +1,6 @@
 use mathlib.Core.Path.{◌∙◌, sym}
 use lib.ListN.{length}
 use native.Mathlib.Omega.{arith}
-use borrow.Author.Rules.{rules}
 use Rattle.frames.proofs.Work.{none_full}
 use Rattle.model_check.proofs.Whole.{checkable, refuses, says_no, says_yes}
 use Rattle.model_check.proofs.model_check.Goals as goal

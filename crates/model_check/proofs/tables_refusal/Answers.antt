@@ -1,4 +1,3 @@
-use borrow.Author.Rules.{rules}
 use Rattle.model_check.proofs.Whole.{refused_input, refused_model}
 use Rattle.model_check.proofs.tables_refusal.Goals as goal
 

@@ -1,7 +1,5 @@
-use borrow.Author.Rules.{rules}
-use Prim.Native.Nat.{◌-◌}
 use native.Mathlib.Omega.{arith}
-use Rattle.name_table.proofs.Laws.{Repeating, listed_at, listed_rest, repeating_ends, repeating_finds, repeating_on, repeating_starts}
+use Rattle.name_table.proofs.Laws.{listed_at, listed_rest, repeating_ends, repeating_finds, repeating_on, repeating_starts}
 use Rattle.name_table.proofs.has_repeats.Goals as goal
 
 pub loop-k-init : goal.loop-k-init

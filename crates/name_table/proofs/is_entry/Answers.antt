@@ -1,4 +1,3 @@
-use borrow.Author.Rules.{rules}
 use Rattle.name_table.proofs.Laws.{print_differs}
 use Rattle.name_table.proofs.is_entry.Goals as goal
 

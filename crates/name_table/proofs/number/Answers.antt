@@ -1,8 +1,6 @@
 use borrow.Author.Rules.{rules}
-use Prim.Native.Nat.{◌-◌}
 use native.Mathlib.Omega.{arith}
-use Rattle.tokens.specs.Places.{part}
-use Rattle.name_table.proofs.Laws.{Looking, listed_at, looking_ends, looking_finds, looking_on, looking_starts}
+use Rattle.name_table.proofs.Laws.{listed_at, looking_ends, looking_finds, looking_on, looking_starts}
 use Rattle.name_table.proofs.number.Goals as goal
 
 pub loop-k-init : goal.loop-k-init

@@ -1,8 +1,6 @@
-use borrow.Author.Rules.{rules}
 use Prim.Native.Nat.{◌-◌}
-use native.Mathlib.Omega.{arith}
 use Rattle.tokens.specs.Places.{part}
-use Rattle.name_table.proofs.Laws.{Looking, listed_at, looking_ends, looking_finds, looking_on, looking_starts}
+use Rattle.name_table.proofs.Laws.{Looking}
 use Rattle.name_table.proofs.number.Given as goal
 
 abbrev pub invariant-loop-k : goal.invariant-loop-k

@@ -1,7 +1,5 @@
 use borrow.Author.Rules.{rules}
-use Prim.Native.Nat.{◌-◌, ◌<◌, ℕ}
-use Rattle.normal_form.proofs.Building.{Going, below_falls, below_room, build_ends, build_on, build_skip, build_starts, individual_fits, waits}
-use Rattle.normal_form.proofs.Growing.{undone}
+use Rattle.normal_form.proofs.Building.{below_falls, below_room, build_ends, build_on, build_skip, build_starts, individual_fits, waits}
 use Rattle.normal_form.proofs.+successors.Goals as goal
 
 pub loop-at-init : goal.loop-at-init

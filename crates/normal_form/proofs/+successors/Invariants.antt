@@ -1,7 +1,6 @@
 -- `successors`: a loop over the pending roles, and a call for the roles below each individual, of which less is to be done.
-use borrow.Author.Rules.{rules}
-use Prim.Native.Nat.{◌-◌, ◌<◌, ℕ}
-use Rattle.normal_form.proofs.Building.{Going, below_falls, below_room, build_ends, build_on, build_skip, build_starts, individual_fits, waits}
+use Prim.Native.Nat.{◌-◌}
+use Rattle.normal_form.proofs.Building.{Going}
 use Rattle.normal_form.proofs.Growing.{undone}
 use Rattle.normal_form.proofs.+successors.Given as goal
 

@@ -1,9 +1,7 @@
-use Prim.Native.Nat.{◌-◌}
 use mathlib.Core.Path.{◌∙◌, ap}
 use lib.ListN.{length}
 use native.Mathlib.Omega.{arith}
-use borrow.Author.Rules.{rules}
-use Rattle.normal_form.proofs.Laws.{Placing, placing_entry, placing_here, placing_last, placing_on, placing_starts}
+use Rattle.normal_form.proofs.Laws.{placing_entry, placing_here, placing_last, placing_on, placing_starts}
 use Rattle.normal_form.proofs.add_interval.Goals as goal
 
 pub loop-i-init : goal.loop-i-init

@@ -1,10 +1,6 @@
 -- `add_interval`: what is placed from i on is placed from first on.
 use Prim.Native.Nat.{◌-◌}
-use mathlib.Core.Path.{◌∙◌, ap}
-use lib.ListN.{length}
-use native.Mathlib.Omega.{arith}
-use borrow.Author.Rules.{rules}
-use Rattle.normal_form.proofs.Laws.{Placing, placing_entry, placing_here, placing_last, placing_on, placing_starts}
+use Rattle.normal_form.proofs.Laws.{Placing}
 use Rattle.normal_form.proofs.add_interval.Given as goal
 
 abbrev pub invariant-loop-i : goal.invariant-loop-i

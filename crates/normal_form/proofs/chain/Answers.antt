@@ -1,10 +1,6 @@
 use borrow.Author.Rules.{rules}
-use mathlib.Core.Path.{◌≡◌}
-use lib.ListN.{length}
-use Rattle.meaning.specs.Records.{falling, last_of}
-use Rattle.normal_form.proofs.Conjuncts.{Rest, chain_ends, chain_on, chain_single, chain_starts}
-use Rattle.policy.proofs.Conjuncts.{Going, going_falls}
-use Rattle.words.specs.Sets.{in_set}
+use Rattle.normal_form.proofs.Conjuncts.{chain_ends, chain_on, chain_single, chain_starts}
+use Rattle.policy.proofs.Conjuncts.{going_falls}
 use Rattle.normal_form.proofs.chain.Goals as goal
 
 pub loop-at-init : goal.loop-at-init

@@ -1,10 +1,9 @@
 -- `chain`: a loop along the chain, over its records.
-use borrow.Author.Rules.{rules}
 use mathlib.Core.Path.{◌≡◌}
 use lib.ListN.{length}
 use Rattle.meaning.specs.Records.{falling, last_of}
-use Rattle.normal_form.proofs.Conjuncts.{Rest, chain_ends, chain_on, chain_single, chain_starts}
-use Rattle.policy.proofs.Conjuncts.{Going, going_falls}
+use Rattle.normal_form.proofs.Conjuncts.{Rest}
+use Rattle.policy.proofs.Conjuncts.{Going}
 use Rattle.words.specs.Sets.{in_set}
 use Rattle.normal_form.proofs.chain.Given as goal
 

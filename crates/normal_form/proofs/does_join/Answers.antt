@@ -1,4 +1,3 @@
-use borrow.Author.Rules.{rules}
 use Rattle.normal_form.proofs.Conjuncts.{join_told}
 use Rattle.words.specs.Sets.{in_set}
 use Rattle.normal_form.proofs.does_join.Goals as goal

@@ -1,8 +1,5 @@
-use borrow.Author.Rules.{rules}
-use Prim.Native.Nat.{◌-◌}
-
 use lib.ListN.{length-set}
-use Rattle.normal_form.proofs.Joining.{Going, gather_ends, gather_pass, gather_skip, gather_starts, gather_take, take_good, take_room}
+use Rattle.normal_form.proofs.Joining.{gather_ends, gather_pass, gather_skip, gather_starts, gather_take, take_good, take_room}
 use Rattle.normal_form.proofs.gather.Goals as goal
 use Rattle.normal_form.proofs.gather.Goals.{then-k-eq0-via-else-k-eq0+then-not-does_join, then-k-eq0-via-then-k-eq0}
 

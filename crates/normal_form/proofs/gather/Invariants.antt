@@ -1,9 +1,6 @@
 -- `gather`: a loop over the pending roles.
-use borrow.Author.Rules.{rules}
 use Prim.Native.Nat.{◌-◌}
-use mathlib.Core.Logic.{⊎_elim}
-use lib.ListN.{length-set}
-use Rattle.normal_form.proofs.Joining.{Going, gather_ends, gather_pass, gather_skip, gather_starts, gather_take, take_good, take_room}
+use Rattle.normal_form.proofs.Joining.{Going}
 use Rattle.normal_form.proofs.gather.Given as goal
 
 abbrev pub invariant-loop-at : goal.invariant-loop-at

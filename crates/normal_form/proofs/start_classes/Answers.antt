@@ -1,4 +1,3 @@
-use borrow.Author.Rules.{rules}
 use Rattle.normal_form.proofs.Laws.{start_none, start_range}
 use Rattle.normal_form.proofs.start_classes.Goals as goal
 

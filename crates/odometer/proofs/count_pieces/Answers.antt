@@ -1,9 +1,6 @@
 use borrow.Author.Rules.{rules}
-use Prim.Native.Nat.{◌-◌, ◌≤◌}
-use mathlib.Core.Path.{◌≡◌}
 use native.Mathlib.Omega.{arith}
-use lib.ListN.{length}
-use Rattle.odometer.proofs.Counts.{Counting, counting_ends, counting_fits, counting_full, counting_inside, counting_on, counting_starts}
+use Rattle.odometer.proofs.Counts.{counting_ends, counting_fits, counting_full, counting_inside, counting_on, counting_starts}
 use Rattle.odometer.proofs.count_pieces.Goals as goal
 
 pub loop-d-init : goal.loop-d-init
@@ -40,13 +37,12 @@ pub loop-d-smaller : goal.loop-d-smaller
 loop-d-smaller c = omega arith
 
 pub loop-d-preserved : goal.loop-d-preserved
-loop-d-preserved c =
-    (
-      omega arith,
-      c.loop-d.invariant.1,
-      counting_on c.requires c.loop-d-test.true c.place-m.ensures
-          c.feature_of.ensures c.lo_of.ensures c.hi_of.ensures c.count.ensures.value c.loop-d.invariant.2,
-    )
+loop-d-preserved c = (
+  omega arith,
+  c.loop-d.invariant.1,
+  counting_on c.requires c.loop-d-test.true c.place-m.ensures
+      c.feature_of.ensures c.lo_of.ensures c.hi_of.ensures c.count.ensures.value c.loop-d.invariant.2,
+)
 
 pub returns : goal.returns
 returns c = search counting_ends

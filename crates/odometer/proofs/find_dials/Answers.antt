@@ -1,7 +1,5 @@
-use borrow.Author.Rules.{rules}
-use Prim.Native.Nat.{◌-◌, ◌≤◌}
 use native.Mathlib.Omega.{arith}
-use Rattle.odometer.proofs.Finding.{Finding, finding_ends, finding_more, finding_other, finding_room, finding_starts}
+use Rattle.odometer.proofs.Finding.{finding_ends, finding_more, finding_other, finding_room, finding_starts}
 use Rattle.odometer.proofs.find_dials.Goals as goal
 
 pub loop-m-init : goal.loop-m-init

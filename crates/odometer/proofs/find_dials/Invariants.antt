@@ -1,8 +1,6 @@
 -- `find_dials`: the dials among the first m constraints stand in front.
-use borrow.Author.Rules.{rules}
 use Prim.Native.Nat.{◌-◌, ◌≤◌}
-use native.Mathlib.Omega.{arith}
-use Rattle.odometer.proofs.Finding.{Finding, finding_ends, finding_more, finding_other, finding_room, finding_starts}
+use Rattle.odometer.proofs.Finding.{Finding}
 use Rattle.odometer.proofs.find_dials.Given as goal
 
 abbrev pub invariant-loop-m : goal.invariant-loop-m

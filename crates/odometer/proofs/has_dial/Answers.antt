@@ -1,4 +1,3 @@
-use borrow.Author.Rules.{rules}
 use Rattle.words.proofs.Bits.{bit_mask}
 use Rattle.odometer.proofs.has_dial.Goals as goal
 

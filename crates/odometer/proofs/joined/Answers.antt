@@ -1,4 +1,3 @@
-
 use Rattle.odometer.proofs.joined.Goals as goal
 
 pub returns-then-relied : goal.returns-then-relied

@@ -1,8 +1,7 @@
-use borrow.Author.Rules.{rules}
 use Prim.Native.Nat.{suc, ◌-◌}
 use mathlib.Core.Path.{◌≡◌}
 use native.Mathlib.Omega.{arith}
-use Rattle.odometer.proofs.Passing.{Passing, passing_ends, passing_split, passing_starts, small, weight_some}
+use Rattle.odometer.proofs.Passing.{passing_ends, passing_split, passing_starts, small, weight_some}
 use Rattle.odometer.proofs.Skipping.{passing_done, passing_on, weight_fits}
 use Rattle.odometer.proofs.skip.Goals as goal
 

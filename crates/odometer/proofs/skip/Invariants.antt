@@ -1,14 +1,9 @@
 -- `skip`: the dials from d on have been passed.
-use borrow.Author.Rules.{rules}
-use Prim.Native.Nat.{suc, ◌-◌}
-use mathlib.Core.Path.{◌≡◌}
-use native.Mathlib.Omega.{arith}
-use Rattle.odometer.proofs.Passing.{Passing, passing_ends, passing_split, passing_starts, small, weight_some}
-use Rattle.odometer.proofs.Skipping.{passing_done, passing_on, weight_fits}
+use Rattle.odometer.proofs.Passing.{Passing}
 use Rattle.odometer.proofs.skip.Given as goal
 
 abbrev pub invariant-loop-d : goal.invariant-loop-d
-invariant-loop-d l = 
+invariant-loop-d l =
     Passing l.ends l.dials l.initial.earlier l.earlier l.initial.work l.work l.n l.reason l.q l.mask l.weight l.d
 
 abbrev pub decreases-loop-d : goal.decreases-loop-d

@@ -1,5 +1,4 @@
 -- `turn`: the next piece, or the first.
-use borrow.Author.Rules.{rules}
 use lib.Dec.{T}
 use mathlib.Core.Path.{◌∙◌, subst, sym}
 use Rattle.odometer.proofs.Turning.{turn_back, turn_on}

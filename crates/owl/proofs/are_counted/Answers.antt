@@ -1,4 +1,3 @@
-use borrow.Author.Rules.{rules}
 use Rattle.owl.proofs.Whole.{many_classes, many_features_lem, many_roles_lem, no_class}
 use Rattle.owl.proofs.are_counted.Goals as goal
 

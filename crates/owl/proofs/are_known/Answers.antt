@@ -1,8 +1,6 @@
-use Prim.Native.Nat.{◌-◌}
-use lib.ListN.{length}
 use native.Mathlib.Omega.{arith}
 use Rattle.declarations.proofs.Passing.{parses_some}
-use Rattle.owl.proofs.Passes.{Knowing, gathering_long, knowing_ends, knowing_on, knowing_starts, knowing_stops, next_here}
+use Rattle.owl.proofs.Passes.{gathering_long, knowing_ends, knowing_on, knowing_starts, knowing_stops, next_here}
 use Rattle.owl.proofs.are_known.Goals as goal
 
 pub loop-c-init : goal.loop-c-init

@@ -1,4 +1,3 @@
-use borrow.Author.Rules.{rules}
 use native.Mathlib.Omega.{arith}
 use Rattle.owl.proofs.Looking.{class_size, feature_size, role_size, sizes_small, sorted_listed}
 use Rattle.owl.proofs.Noting.{not_met}

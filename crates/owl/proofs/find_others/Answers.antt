@@ -1,4 +1,3 @@
-use borrow.Author.Rules.{rules}
 use Rattle.owl.proofs.Others.{others_only}
 use Rattle.owl.proofs.find_others.Goals as goal
 

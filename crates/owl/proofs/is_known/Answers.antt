@@ -1,4 +1,3 @@
-use borrow.Author.Rules.{rules}
 use Rattle.owl.proofs.Noting.{looks_both, looks_declared, looks_feature, looks_missing, looks_role}
 use Rattle.owl.proofs.is_known.Goals as goal
 

@@ -1,4 +1,3 @@
-use borrow.Author.Rules.{rules}
 use borrow.Author.Tests.{not-false}
 use mathlib.Core.Path.{◌∙◌, sym}
 use Rattle.owl.proofs.Whole.{not_counted, not_opened, not_parsed, opened_begins, refused, survey_counts, too_long_lem}

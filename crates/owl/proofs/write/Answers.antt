@@ -1,4 +1,3 @@
-use borrow.Author.Rules.{rules}
 use mathlib.Core.Path.{◌∙◌}
 use native.Mathlib.Omega.{arith}
 use Rattle.owl.proofs.Whole.{filled, last_record, records_small, refused, too_many_lem, too_short, words_room}

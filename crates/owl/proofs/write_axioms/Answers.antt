@@ -1,8 +1,6 @@
-use Prim.Native.Nat.{◌-◌}
-use lib.ListN.{length}
 use native.Mathlib.Omega.{arith}
 use Rattle.declarations.proofs.Passing.{parses_some}
-use Rattle.owl.proofs.Passes.{Writing, next_here, write_ends, write_on, write_passes, write_room, write_starts}
+use Rattle.owl.proofs.Passes.{next_here, write_ends, write_on, write_passes, write_room, write_starts}
 use Rattle.owl.proofs.write_axioms.Goals as goal
 
 pub loop-c-init : goal.loop-c-init

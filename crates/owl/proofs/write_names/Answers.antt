@@ -1,10 +1,7 @@
 use native.Mathlib.Omega.{arith}
-use lib.ListN.{length}
 use Rattle.owl.proofs.Output.{name_length, names_more, names_start}
-use Rattle.owl.specs.Passes.{naming}
-use Rattle.records.proofs.Writing.{Left, left_end, left_start, turn_less, turn_more, turn_room}
+use Rattle.records.proofs.Writing.{left_end, left_start, turn_less, turn_more, turn_room}
 use Rattle.words.proofs.Listing.{from_end, from_more}
-use Rattle.words.specs.Members.{members, members_from}
 use Rattle.owl.proofs.write_names.Goals as goal
 
 pub next-x-requires : goal.next-x-requires

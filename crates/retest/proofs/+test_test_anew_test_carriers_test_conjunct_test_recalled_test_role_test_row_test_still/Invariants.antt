@@ -1,19 +1,14 @@
 -- The cycle of the structural test: a chain tests its conjuncts, a conjunct what is remembered of it, its kind, a role the successors, a
 -- successor a child chain, with a level less.
-use borrow.Author.Rules.{rules}
-use Prim.Native.Nat.{◌*◌, ◌+◌, ◌-◌, ◌<◌, ℕ}
-use mathlib.Core.List.{List}
-use mathlib.Core.Path.{◌≡◌, refl}
+use Prim.Native.Nat.{◌*◌, ◌+◌, ◌-◌}
+use mathlib.Core.Path.{◌≡◌}
 use lib.ListN.{length}
-use native.Mathlib.Omega.{arith}
 use Rattle.meaning.specs.Records.{falling, last_of}
 use Rattle.retest.specs.Memory.{Sure}
-use Rattle.retest.proofs.Carried.{Carrying, list_ends, list_falls, list_found, list_on, list_row, list_starts}
-use Rattle.retest.proofs.Conjuncts.{Rest, class_told, impossible_told, individual_few, kind_other, recalled_fails, recalled_noted, recalled_passes, recalled_pending, settled_small}
-use Rattle.retest.proofs.Conjuncts.{role_below, role_carried, role_none, role_noted, role_open, role_still}
-use Rattle.retest.proofs.Conjuncts.{test_asked, test_ends, test_fails, test_on, test_starts}
-use Rattle.retest.proofs.Successors.{Seeking, row_other, row_own, still_ends, still_falls, still_found, still_listed, still_on, still_row, still_starts}
-use Rattle.policy.proofs.Conjuncts.{Going, going_falls}
+use Rattle.retest.proofs.Carried.{Carrying}
+use Rattle.retest.proofs.Conjuncts.{Rest}
+use Rattle.retest.proofs.Successors.{Seeking}
+use Rattle.policy.proofs.Conjuncts.{Going}
 use Rattle.retest.proofs.+test_test_anew_test_carriers_test_conjunct_test_recalled_test_role_test_row_test_still.Given as goal
 
 abbrev pub decreases-test : goal.decreases-test

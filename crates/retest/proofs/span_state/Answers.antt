@@ -1,7 +1,6 @@
 use borrow.Author.Rules.{rules}
-use Prim.Native.Nat.{◌-◌}
 use native.Mathlib.Omega.{arith}
-use Rattle.retest.proofs.Spans.{Passed, passed_starts, spans_behind, spans_end, spans_found, spans_on}
+use Rattle.retest.proofs.Spans.{passed_starts, spans_behind, spans_end, spans_found, spans_on}
 use Rattle.retest.proofs.span_state.Goals as goal
 
 pub loop-m-init : goal.loop-m-init

@@ -1,8 +1,6 @@
 -- `span_state`: no constraint before m lies inside whole; where the state is that none may pass, none before m may.
-use borrow.Author.Rules.{rules}
 use Prim.Native.Nat.{◌-◌}
-use native.Mathlib.Omega.{arith}
-use Rattle.retest.proofs.Spans.{Passed, passed_starts, spans_behind, spans_end, spans_found, spans_on}
+use Rattle.retest.proofs.Spans.{Passed}
 use Rattle.retest.proofs.span_state.Given as goal
 
 abbrev pub invariant-loop-m : goal.invariant-loop-m

@@ -1,9 +1,6 @@
 use borrow.Author.Rules.{rules}
-use Prim.Native.Nat.{◌-◌, ◌≤◌}
-use mathlib.Core.Path.{◌≡◌}
-use lib.ListN.{length}
 use native.Mathlib.Omega.{arith}
-use Rattle.retest.proofs.Dials.{Missed, dial_entry, dial_inside, dials_end, missed_on, missed_starts}
+use Rattle.retest.proofs.Dials.{dial_entry, dial_inside, dials_end, missed_on, missed_starts}
 use Rattle.retest.proofs.test_dials.Goals as goal
 
 pub loop-d-init : goal.loop-d-init

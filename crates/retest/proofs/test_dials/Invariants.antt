@@ -1,10 +1,8 @@
 -- `test_dials`: the dials before d that may pass are in the mask, and their pieces do not lie inside.
-use borrow.Author.Rules.{rules}
 use Prim.Native.Nat.{◌-◌, ◌≤◌}
 use mathlib.Core.Path.{◌≡◌}
 use lib.ListN.{length}
-use native.Mathlib.Omega.{arith}
-use Rattle.retest.proofs.Dials.{Missed, dial_entry, dial_inside, dials_end, missed_on, missed_starts}
+use Rattle.retest.proofs.Dials.{Missed}
 use Rattle.retest.proofs.test_dials.Given as goal
 
 abbrev pub invariant-loop-d : goal.invariant-loop-d

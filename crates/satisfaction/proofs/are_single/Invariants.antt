@@ -1,8 +1,5 @@
 use Prim.Native.Nat.{◌-◌}
-use native.Mathlib.Omega.{arith}
-use borrow.Author.Rules.{rules}
-use Rattle.satisfaction.proofs.Holding.{Numbering, numbering_ends, numbering_fails, numbering_on, numbering_past}
-use Rattle.satisfaction.proofs.Holding.{numbering_starts}
+use Rattle.satisfaction.proofs.Holding.{Numbering}
 use Rattle.satisfaction.specs.Places.{series_count}
 use Rattle.satisfaction.proofs.are_single.Given as goal
 

@@ -1,6 +1,5 @@
 use mathlib.Core.Path.{◌∙◌}
 use native.Mathlib.Omega.{arith}
-use borrow.Author.Rules.{rules}
 use Rattle.satisfaction.proofs.clear_rows.Goals as goal
 
 pub overflow_mul-place : goal.overflow_mul-place

@@ -1,4 +1,3 @@
-use borrow.Author.Rules.{rules}
 use Rattle.satisfaction.proofs.Rows.{put_size}
 use Rattle.satisfaction.proofs.Values.{compare_clash, compare_first, compare_high, compare_low, compare_same}
 use Rattle.satisfaction.proofs.compare.Goals as goal

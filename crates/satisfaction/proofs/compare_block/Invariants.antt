@@ -1,8 +1,6 @@
-use borrow.Author.Rules.{rules}
 use Rattle.meaning.specs.Records.{falling, last_of}
-use Rattle.model.proofs.Chain.{Scanning, scanning_ends, scanning_falls, scanning_on, scanning_starts, scanning_stated}
-use Rattle.satisfaction.proofs.Values.{Comparing, comparable, comparing_ends, comparing_none, comparing_on, comparing_size}
-use Rattle.satisfaction.proofs.Values.{comparing_starts, values_fit}
+use Rattle.model.proofs.Chain.{Scanning}
+use Rattle.satisfaction.proofs.Values.{Comparing}
 use Rattle.satisfaction.proofs.compare_block.Given as goal
 
 abbrev pub invariant-loop-f : goal.invariant-loop-f

@@ -1,8 +1,6 @@
-use Prim.Native.Nat.{◌+◌, ◌-◌}
-use mathlib.Core.Path.{◌≡◌, refl, sym}
-use borrow.Author.Rules.{rules}
-use Rattle.meaning.specs.Lists.{all, counting}
-use Rattle.satisfaction.proofs.Statements.{Counting, all_fails, all_on, counting_ends, counting_found, counting_on, counting_starts}
+use Prim.Native.Nat.{◌+◌}
+use mathlib.Core.Path.{refl, sym}
+use Rattle.satisfaction.proofs.Statements.{all_fails, all_on, counting_ends, counting_found, counting_on, counting_starts}
 use Rattle.satisfaction.specs.Classes.{follows}
 use Rattle.satisfaction.proofs.do_follow.Goals as goal
 

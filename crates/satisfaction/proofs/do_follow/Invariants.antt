@@ -1,9 +1,8 @@
 -- the answer for all is that for those that are left
-use Prim.Native.Nat.{◌+◌, ◌-◌}
-use mathlib.Core.Path.{◌≡◌, refl, sym}
-use borrow.Author.Rules.{rules}
+use Prim.Native.Nat.{◌-◌}
+use mathlib.Core.Path.{◌≡◌}
 use Rattle.meaning.specs.Lists.{all, counting}
-use Rattle.satisfaction.proofs.Statements.{Counting, all_fails, all_on, counting_ends, counting_found, counting_on, counting_starts}
+use Rattle.satisfaction.proofs.Statements.{Counting}
 use Rattle.satisfaction.specs.Classes.{follows}
 use Rattle.satisfaction.proofs.do_follow.Given as goal
 

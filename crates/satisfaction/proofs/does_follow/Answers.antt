@@ -1,4 +1,3 @@
-use borrow.Author.Rules.{rules}
 use Rattle.satisfaction.proofs.Facts.{apart_told, joint_told, not_first}
 use Rattle.satisfaction.proofs.does_follow.Goals as goal
 

@@ -1,4 +1,3 @@
-use borrow.Author.Rules.{rules}
 use Rattle.satisfaction.proofs.Facts.{entered_none, entered_one}
 use Rattle.satisfaction.proofs.Rows.{put_size}
 use Rattle.satisfaction.proofs.enter.Goals as goal

@@ -1,8 +1,7 @@
 use mathlib.Core.Path.{◌∙◌}
 use borrow.Author.Rules.{rules}
-use Rattle.meaning.specs.Records.{falling, last_of}
-use Rattle.model.proofs.Chain.{Scanning, scanning_ends, scanning_falls, scanning_on, scanning_starts, scanning_stated}
-use Rattle.satisfaction.proofs.Classes.{Entering, classes_fit, entering_ends, entering_on, entering_starts}
+use Rattle.model.proofs.Chain.{scanning_ends, scanning_falls, scanning_on, scanning_starts, scanning_stated}
+use Rattle.satisfaction.proofs.Classes.{classes_fit, entering_ends, entering_on, entering_starts}
 use Rattle.satisfaction.proofs.enter_all.Goals as goal
 
 pub clear_rows-requires : goal.clear_rows-requires

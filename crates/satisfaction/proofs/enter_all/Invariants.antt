@@ -1,8 +1,6 @@
-use mathlib.Core.Path.{◌∙◌}
-use borrow.Author.Rules.{rules}
 use Rattle.meaning.specs.Records.{falling, last_of}
-use Rattle.model.proofs.Chain.{Scanning, scanning_ends, scanning_falls, scanning_on, scanning_starts, scanning_stated}
-use Rattle.satisfaction.proofs.Classes.{Entering, classes_fit, entering_ends, entering_on, entering_starts}
+use Rattle.model.proofs.Chain.{Scanning}
+use Rattle.satisfaction.proofs.Classes.{Entering}
 use Rattle.satisfaction.proofs.enter_all.Given as goal
 
 abbrev pub invariant-loop-f : goal.invariant-loop-f

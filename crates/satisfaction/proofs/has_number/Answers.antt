@@ -1,4 +1,3 @@
-use borrow.Author.Rules.{rules}
 use Rattle.meaning.specs.Vocabulary.{vocabulary_of}
 use Rattle.satisfaction.proofs.Holding.{number_feature, number_role}
 use Rattle.satisfaction.proofs.has_number.Goals as goal

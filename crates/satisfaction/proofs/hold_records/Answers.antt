@@ -1,6 +1,4 @@
-use borrow.Author.Rules.{rules}
-use Rattle.meaning.specs.Records.{falling, last_of}
-use Rattle.satisfaction.proofs.Holding.{Judging, judging_askable, judging_ends, judging_fails, judging_on, judging_starts}
+use Rattle.satisfaction.proofs.Holding.{judging_askable, judging_ends, judging_fails, judging_on, judging_starts}
 use Rattle.satisfaction.proofs.Statements.{obeying_falls}
 use Rattle.satisfaction.proofs.hold_records.Goals as goal
 

@@ -1,7 +1,5 @@
-use borrow.Author.Rules.{rules}
 use Rattle.meaning.specs.Records.{falling, last_of}
-use Rattle.satisfaction.proofs.Holding.{Judging, judging_askable, judging_ends, judging_fails, judging_on, judging_starts}
-use Rattle.satisfaction.proofs.Statements.{obeying_falls}
+use Rattle.satisfaction.proofs.Holding.{Judging}
 use Rattle.satisfaction.proofs.hold_records.Given as goal
 
 abbrev pub invariant-loop-k : goal.invariant-loop-k

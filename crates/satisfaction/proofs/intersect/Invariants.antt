@@ -1,7 +1,4 @@
 use Prim.Native.Nat.{◌-◌, ◌≤◌}
-use native.Mathlib.Omega.{arith}
-use borrow.Author.Rules.{rules}
-use Rattle.satisfaction.proofs.Ranges.{intersected_more, intersected_none}
 use Rattle.satisfaction.specs.Ranges.{Intersected}
 use Rattle.words.specs.Rows.{class_words}
 use Rattle.satisfaction.proofs.intersect.Given as goal

@@ -1,5 +1,4 @@
 use mathlib.Core.Path.{◌∙◌}
-use borrow.Author.Rules.{rules}
 use Rattle.satisfaction.proofs.is_range.Goals as goal
 
 pub returns : goal.returns

@@ -1,8 +1,6 @@
 use mathlib.Core.Path.{◌∙◌}
-use borrow.Author.Rules.{rules}
-use Rattle.meaning.specs.Records.{falling, last_of}
-use Rattle.model.proofs.Chain.{Scanning, scanning_ends, scanning_falls, scanning_on, scanning_starts, scanning_stated}
-use Rattle.satisfaction.proofs.Ranges.{Ranging, ranges_there, ranges_unasked, ranging_ends, ranging_interpreted, ranging_on}
+use Rattle.model.proofs.Chain.{scanning_ends, scanning_falls, scanning_on, scanning_starts, scanning_stated}
+use Rattle.satisfaction.proofs.Ranges.{ranges_there, ranges_unasked, ranging_ends, ranging_interpreted, ranging_on}
 use Rattle.satisfaction.proofs.Ranges.{ranging_starts}
 use Rattle.satisfaction.proofs.make_ranges.Goals as goal
 

@@ -1,7 +1,4 @@
 use Prim.Native.Nat.{◌-◌, ◌≤◌}
-use native.Mathlib.Omega.{arith}
-use borrow.Author.Rules.{rules}
-use Rattle.satisfaction.proofs.Ranges.{opened_more, opened_none}
 use Rattle.satisfaction.specs.Places.{range_words}
 use Rattle.satisfaction.specs.Ranges.{Opened}
 use Rattle.satisfaction.proofs.open_ranges.Given as goal

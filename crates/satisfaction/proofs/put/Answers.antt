@@ -1,4 +1,3 @@
-use borrow.Author.Rules.{rules}
 use Rattle.satisfaction.proofs.Rows.{put_part}
 use Rattle.satisfaction.proofs.put.Goals as goal
 

@@ -1,5 +1,4 @@
 use native.Mathlib.Omega.{arith}
-use borrow.Author.Rules.{rules}
 use Rattle.short_way.proofs.Passing.{pass_clean, pass_impossible, pass_taken, shape_formed}
 use Rattle.tabulation.proofs.Laws.{pairs_still}
 use Rattle.short_way.proofs.does_pass.Goals as goal

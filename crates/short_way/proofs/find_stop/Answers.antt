@@ -1,17 +1,10 @@
-use Prim.Native.Nat.{ℕ}
-use mathlib.Core.List.{List}
 use mathlib.Core.Path.{◌∙◌}
 use native.Mathlib.Omega.{arith}
-use borrow.Author.Rules.{rules}
 use borrow.Author.Tests.{not-false, not-true}
 use Rattle.frames.proofs.Frames.{only_none, only_then}
-use Rattle.frames.specs.Frames.{Only}
-use Rattle.layout.specs.Places.{InTables}
-use Rattle.meaning.specs.Records.{falling, last_of}
-use Rattle.policy.proofs.Terms.{Asking, asking_falls, asking_room, asking_starts, asking_term}
+use Rattle.policy.proofs.Terms.{asking_falls, asking_room, asking_starts, asking_term}
 use Rattle.preparation.proofs.Laws.{prepared_kept}
 use Rattle.short_way.proofs.Passing.{asking_askable, behind_starts, passes_on, stops_ended, stops_found}
-use Rattle.short_way.specs.Stops.{Behind, PreparedPair}
 use Rattle.short_way.proofs.find_stop.Goals as goal
 
 pub loop-k-init : goal.loop-k-init

@@ -1,4 +1,3 @@
-use borrow.Author.Rules.{rules}
 use Rattle.spans.proofs.Cuts.{cuts_none, cuts_two}
 use Rattle.spans.proofs.add_cuts.Goals as goal
 

@@ -1,9 +1,7 @@
 use borrow.Author.Rules.{rules}
-use Prim.Native.Nat.{◌-◌, ◌≤◌}
-use mathlib.Core.Path.{◌∙◌, ◌≡◌}
-use lib.ListN.{length}
+use mathlib.Core.Path.{◌∙◌}
 use native.Mathlib.Omega.{arith}
-use Rattle.spans.proofs.Cuts.{Cutting, cutting_ends, cutting_on, cutting_starts}
+use Rattle.spans.proofs.Cuts.{cutting_ends, cutting_on, cutting_starts}
 use Rattle.spans.proofs.cut_all.Goals as goal
 
 pub loop-k-init : goal.loop-k-init

@@ -1,9 +1,7 @@
-use borrow.Author.Rules.{rules}
 use Prim.Native.Nat.{◌-◌, ◌≤◌}
-use mathlib.Core.Path.{◌∙◌, ◌≡◌}
+use mathlib.Core.Path.{◌≡◌}
 use lib.ListN.{length}
-use native.Mathlib.Omega.{arith}
-use Rattle.spans.proofs.Cuts.{Cutting, cutting_ends, cutting_on, cutting_starts}
+use Rattle.spans.proofs.Cuts.{Cutting}
 use Rattle.spans.proofs.cut_all.Given as goal
 
 abbrev pub invariant-loop-k : goal.invariant-loop-k

@@ -1,9 +1,6 @@
 use borrow.Author.Rules.{rules}
-use Prim.Native.Nat.{◌-◌, ◌≤◌}
 use native.Mathlib.Omega.{arith}
 use Rattle.spans.proofs.Joining.{joined_more, joined_none}
-use Rattle.spans.specs.Joining.{Joined}
-use Rattle.satisfaction.specs.Places.{record_words}
 use Rattle.spans.proofs.join.Goals as goal
 
 pub loop-i-init : goal.loop-i-init

@@ -1,10 +1,6 @@
-use borrow.Author.Rules.{rules}
-use native.Mathlib.Omega.{arith}
 use Rattle.meaning.specs.Records.{falling, last_of}
-use Rattle.model.proofs.Chain.{Scanning, scanning_ends, scanning_falls, scanning_on, scanning_starts, scanning_stated}
-use Rattle.spans.proofs.Joining.{Handing, handing_ends, handing_on, handing_starts}
-use Rattle.spans.proofs.Tables.{tabled}
-use Rattle.spans.proofs.Values.{values_marked, values_none}
+use Rattle.model.proofs.Chain.{Scanning}
+use Rattle.spans.proofs.Joining.{Handing}
 use Rattle.spans.specs.Cuts.{spans_among}
 use Rattle.spans.specs.Values.{shows}
 use Rattle.spans.proofs.mark_batch.Given as goal

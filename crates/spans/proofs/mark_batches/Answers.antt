@@ -1,10 +1,7 @@
 use borrow.Author.Rules.{rules}
-use Prim.Native.Nat.{◌-◌, ◌≤◌}
 use mathlib.Core.Path.{◌≡◌}
-use lib.ListN.{length}
 use native.Mathlib.Omega.{arith}
 use Rattle.spans.proofs.Values.{batches_on, batches_start}
-use Rattle.spans.specs.Values.{ValuesMarked}
 use Rattle.spans.proofs.mark_batches.Goals as goal
 
 pub loop-first-init : goal.loop-first-init

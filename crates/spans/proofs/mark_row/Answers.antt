@@ -1,4 +1,3 @@
-use borrow.Author.Rules.{rules}
 use Rattle.satisfaction.proofs.Rows.{put_size}
 use Rattle.spans.proofs.Tables.{row_left, row_marked_lem}
 use Rattle.spans.proofs.mark_row.Goals as goal

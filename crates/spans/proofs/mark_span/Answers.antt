@@ -1,6 +1,5 @@
 use borrow.Author.Rules.{rules}
-use Prim.Native.Nat.{◌-◌, ◌≤◌}
-use Rattle.spans.proofs.Tables.{Spanning, span_none, spanning_ends, spanning_on, spanning_starts}
+use Rattle.spans.proofs.Tables.{span_none, spanning_ends, spanning_on, spanning_starts}
 use Rattle.spans.proofs.mark_span.Goals as goal
 
 pub returns-then-kind_of-ne4 : goal.returns-then-kind_of-ne4

@@ -1,6 +1,5 @@
-use borrow.Author.Rules.{rules}
 use Prim.Native.Nat.{◌-◌, ◌≤◌}
-use Rattle.spans.proofs.Tables.{Spanning, span_none, spanning_ends, spanning_on, spanning_starts}
+use Rattle.spans.proofs.Tables.{Spanning}
 use Rattle.spans.proofs.mark_span.Given as goal
 
 abbrev pub invariant-loop-r : goal.invariant-loop-r

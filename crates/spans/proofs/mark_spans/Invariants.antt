@@ -1,9 +1,6 @@
-use borrow.Author.Rules.{rules}
 use Prim.Native.Nat.{◌-◌, ◌≤◌}
 use mathlib.Core.Path.{◌≡◌}
 use lib.ListN.{length}
-use native.Mathlib.Omega.{arith}
-use Rattle.spans.proofs.Tables.{rowed_on, rowed_starts}
 use Rattle.spans.specs.Cuts.{Rowed}
 use Rattle.spans.proofs.mark_spans.Given as goal
 

@@ -1,11 +1,10 @@
-use Prim.Native.Nat.{◌+◌, ◌-◌, ◌≤◌, ℕ}
+use Prim.Native.Nat.{◌+◌, ℕ}
 use borrow.Author.Rules.{rules}
 use lib.Bits.{bit_and}
-use lib.ListN.{get_or, length, length-set}
-use mathlib.Core.Path.{◌∙◌, ◌≡◌}
+use lib.ListN.{get_or, length-set}
+use mathlib.Core.Path.{◌∙◌}
 use native.Mathlib.Omega.{arith}
-use Rattle.satisfaction.specs.Places.{record_words}
-use Rattle.words.proofs.Steps.{Filled, filled_more}
+use Rattle.words.proofs.Steps.{filled_more}
 use Rattle.spans.proofs.meet.Goals as goal
 
 pub loop-i-init : goal.loop-i-init

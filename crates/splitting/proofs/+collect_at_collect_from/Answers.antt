@@ -1,10 +1,6 @@
 use borrow.Author.Rules.{rules}
-use Prim.Native.Nat.{◌*◌, ◌+◌, ◌<◌, ℕ}
-use mathlib.Core.Path.{◌≡◌}
-use lib.ListN.{length}
-use Rattle.meaning.specs.Records.{falling, last_of}
-use Rattle.policy.proofs.Conjuncts.{Going, going_falls}
-use Rattle.splitting.proofs.Collecting.{Rest, chain_ends, chain_on, chain_single, chain_starts, child_chained, constraint_gathered, ends_fit}
+use Rattle.policy.proofs.Conjuncts.{going_falls}
+use Rattle.splitting.proofs.Collecting.{chain_ends, chain_on, chain_single, chain_starts, child_chained, constraint_gathered, ends_fit}
 use Rattle.splitting.proofs.Collecting.{other_gathered, role_falls, role_gathered, role_level}
 use Rattle.splitting.proofs.+collect_at_collect_from.Goals as goal
 

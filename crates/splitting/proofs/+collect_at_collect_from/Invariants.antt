@@ -1,12 +1,10 @@
 -- `collect_at` and `collect_from`: a loop along the chain, over its records, and a call for each child chain, with a level less.
-use borrow.Author.Rules.{rules}
-use Prim.Native.Nat.{◌*◌, ◌+◌, ◌<◌, ℕ}
+use Prim.Native.Nat.{◌*◌, ◌+◌}
 use mathlib.Core.Path.{◌≡◌}
 use lib.ListN.{length}
 use Rattle.meaning.specs.Records.{falling, last_of}
-use Rattle.policy.proofs.Conjuncts.{Going, going_falls}
-use Rattle.splitting.proofs.Collecting.{Rest, chain_ends, chain_on, chain_single, chain_starts, child_chained, constraint_gathered, ends_fit}
-use Rattle.splitting.proofs.Collecting.{other_gathered, role_falls, role_gathered, role_level}
+use Rattle.policy.proofs.Conjuncts.{Going}
+use Rattle.splitting.proofs.Collecting.{Rest}
 use Rattle.splitting.proofs.+collect_at_collect_from.Given as goal
 
 abbrev pub decreases-collect_at : goal.decreases-collect_at

@@ -1,9 +1,7 @@
 use borrow.Author.Rules.{rules}
-use Prim.Native.Nat.{◌*◌, ◌+◌, ◌<◌, ℕ}
 use native.Mathlib.Omega.{arith}
-use Rattle.meaning.specs.Records.{falling, last_of}
-use Rattle.policy.proofs.Conjuncts.{Going, going_falls}
-use Rattle.splitting.proofs.Tallying.{Uncounted, child_counted, counted_falls, counted_level, counting_ends, counting_fits, counting_on, counting_one}
+use Rattle.policy.proofs.Conjuncts.{going_falls}
+use Rattle.splitting.proofs.Tallying.{child_counted, counted_falls, counted_level, counting_ends, counting_fits, counting_on, counting_one}
 use Rattle.splitting.proofs.Tallying.{counting_starts, interval_counted, other_counted, role_counted}
 use Rattle.splitting.proofs.+intervals_at_intervals_from.Goals as goal
 

@@ -1,11 +1,8 @@
 -- `intervals_at` and `intervals_from`: a loop along the chain, over its records, and a call for each child chain, with a level less.
-use borrow.Author.Rules.{rules}
-use Prim.Native.Nat.{◌*◌, ◌+◌, ◌<◌, ℕ}
-use native.Mathlib.Omega.{arith}
+use Prim.Native.Nat.{◌*◌, ◌+◌}
 use Rattle.meaning.specs.Records.{falling, last_of}
-use Rattle.policy.proofs.Conjuncts.{Going, going_falls}
-use Rattle.splitting.proofs.Tallying.{Uncounted, child_counted, counted_falls, counted_level, counting_ends, counting_fits, counting_on, counting_one}
-use Rattle.splitting.proofs.Tallying.{counting_starts, interval_counted, other_counted, role_counted}
+use Rattle.policy.proofs.Conjuncts.{Going}
+use Rattle.splitting.proofs.Tallying.{Uncounted}
 use Rattle.splitting.proofs.+intervals_at_intervals_from.Given as goal
 
 abbrev pub decreases-intervals_at : goal.decreases-intervals_at

@@ -1,4 +1,3 @@
-use borrow.Author.Rules.{rules}
 use Rattle.keys.proofs.Adding.{gathered_two}
 use Rattle.splitting.proofs.add_ends.Goals as goal
 

@@ -1,7 +1,5 @@
-use borrow.Author.Rules.{rules}
 use native.Mathlib.Omega.{arith}
-use Rattle.meaning.specs.Records.{falling, last_of}
-use Rattle.splitting.proofs.Policies.{Collecting, collecting_child, collecting_ends, collecting_falls, collecting_on}
+use Rattle.splitting.proofs.Policies.{collecting_child, collecting_ends, collecting_falls, collecting_on}
 use Rattle.splitting.proofs.Policies.{collecting_starts}
 use Rattle.splitting.proofs.collect.Goals as goal
 

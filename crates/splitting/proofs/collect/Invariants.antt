@@ -1,9 +1,6 @@
 -- `collect`: what is added and what is left to add are the keys of the policy.
-use borrow.Author.Rules.{rules}
-use native.Mathlib.Omega.{arith}
 use Rattle.meaning.specs.Records.{falling, last_of}
-use Rattle.splitting.proofs.Policies.{Collecting, collecting_child, collecting_ends, collecting_falls, collecting_on}
-use Rattle.splitting.proofs.Policies.{collecting_starts}
+use Rattle.splitting.proofs.Policies.{Collecting}
 use Rattle.splitting.proofs.collect.Given as goal
 
 abbrev pub invariant-loop-k : goal.invariant-loop-k

@@ -1,11 +1,6 @@
-use borrow.Author.Rules.{rules}
-use Prim.Native.Nat.{◌-◌, ◌≤◌}
-use mathlib.Core.Path.{◌≡◌, refl}
+use mathlib.Core.Path.{refl}
 use native.Mathlib.Omega.{arith}
-use Rattle.meaning.specs.Limits.{most_combinations}
-use Rattle.meaning.specs.Policy.{Policy}
-use Rattle.splitting.proofs.Ways.{full_at, product_fits, ways, ways_end, ways_more, ways_past}
-use Rattle.splitting.specs.Ends.{Ends}
+use Rattle.splitting.proofs.Ways.{full_at, product_fits, ways_end, ways_more, ways_past}
 use Rattle.splitting.proofs.combinations.Goals as goal
 
 pub loop-i-init : goal.loop-i-init
@@ -30,8 +25,7 @@ returns-then-all-gt-MOST_COMBINATIONS c =
 pub loop-i-preserved : goal.loop-i-preserved
 loop-i-preserved c =
     let l = c.loop-i in
-    let a = c.args in
-    (
+    let a = c.args in (
       omega arith,
       omega arith,
       λ Q m. ways_more Q a.work.now l.i l.all _ (l.invariant.2 Q m) c.feature_of-f.ensures c.lo_of-lo.ensures c.hi_of-hi.ensures

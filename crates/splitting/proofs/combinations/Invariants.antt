@@ -1,11 +1,9 @@
 -- `combinations`: after i turns the product of the first i constraints' numbers of pieces.
-use borrow.Author.Rules.{rules}
 use Prim.Native.Nat.{◌-◌, ◌≤◌}
-use mathlib.Core.Path.{◌≡◌, refl}
-use native.Mathlib.Omega.{arith}
+use mathlib.Core.Path.{◌≡◌}
 use Rattle.meaning.specs.Limits.{most_combinations}
 use Rattle.meaning.specs.Policy.{Policy}
-use Rattle.splitting.proofs.Ways.{full_at, product_fits, ways, ways_end, ways_more, ways_past}
+use Rattle.splitting.proofs.Ways.{ways}
 use Rattle.splitting.specs.Ends.{Ends}
 use Rattle.splitting.proofs.combinations.Given as goal
 

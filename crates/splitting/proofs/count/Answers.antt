@@ -1,10 +1,6 @@
-use borrow.Author.Rules.{rules}
-use Prim.Native.Nat.{◌+◌, ◌-◌, ◌≤◌}
 use native.Mathlib.Omega.{arith}
 use Rattle.layout.specs.Tables.{interval_of}
-use Rattle.meaning.specs.Policy.{Policy}
-use Rattle.splitting.proofs.Pieces.{Walked, walk_ends, walk_on, walk_starts}
-use Rattle.splitting.specs.Ends.{Ends}
+use Rattle.splitting.proofs.Pieces.{walk_ends, walk_on, walk_starts}
 use Rattle.splitting.proofs.count.Goals as goal
 
 pub loop-x-init : goal.loop-x-init

@@ -1,4 +1,3 @@
-use borrow.Author.Rules.{rules}
 use mathlib.Core.Path.{◌∙◌, ap}
 use Rattle.meaning.specs.Accepted.{interval_count}
 use Rattle.policy.specs.Terms.{conjuncts_at}

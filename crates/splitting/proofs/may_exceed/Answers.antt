@@ -1,9 +1,5 @@
-use borrow.Author.Rules.{rules}
-use Prim.Native.Nat.{◌-◌, ◌≤◌, ℕ}
-use mathlib.Core.Path.{◌≡◌}
 use native.Mathlib.Omega.{arith}
-use Rattle.meaning.specs.Limits.{most_combinations}
-use Rattle.splitting.proofs.Most.{Within, room_fits, within_few, within_more, within_none}
+use Rattle.splitting.proofs.Most.{room_fits, within_few, within_more, within_none}
 use Rattle.splitting.proofs.may_exceed.Goals as goal
 
 pub loop-i-init : goal.loop-i-init

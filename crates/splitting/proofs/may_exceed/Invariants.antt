@@ -1,10 +1,7 @@
 -- `may_exceed`: after i turns `all` is at most 65,536, and i constraints, whatever they are, have no more combinations.
-use borrow.Author.Rules.{rules}
-use Prim.Native.Nat.{◌-◌, ◌≤◌, ℕ}
-use mathlib.Core.Path.{◌≡◌}
-use native.Mathlib.Omega.{arith}
+use Prim.Native.Nat.{◌-◌, ◌≤◌}
 use Rattle.meaning.specs.Limits.{most_combinations}
-use Rattle.splitting.proofs.Most.{Within, room_fits, within_few, within_more, within_none}
+use Rattle.splitting.proofs.Most.{Within}
 use Rattle.splitting.proofs.may_exceed.Given as goal
 
 abbrev pub invariant-loop-i : goal.invariant-loop-i

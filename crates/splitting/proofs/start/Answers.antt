@@ -1,9 +1,6 @@
-use borrow.Author.Rules.{rules}
-use Prim.Native.Nat.{◌-◌, ◌≤◌}
 use mathlib.Core.Path.{◌≡◌}
 use native.Mathlib.Omega.{arith}
 use Rattle.splitting.proofs.Starting.{started_more, started_none}
-use Rattle.splitting.specs.Constraints.{Started}
 use Rattle.splitting.proofs.start.Goals as goal
 
 pub loop-i-init : goal.loop-i-init

@@ -1,9 +1,5 @@
 -- `start`: after i turns the first i constraints are at their first pieces.
-use borrow.Author.Rules.{rules}
 use Prim.Native.Nat.{◌-◌, ◌≤◌}
-use mathlib.Core.Path.{◌≡◌}
-use native.Mathlib.Omega.{arith}
-use Rattle.splitting.proofs.Starting.{started_more, started_none}
 use Rattle.splitting.specs.Constraints.{Started}
 use Rattle.splitting.proofs.start.Given as goal
 

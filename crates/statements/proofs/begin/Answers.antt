@@ -1,4 +1,3 @@
-use borrow.Author.Rules.{rules}
 use Rattle.statements.proofs.Laws.{begin_fails, begin_on}
 use Rattle.statements.proofs.begin.Goals as goal
 

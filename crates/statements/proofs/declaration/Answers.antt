@@ -1,4 +1,3 @@
-use borrow.Author.Rules.{rules}
 use Rattle.statements.proofs.Laws.{declared_begins, declared_closes, declared_inner, declared_stands}
 use Rattle.statements.proofs.declaration.Goals as goal
 

@@ -1,4 +1,3 @@
-use borrow.Author.Rules.{rules}
 use Rattle.statements.proofs.Laws.{last_not, last_told}
 use Rattle.statements.proofs.is_last.Goals as goal
 

@@ -1,4 +1,3 @@
-use borrow.Author.Rules.{rules}
 use Rattle.statements.proofs.Laws.{word_none, word_read}
 use Rattle.statements.proofs.is_word.Goals as goal
 

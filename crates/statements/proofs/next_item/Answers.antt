@@ -1,4 +1,3 @@
-use borrow.Author.Rules.{rules}
 use Rattle.statements.proofs.Parsing.{next_end, next_more}
 use Rattle.statements.proofs.next_item.Goals as goal
 

@@ -1,4 +1,3 @@
-use borrow.Author.Rules.{rules}
 use Rattle.statements.proofs.Laws.{one_begins, one_closes, one_named, one_stands}
 use Rattle.statements.proofs.one_name.Goals as goal
 

@@ -1,4 +1,3 @@
-use borrow.Author.Rules.{rules}
 use Rattle.statements.proofs.Laws.{opened}
 use Rattle.statements.proofs.open_ontology.Goals as goal
 

@@ -1,4 +1,3 @@
-use borrow.Author.Rules.{rules}
 use Rattle.statements.proofs.Front.{hits_one, misses_one, stays_one}
 use Rattle.statements.proofs.or_one.Goals as goal
 

@@ -1,4 +1,3 @@
-use borrow.Author.Rules.{rules}
 use Rattle.statements.proofs.Front.{hits_two, misses_two, stays_two}
 use Rattle.statements.proofs.or_two.Goals as goal
 

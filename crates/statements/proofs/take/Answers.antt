@@ -1,4 +1,3 @@
-use borrow.Author.Rules.{rules}
 use Rattle.statements.proofs.Laws.{word_took}
 use Rattle.statements.proofs.take.Goals as goal
 

@@ -1,4 +1,3 @@
-use borrow.Author.Rules.{rules}
 use Rattle.statements.proofs.Laws.{name_read}
 use Rattle.statements.proofs.take_name.Goals as goal
 

@@ -1,4 +1,3 @@
-use borrow.Author.Rules.{rules}
 use Rattle.statements.proofs.Laws.{two_begins, two_closes, two_named, two_other, two_stands}
 use Rattle.statements.proofs.two_names.Goals as goal
 

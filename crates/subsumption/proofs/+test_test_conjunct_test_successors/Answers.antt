@@ -1,13 +1,9 @@
 use borrow.Author.Rules.{rules}
-use Prim.Native.Nat.{◌*◌, ◌+◌, ◌-◌, ◌<◌, ℕ}
-use mathlib.Core.List.{List}
-use mathlib.Core.Path.{◌≡◌}
 use native.Mathlib.Omega.{arith}
-use Rattle.meaning.specs.Records.{falling, last_of}
-use Rattle.subsumption.proofs.Conjuncts.{Rest, class_told, impossible_told, interval_told, some_level, some_testable, some_told}
+use Rattle.subsumption.proofs.Conjuncts.{class_told, impossible_told, interval_told, some_level, some_testable, some_told}
 use Rattle.subsumption.proofs.Conjuncts.{test_asked, test_ends, test_fails, test_on, test_starts}
-use Rattle.subsumption.proofs.Successors.{Seeking, walk_ends, walk_falls, walk_found, walk_other, walk_past, walk_starts}
-use Rattle.policy.proofs.Conjuncts.{Going, going_falls}
+use Rattle.subsumption.proofs.Successors.{walk_ends, walk_falls, walk_found, walk_other, walk_past, walk_starts}
+use Rattle.policy.proofs.Conjuncts.{going_falls}
 use Rattle.subsumption.proofs.+test_test_conjunct_test_successors.Goals as goal
 use Rattle.subsumption.proofs.+test_test_conjunct_test_successors.Goals.{test_successors-else-role-r, test_successors-then-role-r+else-test}
 

@@ -1,15 +1,9 @@
 -- The cycle of the structural test: a chain tests its conjuncts, a conjunct the successors, a successor a child chain, with a level less.
-use borrow.Author.Rules.{rules}
-use Prim.Native.Nat.{◌*◌, ◌+◌, ◌-◌, ◌<◌, ℕ}
-use mathlib.Core.List.{List}
-use mathlib.Core.Logic.{⊎_elim}
-use mathlib.Core.Path.{◌≡◌}
-use native.Mathlib.Omega.{arith}
+use Prim.Native.Nat.{◌*◌, ◌+◌, ◌-◌}
 use Rattle.meaning.specs.Records.{falling, last_of}
-use Rattle.subsumption.proofs.Conjuncts.{Rest, class_told, impossible_told, interval_told, some_level, some_testable, some_told}
-use Rattle.subsumption.proofs.Conjuncts.{test_asked, test_ends, test_fails, test_on, test_starts}
-use Rattle.subsumption.proofs.Successors.{Seeking, walk_ends, walk_falls, walk_found, walk_other, walk_past, walk_starts}
-use Rattle.policy.proofs.Conjuncts.{Going, going_falls}
+use Rattle.subsumption.proofs.Conjuncts.{Rest}
+use Rattle.subsumption.proofs.Successors.{Seeking}
+use Rattle.policy.proofs.Conjuncts.{Going}
 use Rattle.subsumption.proofs.+test_test_conjunct_test_successors.Given as goal
 
 abbrev pub decreases-test : goal.decreases-test

@@ -1,7 +1,5 @@
-use borrow.Author.Rules.{rules}
-use Prim.Native.Nat.{◌-◌}
 use native.Mathlib.Omega.{arith}
-use Rattle.subsumption.proofs.Pieces.{Halving, halving_earlier, halving_ends, halving_later, halving_starts}
+use Rattle.subsumption.proofs.Pieces.{halving_earlier, halving_ends, halving_later, halving_starts}
 use Rattle.subsumption.proofs.first_constraint.Goals as goal
 
 pub loop-low-init : goal.loop-low-init

@@ -1,8 +1,6 @@
 -- `first_constraint`: what is sought stands from low to high.
-use borrow.Author.Rules.{rules}
 use Prim.Native.Nat.{◌-◌}
-use native.Mathlib.Omega.{arith}
-use Rattle.subsumption.proofs.Pieces.{Halving, halving_earlier, halving_ends, halving_later, halving_starts}
+use Rattle.subsumption.proofs.Pieces.{Halving}
 use Rattle.subsumption.proofs.first_constraint.Given as goal
 
 abbrev pub invariant-loop-low : goal.invariant-loop-low

@@ -1,7 +1,6 @@
 use borrow.Author.Rules.{rules}
-use Prim.Native.Nat.{◌-◌}
 use native.Mathlib.Omega.{arith}
-use Rattle.subsumption.proofs.Pieces.{Passed, passed_starts, pieces_behind, pieces_end, pieces_found, pieces_on}
+use Rattle.subsumption.proofs.Pieces.{passed_starts, pieces_behind, pieces_end, pieces_found, pieces_on}
 use Rattle.subsumption.proofs.test_constraints.Goals as goal
 
 pub loop-m-init : goal.loop-m-init

@@ -1,12 +1,7 @@
 use Prim.Native.Nat.{◌-◌}
-use mathlib.Core.Path.{◌∙◌}
-use native.Mathlib.Omega.{arith}
-use borrow.Author.Rules.{rules}
-use borrow.Author.Tests.{not-false, not-true}
 use Rattle.layout.specs.Tables.{set_at}
 use Rattle.pairs.specs.Pairs.{agree_in}
-use Rattle.tabulation.proofs.Cleanness.{row_agrees}
-use Rattle.theory.proofs.Counting.{Testing, testing_ends, testing_fails, testing_on, testing_starts}
+use Rattle.theory.proofs.Counting.{Testing}
 use Rattle.tabulation.proofs.are_compatible.Given as goal
 
 abbrev pub invariant-loop-i : goal.invariant-loop-i

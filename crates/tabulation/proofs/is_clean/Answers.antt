@@ -1,4 +1,3 @@
-use borrow.Author.Rules.{rules}
 use Rattle.tabulation.proofs.Cleanness.{clean_empty, clean_listed}
 use Rattle.tabulation.proofs.is_clean.Goals as goal
 

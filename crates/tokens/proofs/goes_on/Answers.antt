@@ -1,4 +1,3 @@
-use borrow.Author.Rules.{rules}
 use Rattle.tokens.proofs.Classes.{goes_letter, goes_none, goes_sign}
 use Rattle.tokens.proofs.goes_on.Goals as goal
 

@@ -1,4 +1,3 @@
-use borrow.Author.Rules.{rules}
 use Rattle.tokens.proofs.Classes.{letter_lower, letter_upper}
 use Rattle.tokens.proofs.is_letter.Goals as goal
 

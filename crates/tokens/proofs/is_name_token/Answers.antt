@@ -1,4 +1,3 @@
-use borrow.Author.Rules.{rules}
 use Rattle.tokens.proofs.Classes.{name_first, name_long, name_short}
 use Rattle.tokens.proofs.is_name_token.Goals as goal
 

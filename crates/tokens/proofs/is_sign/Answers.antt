@@ -1,4 +1,3 @@
-use borrow.Author.Rules.{rules}
 use Rattle.tokens.proofs.Classes.{sign_digit, sign_letter}
 use Rattle.tokens.proofs.is_sign.Goals as goal
 

@@ -1,5 +1,4 @@
 -- `next_token`: space is passed, then a token's first byte and what goes on it.
-use borrow.Author.Rules.{rules}
 use Rattle.tokens.proofs.Reading.{inside, read_none, read_token}
 use Rattle.tokens.proofs.next_token.Goals as goal
 

@@ -1,7 +1,4 @@
-use borrow.Author.Rules.{rules}
-use Prim.Native.Nat.{◌-◌}
-use lib.ListN.{length}
-use Rattle.tokens.proofs.Classes.{Printing, printing_ends, printing_on, printing_starts}
+use Rattle.tokens.proofs.Classes.{printing_ends, printing_on, printing_starts}
 use Rattle.tokens.proofs.print.Goals as goal
 
 pub loop-i-init : goal.loop-i-init

@@ -1,7 +1,6 @@
-use borrow.Author.Rules.{rules}
 use Prim.Native.Nat.{◌-◌}
 use lib.ListN.{length}
-use Rattle.tokens.proofs.Classes.{Printing, printing_ends, printing_on, printing_starts}
+use Rattle.tokens.proofs.Classes.{Printing}
 use Rattle.tokens.proofs.print.Given as goal
 
 abbrev pub invariant-loop-i : goal.invariant-loop-i

@@ -1,9 +1,8 @@
 -- `run_end`: what has been passed goes on the token.
-use borrow.Author.Rules.{rules}
 use Prim.Native.Nat.{◌-◌}
 use lib.ListN.{length}
 use Rattle.tokens.specs.Tokens.{goes_on}
-use Rattle.tokens.proofs.Runs.{Running, running_ends, running_on, running_starts, running_stops}
+use Rattle.tokens.proofs.Runs.{Running}
 use Rattle.tokens.proofs.run_end.Given as goal
 
 abbrev pub invariant-loop-i : goal.invariant-loop-i

@@ -1,7 +1,4 @@
-use borrow.Author.Rules.{rules}
-use Prim.Native.Nat.{◌-◌}
-use lib.ListN.{length}
-use Rattle.tokens.proofs.Classes.{Alike, alike_ends, alike_on, alike_starts, alike_stops, lengths_differ}
+use Rattle.tokens.proofs.Classes.{alike_ends, alike_on, alike_starts, alike_stops, lengths_differ}
 use Rattle.tokens.proofs.same.Goals as goal
 
 pub returns-then-a-b : goal.returns-then-a-b

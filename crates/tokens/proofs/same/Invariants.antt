@@ -1,7 +1,6 @@
-use borrow.Author.Rules.{rules}
 use Prim.Native.Nat.{◌-◌}
 use lib.ListN.{length}
-use Rattle.tokens.proofs.Classes.{Alike, alike_ends, alike_on, alike_starts, alike_stops, lengths_differ}
+use Rattle.tokens.proofs.Classes.{Alike}
 use Rattle.tokens.proofs.same.Given as goal
 
 abbrev pub invariant-loop-i : goal.invariant-loop-i

@@ -1,8 +1,4 @@
-use borrow.Author.Rules.{rules}
-use Prim.Native.Nat.{◌-◌}
-use lib.ListN.{length}
-use Rattle.tokens.specs.Tokens.{is_space}
-use Rattle.tokens.proofs.Runs.{Running, running_ends, running_on, running_starts, running_stops}
+use Rattle.tokens.proofs.Runs.{running_ends, running_on, running_starts, running_stops}
 use Rattle.tokens.proofs.skip_space.Goals as goal
 
 pub loop-i-init : goal.loop-i-init

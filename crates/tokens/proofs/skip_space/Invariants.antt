@@ -1,9 +1,8 @@
 -- `skip_space`: what has been passed is space.
-use borrow.Author.Rules.{rules}
 use Prim.Native.Nat.{◌-◌}
 use lib.ListN.{length}
 use Rattle.tokens.specs.Tokens.{is_space}
-use Rattle.tokens.proofs.Runs.{Running, running_ends, running_on, running_starts, running_stops}
+use Rattle.tokens.proofs.Runs.{Running}
 use Rattle.tokens.proofs.skip_space.Given as goal
 
 abbrev pub invariant-loop-i : goal.invariant-loop-i

@@ -1,10 +1,6 @@
 use borrow.Author.Rules.{rules}
-use Prim.Native.Nat.{◌-◌, ◌≤◌}
-use mathlib.Core.Path.{◌≡◌}
-use lib.ListN.{length}
 use native.Mathlib.Omega.{arith}
-use Rattle.trial.proofs.Rounds.{Within, within_on}
-use Rattle.trial.specs.Trials.{Positive}
+use Rattle.trial.proofs.Rounds.{within_on}
 use Rattle.trial.proofs.are_few.Goals as goal
 
 pub loop-d-init : goal.loop-d-init

@@ -1,10 +1,8 @@
 -- `are_few`: the product of the dials before d fits.
-use borrow.Author.Rules.{rules}
 use Prim.Native.Nat.{◌-◌, ◌≤◌}
 use mathlib.Core.Path.{◌≡◌}
 use lib.ListN.{length}
-use native.Mathlib.Omega.{arith}
-use Rattle.trial.proofs.Rounds.{Within, within_on}
+use Rattle.trial.proofs.Rounds.{Within}
 use Rattle.trial.specs.Trials.{Positive}
 use Rattle.trial.proofs.are_few.Given as goal
 

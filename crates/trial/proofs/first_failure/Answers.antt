@@ -1,5 +1,4 @@
 -- `first_failure`.
-use borrow.Author.Rules.{rules}
 use Rattle.trial.proofs.Starting.{triable_formed, whole_taken}
 use Rattle.trial.proofs.first_failure.Goals as goal
 

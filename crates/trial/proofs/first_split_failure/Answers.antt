@@ -2,7 +2,6 @@
 use mathlib.Core.Path.{sym}
 use lib.Seq.{length-take-le}
 use native.Mathlib.Omega.{arith}
-use borrow.Author.Rules.{rules}
 use Rattle.trial.proofs.Starting.{dials_beside, triable_turnable}
 use Rattle.trial.proofs.first_split_failure.Goals as goal
 

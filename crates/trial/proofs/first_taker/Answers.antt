@@ -1,8 +1,5 @@
 use borrow.Author.Rules.{rules}
-use mathlib.Core.Path.{◌≡◌}
-use lib.ListN.{length}
-use Rattle.meaning.specs.Records.{falling, last_of}
-use Rattle.trial.proofs.Passing.{Seeking, seeking_ends, seeking_falls, seeking_known, seeking_on, seeking_starts, taking_taker}
+use Rattle.trial.proofs.Passing.{seeking_ends, seeking_falls, seeking_known, seeking_on, seeking_starts, taking_taker}
 use Rattle.trial.proofs.first_taker.Goals as goal
 
 pub loop-k-init : goal.loop-k-init

@@ -1,9 +1,8 @@
 -- `first_taker`: at record k the terms from k on are still to be asked.
-use borrow.Author.Rules.{rules}
 use mathlib.Core.Path.{◌≡◌}
 use lib.ListN.{length}
 use Rattle.meaning.specs.Records.{falling, last_of}
-use Rattle.trial.proofs.Passing.{Seeking, seeking_ends, seeking_falls, seeking_known, seeking_on, seeking_starts, taking_taker}
+use Rattle.trial.proofs.Passing.{Seeking}
 use Rattle.trial.proofs.first_taker.Given as goal
 
 abbrev pub invariant-loop-k : goal.invariant-loop-k

@@ -1,7 +1,6 @@
 use borrow.Author.Rules.{rules}
 use mathlib.Core.Path.{refl}
-use Rattle.meaning.specs.Records.{falling, last_of}
-use Rattle.trial.proofs.Passing.{WholeSeeking, whole_ends, whole_falls, whole_first, whole_found, whole_on, whole_starts, whole_testable}
+use Rattle.trial.proofs.Passing.{whole_ends, whole_falls, whole_first, whole_found, whole_on, whole_starts, whole_testable}
 use Rattle.trial.proofs.is_taken_whole.Goals as goal
 
 pub loop-term-init : goal.loop-term-init

@@ -1,8 +1,6 @@
 -- `is_taken_whole`: at record k the terms from k on are still to be asked.
-use borrow.Author.Rules.{rules}
-use mathlib.Core.Path.{refl}
 use Rattle.meaning.specs.Records.{falling, last_of}
-use Rattle.trial.proofs.Passing.{WholeSeeking, whole_ends, whole_falls, whole_first, whole_found, whole_on, whole_starts, whole_testable}
+use Rattle.trial.proofs.Passing.{WholeSeeking}
 use Rattle.trial.proofs.is_taken_whole.Given as goal
 
 abbrev pub invariant-loop-term : goal.invariant-loop-term

@@ -1,9 +1,7 @@
 use borrow.Author.Rules.{rules}
-use Prim.Native.Nat.{◌-◌, ◌≤◌}
-use lib.ListN.{length}
+use Prim.Native.Nat.{◌-◌}
 use native.Mathlib.Omega.{arith}
-use Rattle.trial.proofs.Rounds.{Within, within_on}
-use Rattle.trial.specs.Trials.{Positive}
+use Rattle.trial.proofs.Rounds.{within_on}
 use Rattle.trial.proofs.round_of.Goals as goal
 
 pub loop-d-init : goal.loop-d-init

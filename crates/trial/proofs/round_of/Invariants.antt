@@ -1,9 +1,7 @@
 -- `round_of`: the product of the dials behind d fits.
-use borrow.Author.Rules.{rules}
-use Prim.Native.Nat.{◌-◌, ◌≤◌}
+use Prim.Native.Nat.{◌≤◌}
 use lib.ListN.{length}
-use native.Mathlib.Omega.{arith}
-use Rattle.trial.proofs.Rounds.{Within, within_on}
+use Rattle.trial.proofs.Rounds.{Within}
 use Rattle.trial.specs.Trials.{Positive}
 use Rattle.trial.proofs.round_of.Given as goal
 

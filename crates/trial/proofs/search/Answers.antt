@@ -1,8 +1,7 @@
 use borrow.Author.Rules.{rules}
-use mathlib.Core.Path.{◌≡◌, refl}
-use lib.ListN.{length}
+use mathlib.Core.Path.{refl}
 use native.Mathlib.Omega.{arith}
-use Rattle.trial.proofs.Trying.{Trying, left, trying_alike, trying_askable, trying_ends, trying_fails, trying_falls, trying_on, trying_skippable, trying_starts}
+use Rattle.trial.proofs.Trying.{trying_alike, trying_askable, trying_ends, trying_fails, trying_falls, trying_on, trying_skippable, trying_starts}
 use Rattle.trial.proofs.search.Goals as goal
 
 pub loop-c-init : goal.loop-c-init

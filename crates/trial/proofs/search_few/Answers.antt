@@ -1,6 +1,5 @@
 -- `search_few`.
 use native.Mathlib.Omega.{arith}
-use borrow.Author.Rules.{rules}
 use Rattle.trial.proofs.Starting.{few_remember}
 use Rattle.trial.proofs.search_few.Goals as goal
 

@@ -1,5 +1,4 @@
 -- `search_in`.
-use borrow.Author.Rules.{rules}
 use Rattle.trial.proofs.Starting.{blank_remembers, searchable_listable, searchable_positive}
 use Rattle.trial.proofs.search_in.Goals as goal
 

@@ -1,6 +1,5 @@
 -- `search_long`.
 use native.Mathlib.Omega.{arith}
-use borrow.Author.Rules.{rules}
 use Rattle.trial.proofs.Keeping.{blank}
 use Rattle.trial.proofs.search_long.Goals as goal
 

@@ -1,6 +1,5 @@
 -- `try_pieces`.
 use mathlib.Core.Path.{refl}
-use borrow.Author.Rules.{rules}
 use Rattle.trial.proofs.Starting.{searchable_positive, tried_kept, triable_split, turnable_kept, turnable_searchable}
 use Rattle.trial.proofs.try_pieces.Goals as goal
 

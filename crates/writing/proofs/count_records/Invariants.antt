@@ -1,9 +1,6 @@
-use borrow.Author.Rules.{rules}
 use Prim.Native.Nat.{◌-◌}
-use native.Mathlib.Omega.{arith}
 use lib.ListN.{length}
-use Rattle.entries.proofs.Runs.{has_item}
-use Rattle.writing.proofs.Counting.{Counting, counting_ends, counting_more, counting_starts}
+use Rattle.writing.proofs.Counting.{Counting}
 use Rattle.writing.proofs.count_records.Given as goal
 
 abbrev pub invariant-loop-i : goal.invariant-loop-i

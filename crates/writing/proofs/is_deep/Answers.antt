@@ -1,4 +1,3 @@
-use borrow.Author.Rules.{rules}
 use Rattle.writing.proofs.Counting.{deep_classes, deep_own}
 use Rattle.writing.proofs.is_deep.Goals as goal
 

@@ -1,8 +1,6 @@
-use borrow.Author.Rules.{rules}
 use Prim.Native.Nat.{◌-◌}
 use lib.ListN.{length}
-use Rattle.entries.proofs.Runs.{has_item}
-use Rattle.writing.proofs.Counting.{Passing, passing_ends, passing_found, passing_more, passing_starts}
+use Rattle.writing.proofs.Counting.{Passing}
 use Rattle.writing.proofs.is_too_deep.Given as goal
 
 abbrev pub invariant-loop-i : goal.invariant-loop-i

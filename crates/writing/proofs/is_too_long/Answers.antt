@@ -1,4 +1,3 @@
-use borrow.Author.Rules.{rules}
 use mathlib.Core.Path.{◌∙◌}
 use Rattle.writing.proofs.Counting.{long_deep, long_many}
 use Rattle.writing.proofs.is_too_long.Goals as goal

@@ -1,4 +1,3 @@
-use borrow.Author.Rules.{rules}
 use Rattle.entries.proofs.Runs.{has_item}
 use Rattle.writing.proofs.Linking.{below_else, below_none, below_some}
 use Rattle.writing.proofs.link_below.Goals as goal

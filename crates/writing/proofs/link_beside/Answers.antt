@@ -1,9 +1,6 @@
-use borrow.Author.Rules.{rules}
-use Prim.Native.Nat.{◌-◌}
 use native.Mathlib.Omega.{arith}
-use lib.ListN.{length}
 use Rattle.entries.proofs.Runs.{has_item}
-use Rattle.writing.proofs.Linking.{Skipping, beside_above, beside_here, skipping_ends, skipping_more, skipping_starts}
+use Rattle.writing.proofs.Linking.{beside_above, beside_here, skipping_ends, skipping_more, skipping_starts}
 use Rattle.writing.proofs.link_beside.Goals as goal
 
 pub loop-at-init : goal.loop-at-init

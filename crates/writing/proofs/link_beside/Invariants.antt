@@ -1,9 +1,6 @@
-use borrow.Author.Rules.{rules}
 use Prim.Native.Nat.{◌-◌}
-use native.Mathlib.Omega.{arith}
 use lib.ListN.{length}
-use Rattle.entries.proofs.Runs.{has_item}
-use Rattle.writing.proofs.Linking.{Skipping, beside_above, beside_here, skipping_ends, skipping_more, skipping_starts}
+use Rattle.writing.proofs.Linking.{Skipping}
 use Rattle.writing.proofs.link_beside.Given as goal
 
 abbrev pub invariant-loop-at : goal.invariant-loop-at

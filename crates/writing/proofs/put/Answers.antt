@@ -1,4 +1,3 @@
-use borrow.Author.Rules.{rules}
 use Rattle.writing.proofs.put.Goals as goal
 
 pub returns : goal.returns

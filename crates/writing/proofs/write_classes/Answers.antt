@@ -1,8 +1,5 @@
-use borrow.Author.Rules.{rules}
 use native.Mathlib.Omega.{arith}
-use lib.ListN.{length}
-use Rattle.words.specs.Members.{members_from}
-use Rattle.writing.proofs.Words.{ClassesLeft, classes_end_lem, classes_less, classes_more, classes_room, classes_start}
+use Rattle.writing.proofs.Words.{classes_end_lem, classes_less, classes_more, classes_room, classes_start}
 use Rattle.writing.proofs.write_classes.Goals as goal
 
 pub loop-c-init : goal.loop-c-init

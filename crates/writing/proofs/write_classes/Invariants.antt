@@ -1,9 +1,7 @@
 -- `write_classes`: at class c its record and those of the classes above it are left.
-use borrow.Author.Rules.{rules}
-use native.Mathlib.Omega.{arith}
 use lib.ListN.{length}
 use Rattle.words.specs.Members.{members_from}
-use Rattle.writing.proofs.Words.{ClassesLeft, classes_end_lem, classes_less, classes_more, classes_room, classes_start}
+use Rattle.writing.proofs.Words.{ClassesLeft}
 use Rattle.writing.proofs.write_classes.Given as goal
 
 abbrev pub invariant-loop-c : goal.invariant-loop-c
