@@ -15,7 +15,7 @@ use Rattle.frames.proofs.Work.{outputs_none}
 use Rattle.layout.specs.declared.Tables.{Tables}
 use Rattle.meaning.specs.Answers.{FillingResult, result, wrote}
 use Rattle.meaning.specs.Limits.{most_records}
-use Rattle.meaning.specs.Operations.{Outcome, output_after, refuses, written}
+use Rattle.meaning.specs.Operations.{Outcome, output_after, refuses}
 use Rattle.meaning.specs.Policy.{Policy}
 use Rattle.meaning.specs.PolicyWords.{policy_words}
 use Rattle.meaning.specs.declared.Filling.TheVariants as filling

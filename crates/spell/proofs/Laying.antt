@@ -14,7 +14,7 @@ use Rattle.functional.specs.declared.Functional.{Functional}
 use Rattle.layout.proofs.Nesting.{rows_from}
 use Rattle.layout.specs.Places.{tables_end}
 use Rattle.layout.specs.declared.Tables.{Tables}
-use Rattle.meaning.specs.Accepted.{count, total}
+use Rattle.meaning.specs.Accepted.{total}
 use Rattle.meaning.specs.Countermodel.{size}
 use Rattle.meaning.specs.Limits.{most_records}
 use Rattle.meaning.specs.Lists.{All, cons, filter, nil}

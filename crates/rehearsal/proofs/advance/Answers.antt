@@ -1,4 +1,3 @@
-use borrow.Author.Rules.{rules}
 use mathlib.Core.Path.{refl}
 use Rattle.rehearsal.specs.Load.{advance}
 use Rattle.rehearsal.proofs.advance.Goals as goal

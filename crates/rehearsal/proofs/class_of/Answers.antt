@@ -1,4 +1,3 @@
-use borrow.Author.Rules.{rules}
 use native.Mathlib.Omega.{arith}
 use Rattle.rehearsal.proofs.Axioms.{class_fits}
 use Rattle.rehearsal.proofs.class_of.Goals as goal

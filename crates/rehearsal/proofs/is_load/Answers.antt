@@ -1,5 +1,4 @@
 use mathlib.Core.Path.{◌∙◌, sym}
-use borrow.Author.Rules.{rules}
 use Rattle.rehearsal.proofs.is_load.Goals as goal
 
 pub returns-then-is_name-2 : goal.returns-then-is_name-2

@@ -1,7 +1,5 @@
-use Prim.Native.Nat.{◌-◌}
 use native.Mathlib.Omega.{arith}
-use borrow.Author.Rules.{rules}
-use Rattle.rehearsal.proofs.Axioms.{AxiomsLeft, axioms_more, axioms_put, axioms_room, axioms_seed, axioms_start}
+use Rattle.rehearsal.proofs.Axioms.{axioms_more, axioms_put, axioms_room, axioms_seed, axioms_start}
 use Rattle.rehearsal.proofs.put_axioms.Goals as goal
 
 pub loop-k-init : goal.loop-k-init
@@ -24,6 +22,6 @@ put_four-at-requires-2 c = axioms_room c.loop-k.invariant c.requires.0.0 c.requi
 
 pub returns : goal.returns
 returns c = record {
-      words = axioms_put c.loop-k.invariant c.requires.0.0 c.requires.1 c.loop-k-test.false c.put_four-at-2.ensures;
-      seed = axioms_seed c.loop-k.invariant c.requires.0.0 c.requires.1 c.loop-k-test.false;
-    }
+  words = axioms_put c.loop-k.invariant c.requires.0.0 c.requires.1 c.loop-k-test.false c.put_four-at-2.ensures;
+  seed = axioms_seed c.loop-k.invariant c.requires.0.0 c.requires.1 c.loop-k-test.false;
+}

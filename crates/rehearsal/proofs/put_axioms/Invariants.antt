@@ -1,8 +1,6 @@
 -- `put_axioms`: at class k its records up to there are put, and the others are left.
 use Prim.Native.Nat.{◌-◌}
-use native.Mathlib.Omega.{arith}
-use borrow.Author.Rules.{rules}
-use Rattle.rehearsal.proofs.Axioms.{AxiomsLeft, axioms_more, axioms_put, axioms_room, axioms_seed, axioms_start}
+use Rattle.rehearsal.proofs.Axioms.{AxiomsLeft}
 use Rattle.rehearsal.proofs.put_axioms.Given as goal
 
 abbrev pub invariant-loop-k : goal.invariant-loop-k

@@ -1,5 +1,4 @@
 -- `put_policy`: the count, the header, the terms.
-use borrow.Author.Rules.{rules}
 use Rattle.rehearsal.proofs.Parts.{policy_put}
 use Rattle.rehearsal.proofs.put_policy.Goals as goal
 

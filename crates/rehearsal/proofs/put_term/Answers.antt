@@ -1,6 +1,5 @@
 -- `put_term`: three draws, then three records.
 use mathlib.Core.Path.{refl}
-use borrow.Author.Rules.{rules}
 use Rattle.rehearsal.proofs.Terms.{term_put}
 use Rattle.rehearsal.proofs.put_term.Goals as goal
 

@@ -1,7 +1,5 @@
-use Prim.Native.Nat.{◌-◌}
 use native.Mathlib.Omega.{arith}
-use borrow.Author.Rules.{rules}
-use Rattle.rehearsal.proofs.Terms.{TermsLeft, terms_more, terms_put, terms_room, terms_start}
+use Rattle.rehearsal.proofs.Terms.{terms_more, terms_put, terms_room, terms_start}
 use Rattle.rehearsal.proofs.put_terms.Goals as goal
 
 pub loop-t-init : goal.loop-t-init

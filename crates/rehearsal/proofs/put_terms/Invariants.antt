@@ -1,8 +1,6 @@
 -- `put_terms`: at term t those before it are put, and the others are left.
 use Prim.Native.Nat.{◌-◌}
-use native.Mathlib.Omega.{arith}
-use borrow.Author.Rules.{rules}
-use Rattle.rehearsal.proofs.Terms.{TermsLeft, terms_more, terms_put, terms_room, terms_start}
+use Rattle.rehearsal.proofs.Terms.{TermsLeft}
 use Rattle.rehearsal.proofs.put_terms.Given as goal
 
 abbrev pub invariant-loop-t : goal.invariant-loop-t

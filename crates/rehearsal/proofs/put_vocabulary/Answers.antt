@@ -1,5 +1,4 @@
 -- `put_vocabulary`: the count, the header, the records.
-use borrow.Author.Rules.{rules}
 use Rattle.rehearsal.proofs.Parts.{vocabulary_put}
 use Rattle.rehearsal.proofs.put_vocabulary.Goals as goal
 

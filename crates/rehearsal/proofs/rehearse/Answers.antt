@@ -1,4 +1,3 @@
-use borrow.Author.Rules.{rules}
 use Rattle.rehearsal.proofs.Whole.{first_room, in_range, load_put, out_of_range, second_room, third_room, too_short}
 use Rattle.rehearsal.proofs.rehearse.Goals as goal
 

@@ -1,17 +1,11 @@
 use borrow.Author.Rules.{rules}
-use Prim.Native.Nat.{ℕ}
-use mathlib.Core.List.{List}
-use mathlib.Core.Path.{◌∙◌, ◌≡◌, refl}
-use lib.ListN.{length, length-set}
+use mathlib.Core.Path.{◌∙◌, refl}
+use lib.ListN.{length-set}
 use native.Mathlib.Omega.{arith}
 use Rattle.frames.proofs.Frames.{only_none, only_then}
-use Rattle.frames.specs.Frames.{Only}
-use Rattle.layout.specs.Places.{InTables}
-use Rattle.meaning.specs.Records.{falling, last_of}
 use Rattle.normal_form.proofs.Callers.{term_fits}
 use Rattle.preparation.proofs.Laws.{prepared_kept}
-use Rattle.preparation.specs.Prepared.{Accepting}
-use Rattle.spell.proofs.Collecting.{Collecting, collecting_ends, collecting_falls, collecting_few, collecting_more, collecting_past, collecting_room, collecting_starts, collecting_term}
+use Rattle.spell.proofs.Collecting.{collecting_ends, collecting_falls, collecting_few, collecting_more, collecting_past, collecting_room, collecting_starts, collecting_term}
 use Rattle.spell.proofs.collect_possible.Goals as goal
 
 pub loop-k-init : goal.loop-k-init
@@ -80,7 +74,11 @@ shape_of-terms c = c.loop-k.invariant.2
 pub returns : goal.returns
 returns c =
     let i = c.loop-k.invariant in
-    let q = c.requires in record { collected_by = record {
+    let q = c.requires in record {
+      collected_by = record {
         few = (let r = collecting_few (i.0 q.2.0 q.2.1) c.loop-k-test.false in omega (arith, q.1, i.2));
         collected = λ v a. collecting_ends (i.0 v a) c.loop-k-test.false;
-      }; only = i.1; terms_len_unchanged = i.2 }
+      };
+      only = i.1;
+      terms_len_unchanged = i.2;
+    }

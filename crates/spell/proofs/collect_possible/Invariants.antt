@@ -1,21 +1,16 @@
-use borrow.Author.Rules.{rules}
 use Prim.Native.Nat.{ℕ}
 use mathlib.Core.List.{List}
-use mathlib.Core.Path.{◌∙◌, ◌≡◌, refl}
-use lib.ListN.{length, length-set}
-use native.Mathlib.Omega.{arith}
-use Rattle.frames.proofs.Frames.{only_none, only_then}
+use mathlib.Core.Path.{◌≡◌}
+use lib.ListN.{length}
 use Rattle.frames.specs.Frames.{Only}
 use Rattle.layout.specs.Places.{InTables}
 use Rattle.meaning.specs.Records.{falling, last_of}
-use Rattle.normal_form.proofs.Callers.{term_fits}
-use Rattle.preparation.proofs.Laws.{prepared_kept}
 use Rattle.preparation.specs.Prepared.{Accepting}
-use Rattle.spell.proofs.Collecting.{Collecting, collecting_ends, collecting_falls, collecting_few, collecting_more, collecting_past, collecting_room, collecting_starts, collecting_term}
+use Rattle.spell.proofs.Collecting.{Collecting}
 use Rattle.spell.proofs.collect_possible.Given as goal
 
 abbrev pub invariant-loop-k : goal.invariant-loop-k
-invariant-loop-k l = 
+invariant-loop-k l =
     ((v : List ℕ) → Accepting v l.p l.initial.work l.f → Collecting v l.p l.terms l.n l.k) × Only InTables l.initial.work l.work × (length l.terms ≡ length l.initial.terms)
 
 abbrev pub decreases-loop-k : goal.decreases-loop-k

@@ -1,4 +1,3 @@
-use borrow.Author.Rules.{rules}
 use native.Mathlib.Omega.{arith}
 use Rattle.frames.proofs.Frames.{only_then}
 use Rattle.preparation.proofs.Laws.{worked}
@@ -35,5 +34,8 @@ returns c =
     let g = c.prepare-f.ensures in
     let t = c.collect_possible-n.ensures in
     let h = c.prepare_flat-g.ensures in
-    let n = c.normalise_all.ensures in record { laid_out = laid_out q.0 q.1 (t.collected_by.collected c.args.v.now (record { prepared = g.prepared; policy = q.1 })) h.prepared n
-          (omega (arith, q.2, g.only.size, t.only.size, h.only.size, n.only.size)); only = only_then (worked g.only t.only) (worked h.only n.only) }
+    let n = c.normalise_all.ensures in record {
+      laid_out = laid_out q.0 q.1 (t.collected_by.collected c.args.v.now (record { prepared = g.prepared; policy = q.1 })) h.prepared n
+          (omega (arith, q.2, g.only.size, t.only.size, h.only.size, n.only.size));
+      only = only_then (worked g.only t.only) (worked h.only n.only);
+    }
