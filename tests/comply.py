@@ -1,8 +1,9 @@
 #!/usr/bin/env python3
 """comply.py PROGRAM WRAPPER: what the program tells where its input cannot be read or its answer cannot be written (SPECIFICATION 10.3).
 
-Each case has the status, standard output and standard error that it must have. The program's exit status is 0.
-The wrapper, scripts/comply, runs the program and ends with 2 where there was trouble. One example comes in pieces.
+Each case has the status, standard output and standard error that it must have. The program's exit status is 0 unless a signal ends the
+program; it ignores the signal of a pipe that nobody reads. The wrapper, scripts/comply, runs the program and ends with 2 where there was trouble.
+One example comes in pieces: that the bytes of several reads are put one behind another is proved of a reader that says which bytes it has.
 """
 import os
 import subprocess
@@ -42,7 +43,7 @@ def redirected(program, redirections):
 
 
 def unread_pipe(program, is_ignored):
-    """Standard output is a pipe that nobody reads; the program begins with the signal for that ignored or not, and ignores it."""
+    """Standard output is a pipe that nobody reads; the signal for that is ignored or not where the program starts."""
     reading, writing = os.pipe()
     os.close(reading)
     # Python ignores the signal, and so does what it starts unless it is told to restore it

@@ -11,7 +11,7 @@ use Rattle.closure.proofs.Steps.{lifted_length}
 use Rattle.closure.specs.Index.{Entry, Heads, Met, Nexts, Raisable, Raised, Rises, raised_more, raised_none, records}
 use Rattle.closure.specs.Rows.{Closed, Grown, begun, lifted}
 use Rattle.frames.proofs.Frames.{only_none, only_then}
-use Rattle.meaning.specs.Limits.{most_axioms, most_classes}
+use Rattle.meaning.specs.Limits.{most_classes}
 use Rattle.meaning.specs.Lists.{All, ◌∈◌, here, there}
 use Rattle.meaning.specs.Records.{Name, Onward, falling, last_of}
 use Rattle.meaning.specs.Vocabulary.{Axiom, axiom_at, axiom_fits, axiom_kind, axiom_left, axiom_next, axiom_right, class_count, first_axiom}

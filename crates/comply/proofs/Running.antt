@@ -28,5 +28,5 @@ answered (Some b) None old new n buffer shown full within took end e a = absurd 
 answered (Some b) (Some rest) old new n buffer shown full within took end e a =
     let size = length-take-le n buffer within in
     let all : program (take n buffer) ≡ program b =
-        enough (take n buffer) rest (length buffer) (omega arith) (λ (k : length (take n buffer) < length buffer). end (omega arith)) ∙ ap program (sym took) in
+    enough (take n buffer) rest (length buffer) (omega arith) (λ (k : length (take n buffer) < length buffer). end (omega arith)) ∙ ap program (sym took) in
     subst (Appends old new) (e ∙ all) a

@@ -4,7 +4,6 @@ use Rattle.frames.specs.Frames.{Only, Span}
 use Rattle.frames.specs.Rows.{row_at}
 use Rattle.layout.specs.Places.{constraint_place, individual_place, tables_end}
 use Rattle.layout.specs.declared.Tables.{Tables}
-use Rattle.meaning.specs.Accepted.{count}
 use Rattle.meaning.specs.Countermodel.{individuals, size}
 use Rattle.meaning.specs.Intervals.{Constraint}
 use Rattle.meaning.specs.Limits.{most_records}

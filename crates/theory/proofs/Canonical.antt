@@ -13,9 +13,8 @@ use Rattle.meaning.specs.Model.{Fact, edge, member, stands, value}
 use Rattle.meaning.specs.Normal.{Bounded, Distinct, Fresh, NormalSuccessors}
 use Rattle.meaning.specs.NormalForm.{Form, Node, Successors, none, successor}
 use Rattle.meaning.specs.Policy.{Policy}
-use Rattle.meaning.specs.Promises.{inhabited}
 use Rattle.meaning.specs.Records.{Name}
-use Rattle.meaning.specs.Stated.{is_below, is_functional_feature, is_functional_role, ranges, subclass}
+use Rattle.meaning.specs.Stated.{is_below, is_functional_feature, is_functional_role, ranges}
 use Rattle.meaning.specs.Vocabulary.{Vocabulary}
 use Rattle.theory.proofs.Closure.{below_bounded, below_refl, below_subclass, below_trans}
 use Rattle.theory.proofs.Counting.{in_counting}

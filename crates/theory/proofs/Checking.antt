@@ -16,7 +16,7 @@ use Rattle.meaning.specs.Model.{individual_count, model_refusal, stands}
 use Rattle.meaning.specs.ModelCheck.{refutes}
 use Rattle.meaning.specs.Operations.{input_refusal, model_check, work_refusal}
 use Rattle.meaning.specs.Policy.{Policy, policy_of}
-use Rattle.meaning.specs.Promises.{CorrectCheck, Countered, IsRefusal, countered, inhabited, standing, unsaid_check}
+use Rattle.meaning.specs.Promises.{CorrectCheck, Countered, IsRefusal, countered, standing, unsaid_check}
 use Rattle.meaning.specs.Records.{Name, or_else}
 use Rattle.meaning.specs.Vocabulary.{Vocabulary, class_count, feature_count, role_count, vocabulary_of}
 use Rattle.theory.proofs.Links.{choose, passed, tests}

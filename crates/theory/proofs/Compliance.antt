@@ -12,18 +12,15 @@ use Rattle.meaning.specs.Containment.{resolve}
 use Rattle.meaning.specs.Countermodel.{canonical_model, countermodel, individuals}
 use Rattle.meaning.specs.Lists.{All, ◌∈◌, here}
 use Rattle.meaning.specs.Model.{Fact, facts_of, individual_count}
-use Rattle.meaning.specs.ModelCheck.{refutes}
 use Rattle.meaning.specs.Normal.{Bounded}
 use Rattle.meaning.specs.NormalForm.{Form}
 use Rattle.meaning.specs.Operations.{Outcome, compliance, compliance_of, input_refusal, refuses, reported, says, work_refusal}
-use Rattle.meaning.specs.Operations.{written}
 use Rattle.meaning.specs.Policy.{Policy, policy_of}
 use Rattle.meaning.specs.Promises.{Complies, CorrectVerdict, Escape, FirstFailure, IsRefusal, agreed, escaped, unsaid_verdict}
 use Rattle.meaning.specs.Records.{or_else}
 use Rattle.meaning.specs.Vocabulary.{Vocabulary, vocabulary_of}
 use Rattle.theory.proofs.Bounds.{bounded, bounded_terms}
 use Rattle.theory.proofs.Containment.{Decided, all_comply, decided, refuted, some_fails, sound}
-use Rattle.theory.proofs.First.{first}
 use Rattle.theory.proofs.Interpretations.{contained_finite, tested_finite}
 use Rattle.theory.proofs.ModelWords.{model_facts, model_individuals}
 use Rattle.theory.proofs.Normal.{BoundedChain}

@@ -23,7 +23,6 @@ use Rattle.meaning.specs.Vocabulary.{Vocabulary}
 use Rattle.theory.proofs.Canonical.{formed, model_proper, satisfied}
 use Rattle.theory.proofs.First.{Searched, first, never, searched}
 use Rattle.theory.proofs.Forms.{HoldsForm}
-use Rattle.theory.proofs.Links.{split}
 use Rattle.theory.proofs.Normal.{BoundedChain, normal_form_normal}
 use Rattle.theory.proofs.Picks.{PickedForm, Consistent, clean_non_empty_form, combinations_picked, consistent_picked}
 use Rattle.theory.proofs.Pieces.{combinations_held}

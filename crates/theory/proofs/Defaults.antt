@@ -1,6 +1,6 @@
 -- One value unless said otherwise (SPECIFICATION 3.2): which names the default speaks of, who is functional, what that asks of an
 -- interpretation, and when 44 is told.
-use Prim.Native.Nat.{◌+◌, ◌≤◌, suc, zero, ℕ}
+use Prim.Native.Nat.{◌≤◌, suc, zero, ℕ}
 use mathlib.Core.Bool.{Bool, ◌&&◌, and-false, cond, false, not, true}
 use mathlib.Core.List.{List, [], ◌∷◌}
 use mathlib.Core.Logic.{◌↔◌, inl, inr, ⊎_elim}
@@ -9,12 +9,11 @@ use lib.Dec.{T}
 use lib.Ieee.Bits.{is_false as is_false_lem, is_true as is_true_lem}
 use lib.ListN.{length}
 use native.Mathlib.Omega.{arith}
-use borrow.Author.Tests.{le-leb}
 use Rattle.meaning.specs.Accepted.{AxiomOf, NamedAxiom}
 use Rattle.meaning.specs.Answers.{Answer, ReadingResult, accepted, refused, result}
-use Rattle.meaning.specs.Interpretation.{Interpretation, Obeys, Satisfies}
+use Rattle.meaning.specs.Interpretation.{Interpretation, Satisfies}
 use Rattle.meaning.specs.Limits.{most_vocabulary_words}
-use Rattle.meaning.specs.Lists.{All, ◌∈◌, any, cons, counting, filter, flat_map, here, nil}
+use Rattle.meaning.specs.Lists.{All, ◌∈◌, any, cons, counting, filter, here, nil}
 use Rattle.meaning.specs.Operations.{read_vocabulary, unless}
 use Rattle.meaning.specs.Promises.{with_pairs, with_values}
 use Rattle.meaning.specs.Records.{Name, is_name, is_sized, or_else}
@@ -28,7 +27,7 @@ use Rattle.theory.proofs.Links.{bounds}
 use Rattle.theory.proofs.Refusals.{along_all}
 use Rattle.theory.proofs.Rules.{all_append, all_at, all_map, all_mono, all_of, any_flat_map, any_in, at_any, in_filter, is_false}
 use Rattle.theory.proofs.Rules.{is_true, not_true, or_left, or_right, same_test, T_and}
-use Rattle.theory.proofs.Stated.{AllStated, all_stated, feature_default, functional_feature_stated, functional_role_stated}
+use Rattle.theory.proofs.Stated.{all_stated, feature_default, functional_feature_stated, functional_role_stated}
 use Rattle.theory.proofs.Stated.{role_default, stated_all}
 use Rattle.theory.proofs.Wellformed.{accepted_axioms, vocabulary_sound}
 

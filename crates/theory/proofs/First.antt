@@ -7,7 +7,6 @@ use lib.Dec.{T}
 use native.Mathlib.Omega.{arith}
 use Rattle.meaning.specs.Lists.{All, Found, cons, first_failing, found, nil, nowhere}
 use Rattle.meaning.specs.Promises.{First}
-use Rattle.theory.proofs.Links.{passed, split}
 use Rattle.theory.proofs.Rules.{is_true}
 
 pub data Searched {A : Type 0} (p : A → Bool) (s : ℕ) (l : List A) : Found A → Type 0 where

@@ -10,7 +10,6 @@ use native.Mathlib.Omega.{arith}
 use Rattle.meaning.specs.Interpretation.{Holds, Interpretation, Proper, Satisfies}
 use Rattle.meaning.specs.Lists.{◌∈◌, here}
 use Rattle.meaning.specs.Model.{stands}
-use Rattle.meaning.specs.ModelCheck.{holds}
 use Rattle.meaning.specs.Normal.{Bounded}
 use Rattle.meaning.specs.NormalForm.{normal_form, possible}
 use Rattle.meaning.specs.Policy.{Chain}
@@ -19,7 +18,6 @@ use Rattle.meaning.specs.Splitting.{combinations}
 use Rattle.meaning.specs.Vocabulary.{Vocabulary}
 use Rattle.theory.proofs.Containment.{witness}
 use Rattle.theory.proofs.Count.{combinations_some}
-use Rattle.theory.proofs.Digits.{number}
 use Rattle.theory.proofs.Normal.{BoundedChain}
 use Rattle.theory.proofs.Rewriting.{holds_possible}
 use Rattle.theory.proofs.Rules.{is_false, not_true}

@@ -12,8 +12,7 @@ use Rattle.meaning.specs.Model.{Fact, edge, stands, value}
 use Rattle.meaning.specs.ModelCheck.{has_within, is_member, reaches}
 use Rattle.meaning.specs.Normal.{Bounded}
 use Rattle.meaning.specs.Policy.{Chain, Policy, class, end, impossible, interval, some}
-use Rattle.meaning.specs.Promises.{Complies, inhabited}
-use Rattle.meaning.specs.Stated.{subclass}
+use Rattle.meaning.specs.Promises.{Complies}
 use Rattle.meaning.specs.Vocabulary.{Vocabulary}
 use Rattle.theory.proofs.Containment.{complete, sound}
 use Rattle.theory.proofs.Intervals.{only_within, within_only}

@@ -1,5 +1,5 @@
 -- A model's words stand for its facts, and the model check accepts them.
-use Prim.Native.Nat.{◌*◌, ◌+◌, ◌≤◌, ℕ}
+use Prim.Native.Nat.{◌*◌, ◌≤◌, ℕ}
 use mathlib.Core.Bool.{true}
 use mathlib.Core.List.{List, ◌++◌}
 use mathlib.Core.Path.{◌≡◌, refl}

@@ -14,7 +14,6 @@ use Rattle.meaning.specs.Records.{Name}
 use Rattle.meaning.specs.Splitting.{choices, combinations, constraints_below, constraints_of, split_node, split_successors}
 use Rattle.meaning.specs.Stated.{disjoint_pairs, is_below, is_functional_feature, ranges}
 use Rattle.meaning.specs.Vocabulary.{Vocabulary}
-use Rattle.theory.proofs.Bounds.{bounded}
 use Rattle.theory.proofs.Intervals.{is_non_empty_iff}
 use Rattle.theory.proofs.Points.{Part, pieces_part}
 use Rattle.theory.proofs.Rules.{T_and, all_any, all_append, all_flat_map, all_fst, all_in, all_map, all_mono, all_out}

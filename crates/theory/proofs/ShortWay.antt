@@ -2,13 +2,12 @@
 -- combinations decide, too; and when 22 is considered.
 use Prim.Native.Nat.{◌+◌, suc, ℕ}
 use mathlib.Core.Bool.{Bool, ◌&&◌, ◌||◌, cond, false, not, true}
-use mathlib.Core.List.{List, [], ◌++◌, ◌∷◌, append-nil}
-use mathlib.Core.Logic.{◌⊎◌, inl, inr}
+use mathlib.Core.List.{[], ◌++◌, ◌∷◌, append-nil}
 use mathlib.Core.Path.{◌∙◌, ◌≡◌, ap, refl, sym}
 use lib.Dec.{T}
 use lib.ListN.{length}
 use native.Mathlib.Omega.{arith}
-use Rattle.meaning.specs.Containment.{Contained, Decision, contained, crowded, decide, decide_from, first_failure, or_escape}
+use Rattle.meaning.specs.Containment.{Contained, contained, crowded, decide, decide_from, first_failure, or_escape}
 use Rattle.meaning.specs.Containment.{passes, passes_whole, resolve, short_way, too_many}
 use Rattle.meaning.specs.Lists.{all, first_failing, nowhere}
 use Rattle.meaning.specs.NormalForm.{clean_node, has_bottom, normal_form, possible}

@@ -7,7 +7,7 @@ use mathlib.Core.Bool.{Bool, ◌&&◌, ◌||◌, cond, false, not, or_assoc, or-
 use mathlib.Core.List.{List, [], ◌∷◌}
 use mathlib.Core.Path.{◌∙◌, ◌≡◌, ap, refl, sym}
 use native.Mathlib.Omega.{arith}
-use borrow.Author.Tests.{eqb-true, not-false, not-true}
+use borrow.Author.Tests.{eqb-true}
 use Rattle.meaning.specs.Lists.{All, any, counting, filter}
 use Rattle.meaning.specs.Records.{Name, is_name}
 use Rattle.theory.proofs.Counting.{counting_names, in_counting}

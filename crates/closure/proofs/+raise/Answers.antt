@@ -1,9 +1,6 @@
-use borrow.Author.Rules.{rules}
-use Prim.Native.Nat.{◌<◌, ℕ}
 use native.Mathlib.Omega.{arith}
-use Rattle.closure.proofs.Raising.{Raising, raising_call, raising_ends, raising_falls, raising_fits, raising_length, raising_less}
+use Rattle.closure.proofs.Raising.{raising_call, raising_ends, raising_falls, raising_fits, raising_length, raising_less}
 use Rattle.closure.proofs.Raising.{raising_on, raising_starts, raising_within}
-use Rattle.words.specs.Sets.{word_sum}
 use Rattle.closure.proofs.+raise.Goals as goal
 
 pub bounds-heads-at : goal.bounds-heads-at

@@ -1,8 +1,4 @@
-use borrow.Author.Rules.{rules}
-use Prim.Native.Nat.{◌<◌, ℕ}
-use native.Mathlib.Omega.{arith}
-use Rattle.closure.proofs.Raising.{Raising, raising_call, raising_ends, raising_falls, raising_fits, raising_length, raising_less}
-use Rattle.closure.proofs.Raising.{raising_on, raising_starts, raising_within}
+use Rattle.closure.proofs.Raising.{Raising}
 use Rattle.words.specs.Sets.{word_sum}
 use Rattle.closure.proofs.+raise.Given as goal
 

@@ -1,8 +1,5 @@
-use borrow.Author.Rules.{rules}
-use lib.ListN.{length}
 use native.Mathlib.Omega.{arith}
-use Rattle.closure.proofs.Passes.{Held}
-use Rattle.closure.proofs.Raising.{close_begun, close_ends, close_fits, close_length, close_less, close_on, close_starts, slack}
+use Rattle.closure.proofs.Raising.{close_begun, close_ends, close_fits, close_length, close_less, close_on, close_starts}
 use Rattle.closure.proofs.close.Goals as goal
 
 pub begin-requires : goal.begin-requires

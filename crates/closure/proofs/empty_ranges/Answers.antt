@@ -1,11 +1,10 @@
-use Prim.Native.Nat.{◌+◌, ◌-◌, ◌≤◌}
-use borrow.Author.Rules.{rules}
+use Prim.Native.Nat.{◌+◌}
 use lib.ListN.{length}
 use mathlib.Core.Path.{◌∙◌, ◌≡◌, ap, refl}
 use native.Mathlib.Omega.{arith}
 use Rattle.closure.proofs.Rows.{fill_rows_only}
 use Rattle.closure.proofs.Steps.{fill_rows_more, fill_rows_none}
-use Rattle.closure.specs.Rows.{emptied, empty}
+use Rattle.closure.specs.Rows.{empty}
 use Rattle.meaning.specs.Limits.{most_classes}
 use Rattle.closure.proofs.empty_ranges.Goals as goal
 

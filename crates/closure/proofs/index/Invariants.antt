@@ -1,5 +1,4 @@
-use borrow.Author.Rules.{rules}
-use Rattle.closure.proofs.Raising.{Indexing, indexing_ends, indexing_falls, indexing_met, indexing_on, indexing_starts}
+use Rattle.closure.proofs.Raising.{Indexing}
 use Rattle.meaning.specs.Records.{falling, last_of}
 use Rattle.closure.proofs.index.Given as goal
 

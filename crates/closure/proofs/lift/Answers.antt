@@ -1,4 +1,3 @@
-use borrow.Author.Rules.{rules}
 use mathlib.Core.Path.{refl}
 use Rattle.closure.proofs.Steps.{lift_below, lift_fits, lift_length, lift_other}
 use Rattle.closure.proofs.lift.Goals as goal

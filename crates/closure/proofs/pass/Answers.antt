@@ -1,12 +1,9 @@
-use borrow.Author.Rules.{rules}
 use lib.ListN.{length}
-use mathlib.Core.Path.{◌∙◌, ◌≡◌, ap, refl}
+use mathlib.Core.Path.{◌∙◌, ap, refl}
 use native.Mathlib.Omega.{arith}
 use Rattle.closure.proofs.Steps.{grown_more, grown_still, lifted_length}
-use Rattle.closure.specs.Rows.{Grown, lifted}
-use Rattle.meaning.specs.Records.{falling, last_of}
 use Rattle.meaning.specs.Vocabulary.{axiom_at}
-use Rattle.vocabulary.proofs.Chain.{Folding, folding_ends, folding_falls, folding_on, folding_starts}
+use Rattle.vocabulary.proofs.Chain.{folding_ends, folding_falls, folding_on, folding_starts}
 use Rattle.vocabulary.proofs.Chain.{folding_fits}
 use Rattle.theory.proofs.Wellformed.{axiom_named}
 use Rattle.closure.proofs.pass.Goals as goal
@@ -32,8 +29,8 @@ loop-k-preserved c =
       ap length e.work_after ∙ lifted_length v l.work (axiom_at v l.k) (axiom_named v l.k (folding_fits l.invariant.1 n)) (omega (arith, l.invariant.0, c.requires.1)) ∙ l.invariant.0,
       folding_on l.invariant.1 n c.axiom_next-k.ensures e.work_after,
       elim c.if-lift.branch [
-          then-lift x ↦ grown_more l.grown c.lift.result w₀ l.work u l.invariant.2 e.grown x.if-lift.true x.grown-is
-          | else-lift x ↦ grown_still l.grown c.lift.result w₀ l.work u l.invariant.2 e.grown x.if-lift.false x.grown-is
+        | then-lift x ↦ grown_more l.grown c.lift.result w₀ l.work u l.invariant.2 e.grown x.if-lift.true x.grown-is
+        | else-lift x ↦ grown_still l.grown c.lift.result w₀ l.work u l.invariant.2 e.grown x.if-lift.false x.grown-is
       ],
     )
 

@@ -1,15 +1,8 @@
-use borrow.Author.Rules.{rules}
 use lib.ListN.{length}
-use mathlib.Core.Logic.{⊎_elim}
-use mathlib.Core.Path.{◌∙◌, ◌≡◌, ap, refl}
-use native.Mathlib.Omega.{arith}
-use Rattle.closure.proofs.Steps.{grown_more, grown_still, lifted_length}
+use mathlib.Core.Path.{◌≡◌}
 use Rattle.closure.specs.Rows.{Grown, lifted}
 use Rattle.meaning.specs.Records.{falling, last_of}
-use Rattle.meaning.specs.Vocabulary.{axiom_at}
-use Rattle.vocabulary.proofs.Chain.{Folding, folding_ends, folding_falls, folding_on, folding_starts}
-use Rattle.vocabulary.proofs.Chain.{folding_fits}
-use Rattle.theory.proofs.Wellformed.{axiom_named}
+use Rattle.vocabulary.proofs.Chain.{Folding}
 use Rattle.closure.proofs.pass.Given as goal
 
 abbrev pub invariant-loop-k : goal.invariant-loop-k

@@ -1,4 +1,3 @@
-use borrow.Author.Rules.{rules}
 use native.Mathlib.Omega.{arith}
 use Rattle.closure.proofs.Steps.{widen_fits, widen_length, widen_other, widen_range, widen_role}
 use Rattle.closure.proofs.widen.Goals as goal

@@ -1,8 +1,4 @@
-use Prim.Native.Nat.{◌-◌, ◌≤◌, ℕ}
-use mathlib.Core.Path.{subst}
-use native.Mathlib.Omega.{arith}
-use borrow.Author.Rules.{rules}
-use Rattle.frames.proofs.Work.{cleared_more, cleared_none}
+use Prim.Native.Nat.{◌-◌, ◌≤◌}
 use Rattle.frames.specs.Frames.{Cleared}
 use Rattle.frames.proofs.clear.Given as goal
 

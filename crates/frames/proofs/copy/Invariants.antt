@@ -1,11 +1,8 @@
-use borrow.Author.Rules.{rules}
 use Prim.Native.Nat.{◌-◌, ◌≤◌}
-use mathlib.Core.Path.{◌∙◌, ◌≡◌, refl}
-use lib.ListN.{length, length-set}
-use lib.Seq.{paste, paste-zero}
-use native.Mathlib.Omega.{arith}
+use mathlib.Core.Path.{◌≡◌}
+use lib.ListN.{length}
+use lib.Seq.{paste}
 use Rattle.frames.specs.Rows.{row_at}
-use Rattle.frames.proofs.Rows.{copied_all, copied_more}
 use Rattle.frames.proofs.copy.Given as goal
 
 abbrev pub invariant-loop-k : goal.invariant-loop-k

@@ -1,7 +1,5 @@
-use borrow.Author.Rules.{rules}
-use Rattle.meaning.specs.Records.{falling, last_of}
-use Rattle.vocabulary.proofs.Chain.{Folding, folding_ends, folding_falls, folding_fits, folding_on, folding_starts}
-use Rattle.vocabulary.proofs.Names.{name_step, names_noted, noted_length, with_name}
+use Rattle.vocabulary.proofs.Chain.{folding_ends, folding_falls, folding_fits, folding_on, folding_starts}
+use Rattle.vocabulary.proofs.Names.{name_step, names_noted, noted_length}
 use Rattle.functional.proofs.insert_many.Goals as goal
 
 pub loop-k-init : goal.loop-k-init

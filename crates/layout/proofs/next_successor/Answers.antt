@@ -1,9 +1,7 @@
 use borrow.Author.Rules.{rules}
-use Prim.Native.Nat.{◌-◌, ◌≤◌}
 use mathlib.Core.Path.{◌∙◌, ◌≡◌, refl, sym}
 use native.Mathlib.Omega.{arith}
 use Rattle.layout.proofs.Successors.{next_behind, next_ends, next_here, next_on}
-use Rattle.layout.specs.Combination.{next_successor}
 use Rattle.layout.proofs.next_successor.Goals as goal
 
 pub loop-i-init : goal.loop-i-init

@@ -1,9 +1,6 @@
 -- `next_successor`: what is sought from row j on is sought from row i on.
-use borrow.Author.Rules.{rules}
 use Prim.Native.Nat.{◌-◌, ◌≤◌}
-use mathlib.Core.Path.{◌∙◌, ◌≡◌, refl, sym}
-use native.Mathlib.Omega.{arith}
-use Rattle.layout.proofs.Successors.{next_behind, next_ends, next_here, next_on}
+use mathlib.Core.Path.{◌≡◌}
 use Rattle.layout.specs.Combination.{next_successor}
 use Rattle.layout.proofs.next_successor.Given as goal
 

@@ -1,6 +1,4 @@
-use borrow.Author.Rules.{rules}
-use Rattle.meaning.specs.Records.{falling, last_of}
-use Rattle.model.proofs.Laws.{ReadingFacts, facts_end, facts_fall, facts_on, facts_start, facts_stop}
+use Rattle.model.proofs.Laws.{facts_end, facts_fall, facts_on, facts_start, facts_stop}
 use Rattle.model.proofs.facts_refusal.Goals as goal
 
 pub loop-k-init : goal.loop-k-init

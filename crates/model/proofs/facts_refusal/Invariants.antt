@@ -1,6 +1,5 @@
-use borrow.Author.Rules.{rules}
 use Rattle.meaning.specs.Records.{falling, last_of}
-use Rattle.model.proofs.Laws.{ReadingFacts, facts_end, facts_fall, facts_on, facts_start, facts_stop}
+use Rattle.model.proofs.Laws.{ReadingFacts}
 use Rattle.model.proofs.facts_refusal.Given as goal
 
 abbrev pub invariant-loop-k : goal.invariant-loop-k

@@ -1,4 +1,3 @@
-use borrow.Author.Rules.{rules}
 use Rattle.model.proofs.Laws.{edge_fits, member_fits, unknown, value_fits}
 use Rattle.model.proofs.is_fit.Goals as goal
 

@@ -1,4 +1,3 @@
-use borrow.Author.Rules.{rules}
 use Rattle.model.proofs.Laws.{headed}
 use Rattle.model.proofs.is_headed.Goals as goal
 

@@ -1,4 +1,3 @@
-use borrow.Author.Rules.{rules}
 use Rattle.model.proofs.Laws.{link_sound}
 use Rattle.model.proofs.is_sound.Goals as goal
 

@@ -1,4 +1,3 @@
-use borrow.Author.Rules.{rules}
 use Rattle.model.proofs.Laws.{chained, first, least, wrong_header, wrong_size}
 use Rattle.model.proofs.model_refusal.Goals as goal
 

@@ -1,4 +1,3 @@
-use borrow.Author.Rules.{rules}
 use lib.ListN.{length}
 use mathlib.Core.Path.{◌∙◌, ap}
 use Rattle.pairs.proofs.Pairs.{enlist_other, enlist_pair, with_length}

@@ -1,4 +1,3 @@
-use borrow.Author.Rules.{rules}
 use Rattle.pairs.proofs.Pairs.{has_both_lem, has_none}
 use Rattle.pairs.proofs.has_both.Goals as goal
 

@@ -1,10 +1,8 @@
-use Prim.Native.Nat.{◌-◌}
 use mathlib.Core.Bool.{not}
 use mathlib.Core.Path.{◌∙◌, ap, sym}
 use native.Mathlib.Omega.{arith}
-use borrow.Author.Rules.{rules}
-use Rattle.pairs.specs.Pairs.{agree_in, has_both, pair_at}
-use Rattle.theory.proofs.Counting.{Testing, testing_ends, testing_fails, testing_on, testing_starts}
+use Rattle.pairs.specs.Pairs.{agree_in}
+use Rattle.theory.proofs.Counting.{testing_ends, testing_fails, testing_on, testing_starts}
 use Rattle.pairs.proofs.is_compatible.Goals as goal
 
 pub bounds-work-2560 : goal.bounds-work-2560

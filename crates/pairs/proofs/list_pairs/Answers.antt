@@ -1,9 +1,7 @@
-use borrow.Author.Rules.{rules}
 use mathlib.Core.Path.{◌∙◌}
 use lib.ListN.{length-set}
 use native.Mathlib.Omega.{arith}
-use Rattle.meaning.specs.Records.{falling, last_of}
-use Rattle.pairs.proofs.Pairs.{Listing, listing_ends, listing_on, listing_room, listing_starts}
+use Rattle.pairs.proofs.Pairs.{listing_ends, listing_on, listing_room, listing_starts}
 use Rattle.vocabulary.proofs.Chain.{folding_falls}
 use Rattle.pairs.proofs.list_pairs.Goals as goal
 

@@ -1,11 +1,6 @@
 -- `list_pairs`: at record k the list has what the records before it state.
-use borrow.Author.Rules.{rules}
-use mathlib.Core.Path.{◌∙◌}
-use lib.ListN.{length-set}
-use native.Mathlib.Omega.{arith}
 use Rattle.meaning.specs.Records.{falling, last_of}
-use Rattle.pairs.proofs.Pairs.{Listing, listing_ends, listing_on, listing_room, listing_starts}
-use Rattle.vocabulary.proofs.Chain.{folding_falls}
+use Rattle.pairs.proofs.Pairs.{Listing}
 use Rattle.pairs.proofs.list_pairs.Given as goal
 
 abbrev pub invariant-loop-k : goal.invariant-loop-k

@@ -1,9 +1,5 @@
 use borrow.Author.Rules.{rules}
-use Prim.Native.Nat.{◌<◌, ℕ}
-use mathlib.Core.Path.{◌≡◌}
-use lib.ListN.{length}
-use Rattle.meaning.specs.Records.{falling, last_of}
-use Rattle.policy.proofs.Walking.{Going, child_inside, level, level_falls, next_falls, walk_ends, walk_faults, walk_on, walk_past, walk_starts, walk_stops}
+use Rattle.policy.proofs.Walking.{child_inside, level, level_falls, next_falls, walk_ends, walk_faults, walk_on, walk_past, walk_starts, walk_stops}
 use Rattle.policy.proofs.+walk_from.Goals as goal
 
 pub loop-k-init : goal.loop-k-init

@@ -1,10 +1,8 @@
 -- `walk_from`: a loop along the chain, over its records, and a call for each child chain, with a level less.
-use borrow.Author.Rules.{rules}
-use Prim.Native.Nat.{◌<◌, ℕ}
 use mathlib.Core.Path.{◌≡◌}
 use lib.ListN.{length}
 use Rattle.meaning.specs.Records.{falling, last_of}
-use Rattle.policy.proofs.Walking.{Going, child_inside, level, level_falls, next_falls, walk_ends, walk_faults, walk_on, walk_past, walk_starts, walk_stops}
+use Rattle.policy.proofs.Walking.{Going}
 use Rattle.policy.proofs.+walk_from.Given as goal
 
 abbrev pub decreases-walk_from : goal.decreases-walk_from

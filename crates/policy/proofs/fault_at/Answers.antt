@@ -1,4 +1,3 @@
-use borrow.Author.Rules.{rules}
 use Rattle.policy.proofs.Walking.{fault_bad, fault_deep, fault_none, fault_twice}
 use Rattle.policy.proofs.fault_at.Goals as goal
 

@@ -1,4 +1,3 @@
-use borrow.Author.Rules.{rules}
 use Rattle.policy.proofs.Laws.{input_former, input_latter, small}
 use Rattle.policy.proofs.input_refusal.Goals as goal
 

@@ -1,4 +1,3 @@
-use borrow.Author.Rules.{rules}
 use Rattle.policy.proofs.Laws.{class_fits, feature_fits, impossible_fits, misplaced, role_fits, term_fits, unknown}
 use Rattle.policy.proofs.is_fit.Goals as goal
 

@@ -1,4 +1,3 @@
-use borrow.Author.Rules.{rules}
 use Rattle.policy.proofs.Laws.{headed}
 use Rattle.policy.proofs.is_headed.Goals as goal
 

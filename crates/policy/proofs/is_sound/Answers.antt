@@ -1,4 +1,3 @@
-use borrow.Author.Rules.{rules}
 use Rattle.policy.proofs.Laws.{links_sound}
 use Rattle.policy.proofs.is_sound.Goals as goal
 

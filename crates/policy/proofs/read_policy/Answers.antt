@@ -1,4 +1,3 @@
-use borrow.Author.Rules.{rules}
 use Rattle.policy.proofs.Laws.{answers}
 use Rattle.policy.proofs.read_policy.Goals as goal
 

@@ -1,4 +1,3 @@
-use borrow.Author.Rules.{rules}
 use Rattle.policy.proofs.Laws.{answers_second}
 use Rattle.policy.proofs.read_second_policy.Goals as goal
 

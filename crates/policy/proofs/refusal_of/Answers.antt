@@ -1,4 +1,3 @@
-use borrow.Author.Rules.{rules}
 use Rattle.policy.proofs.Laws.{policy_former, policy_latter, small, vocabulary_first}
 use Rattle.policy.proofs.refusal_of.Goals as goal
 

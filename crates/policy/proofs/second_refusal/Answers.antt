@@ -1,4 +1,3 @@
-use borrow.Author.Rules.{rules}
 use Rattle.theory.proofs.Refusals.{second_refusal_some}
 use Rattle.policy.proofs.second_refusal.Goals as goal
 

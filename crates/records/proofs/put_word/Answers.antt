@@ -3,7 +3,6 @@ use mathlib.Core.List.{List, [], ◌∷◌}
 use mathlib.Core.Path.{◌≡◌, ap, refl, sym}
 use native.Mathlib.Omega.{arith}
 use lib.ListN.{length, set}
-use borrow.Author.Rules.{rules}
 use Rattle.records.proofs.put_word.Goals as goal
 
 set_past : (l : List ℕ) (i a : ℕ) → length l ≤ i → set l i a ≡ l

@@ -1,4 +1,3 @@
-use borrow.Author.Rules.{rules}
 use Rattle.meaning.specs.Answers.{accepted, refused, result}
 use Rattle.theory.proofs.Refusals.{unless_some}
 use Rattle.records.proofs.reading.Goals as goal

@@ -1,4 +1,3 @@
-use borrow.Author.Rules.{rules}
 use Rattle.vocabulary.proofs.Laws.{bad_link, below_fits, disjoint_fits, feature_fits, many_feature_fits, many_role_fits}
 use Rattle.vocabulary.proofs.Laws.{range_fits, role_fits, unknown}
 use Rattle.vocabulary.proofs.axiom_refusal.Goals as goal

@@ -1,7 +1,5 @@
-use borrow.Author.Rules.{rules}
-use Rattle.meaning.specs.Records.{falling, last_of}
-use Rattle.vocabulary.proofs.Laws.{ReadingAxioms, axioms_end, axioms_fall, axioms_on, axioms_start, axioms_stop}
-use Rattle.vocabulary.proofs.Names.{Noting, noting_ends, noting_on, noting_starts}
+use Rattle.vocabulary.proofs.Laws.{axioms_end, axioms_fall, axioms_on, axioms_start, axioms_stop}
+use Rattle.vocabulary.proofs.Names.{noting_ends, noting_on, noting_starts}
 use Rattle.vocabulary.proofs.axioms_refusal.Goals as goal
 
 pub loop-k-init : goal.loop-k-init

@@ -1,4 +1,3 @@
-use borrow.Author.Rules.{rules}
 use Rattle.vocabulary.proofs.Laws.{first}
 use Rattle.vocabulary.proofs.Names.{chain_first, features_opposed, none_opposed, roles_opposed}
 use Rattle.vocabulary.proofs.chain_refusal.Goals as goal

@@ -1,4 +1,3 @@
-use borrow.Author.Rules.{rules}
 use lib.ListN.{length}
 use mathlib.Core.Path.{◌∙◌, ap}
 use Rattle.vocabulary.proofs.Names.{name_passed, name_put}

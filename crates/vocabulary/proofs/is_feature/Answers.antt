@@ -1,4 +1,3 @@
-use borrow.Author.Rules.{rules}
 use Rattle.vocabulary.proofs.is_feature.Goals as goal
 
 pub returns : goal.returns

@@ -1,4 +1,3 @@
-use borrow.Author.Rules.{rules}
 use Rattle.vocabulary.proofs.Laws.{header_classes, header_features, header_first, header_roles}
 use Rattle.vocabulary.proofs.is_headed.Goals as goal
 

@@ -1,4 +1,3 @@
-use borrow.Author.Rules.{rules}
 use Rattle.vocabulary.proofs.note.Goals as goal
 
 pub returns : goal.returns

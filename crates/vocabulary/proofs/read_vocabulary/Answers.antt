@@ -1,4 +1,3 @@
-use borrow.Author.Rules.{rules}
 use Rattle.vocabulary.proofs.Laws.{told}
 use Rattle.vocabulary.proofs.read_vocabulary.Goals as goal
 

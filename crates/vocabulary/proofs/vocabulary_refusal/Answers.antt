@@ -1,4 +1,3 @@
-use borrow.Author.Rules.{rules}
 use Rattle.vocabulary.proofs.Laws.{chained, least, right_header, wrong_header, wrong_size}
 use Rattle.vocabulary.proofs.vocabulary_refusal.Goals as goal
 

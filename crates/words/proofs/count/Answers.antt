@@ -1,11 +1,8 @@
-use Prim.Native.Nat.{◌*◌, ◌-◌, ◌≤◌}
 use borrow.Author.Rules.{rules}
 use lib.Count.{ones-le}
-use lib.ListN.{get_or, length, take}
-use mathlib.Core.Path.{◌≡◌}
+use lib.ListN.{get_or}
 use native.Mathlib.Omega.{arith}
 use Rattle.words.proofs.Steps.{counted_all, counted_more, counted_none}
-use Rattle.words.specs.Members.{set_bits}
 use Rattle.words.proofs.count.Goals as goal
 
 pub loop-i-init : goal.loop-i-init

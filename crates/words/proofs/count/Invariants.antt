@@ -1,11 +1,7 @@
 -- `count`: the bits of the words passed, at most 32 a word.
 use Prim.Native.Nat.{◌*◌, ◌-◌, ◌≤◌}
-use borrow.Author.Rules.{rules}
-use lib.Count.{ones-le}
-use lib.ListN.{get_or, length, take}
+use lib.ListN.{length, take}
 use mathlib.Core.Path.{◌≡◌}
-use native.Mathlib.Omega.{arith}
-use Rattle.words.proofs.Steps.{counted_all, counted_more, counted_none}
 use Rattle.words.specs.Members.{set_bits}
 use Rattle.words.proofs.count.Given as goal
 

@@ -1,7 +1,4 @@
-use borrow.Author.Rules.{rules}
-use lib.ListN.{length}
-use Rattle.words.proofs.Others.{Meeting, meeting_ends, meeting_falls, meeting_found, meeting_on, meeting_starts}
-use Rattle.words.specs.Members.{members_from}
+use Rattle.words.proofs.Others.{meeting_ends, meeting_falls, meeting_found, meeting_on, meeting_starts}
 use Rattle.words.proofs.do_meet.Goals as goal
 
 pub loop-x-init : goal.loop-x-init

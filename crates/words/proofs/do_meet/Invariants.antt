@@ -1,6 +1,5 @@
-use borrow.Author.Rules.{rules}
 use lib.ListN.{length}
-use Rattle.words.proofs.Others.{Meeting, meeting_ends, meeting_falls, meeting_found, meeting_on, meeting_starts}
+use Rattle.words.proofs.Others.{Meeting}
 use Rattle.words.specs.Members.{members_from}
 use Rattle.words.proofs.do_meet.Given as goal
 

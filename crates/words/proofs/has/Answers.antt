@@ -1,5 +1,4 @@
 -- `has`: 0 and a number past the words are in no set; any other is a bit of its word.
-use borrow.Author.Rules.{rules}
 use Rattle.words.proofs.Steps.{has_bit, has_past, has_zero}
 use Rattle.words.proofs.has.Goals as goal
 

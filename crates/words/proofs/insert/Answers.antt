@@ -1,5 +1,4 @@
 -- `insert`: 0 and a number past the words change nothing; any other sets a bit of its word.
-use borrow.Author.Rules.{rules}
 use Rattle.words.proofs.Steps.{insert_bit, insert_past, insert_zero}
 use Rattle.words.proofs.insert.Goals as goal
 

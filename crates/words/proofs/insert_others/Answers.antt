@@ -1,9 +1,7 @@
-use Prim.Native.Nat.{◌-◌}
-use borrow.Author.Rules.{rules}
-use mathlib.Core.Path.{◌∙◌, ◌≡◌, ap, refl}
+use mathlib.Core.Path.{◌∙◌, ap, refl}
 use lib.ListN.{length}
 use Rattle.words.proofs.Laws.{length_including}
-use Rattle.words.proofs.Others.{Filling, filling_ends, filling_has, filling_more, filling_starts}
+use Rattle.words.proofs.Others.{filling_ends, filling_has, filling_more, filling_starts}
 use Rattle.words.proofs.insert_others.Goals as goal
 
 pub loop-i-init : goal.loop-i-init

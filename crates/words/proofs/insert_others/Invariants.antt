@@ -1,9 +1,7 @@
 use Prim.Native.Nat.{◌-◌}
-use borrow.Author.Rules.{rules}
-use mathlib.Core.Path.{◌∙◌, ◌≡◌, ap, refl}
+use mathlib.Core.Path.{◌≡◌}
 use lib.ListN.{length}
-use Rattle.words.proofs.Laws.{length_including}
-use Rattle.words.proofs.Others.{Filling, filling_ends, filling_has, filling_more, filling_starts}
+use Rattle.words.proofs.Others.{Filling}
 use Rattle.words.proofs.insert_others.Given as goal
 
 abbrev pub invariant-loop-i : goal.invariant-loop-i

@@ -1,10 +1,6 @@
-use Prim.Native.Nat.{◌-◌}
-use borrow.Author.Rules.{rules}
-use mathlib.Core.Path.{◌≡◌, refl}
+use mathlib.Core.Path.{refl}
 use native.Mathlib.Omega.{arith}
 use Rattle.words.proofs.Steps.{next_end, next_fits, next_found, next_word}
-use Rattle.words.specs.Members.{members_above}
-use Rattle.words.specs.Sets.{capacity}
 use Rattle.words.proofs.next.Goals as goal
 
 pub loop-above-init : goal.loop-above-init

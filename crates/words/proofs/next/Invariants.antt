@@ -1,9 +1,6 @@
 -- `next`: what stands above i is what stands above x; i moves on to the next word.
 use Prim.Native.Nat.{◌-◌}
-use borrow.Author.Rules.{rules}
-use mathlib.Core.Path.{◌≡◌, refl}
-use native.Mathlib.Omega.{arith}
-use Rattle.words.proofs.Steps.{next_end, next_fits, next_found, next_word}
+use mathlib.Core.Path.{◌≡◌}
 use Rattle.words.specs.Members.{members_above}
 use Rattle.words.specs.Sets.{capacity}
 use Rattle.words.proofs.next.Given as goal

@@ -1,4 +1,3 @@
-use borrow.Author.Rules.{rules}
 use Rattle.functional.proofs.FunctionalNames.{functional_names}
 use Rattle.functional.proofs.Functional.of.Goals as goal
 

@@ -1,11 +1,8 @@
-use Prim.Native.Nat.{◌-◌, ◌≤◌}
 use borrow.Author.Rules.{rules}
 use lib.ListN.{length}
-use mathlib.Core.Bool.{true}
-use mathlib.Core.Logic.{◌↔◌}
 use mathlib.Core.Path.{◌≡◌}
 use native.Mathlib.Omega.{arith}
-use Rattle.words.proofs.Growth.{KeptTo, covers_all, covers_more, covers_none}
+use Rattle.words.proofs.Growth.{covers_all, covers_more, covers_none}
 use Rattle.words.specs.Rows.{class_words}
 use Rattle.words.proofs.ClassSet.covers.Goals as goal
 

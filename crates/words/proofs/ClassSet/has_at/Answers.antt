@@ -1,5 +1,4 @@
 -- `ClassSet::has_at`: the test of the part.
-use borrow.Author.Rules.{rules}
 use mathlib.Core.List.{List}
 use mathlib.Core.Path.{◌∙◌, ap}
 use Prim.Native.Nat.{ℕ}

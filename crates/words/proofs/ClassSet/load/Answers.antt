@@ -1,9 +1,9 @@
-use Prim.Native.Nat.{◌+◌, ◌-◌, ◌≤◌, ℕ}
+use Prim.Native.Nat.{◌+◌, ℕ}
 use borrow.Author.Rules.{rules}
-use lib.ListN.{get_or, length, length-set}
-use mathlib.Core.Path.{◌∙◌, ◌≡◌}
+use lib.ListN.{get_or, length-set}
+use mathlib.Core.Path.{◌∙◌}
 use native.Mathlib.Omega.{arith}
-use Rattle.words.proofs.Steps.{Filled, filled_more, row_filled}
+use Rattle.words.proofs.Steps.{filled_more, row_filled}
 use Rattle.words.specs.Rows.{class_words}
 use Rattle.words.proofs.ClassSet.load.Goals as goal
 

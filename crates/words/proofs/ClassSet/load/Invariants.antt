@@ -1,10 +1,8 @@
 -- `ClassSet::load`: the words from at on, one by one.
-use Prim.Native.Nat.{◌+◌, ◌-◌, ◌≤◌, ℕ}
-use borrow.Author.Rules.{rules}
-use lib.ListN.{get_or, length, length-set}
-use mathlib.Core.Path.{◌∙◌, ◌≡◌}
-use native.Mathlib.Omega.{arith}
-use Rattle.words.proofs.Steps.{Filled, filled_more, row_filled}
+use Prim.Native.Nat.{◌+◌, ◌-◌, ◌≤◌}
+use lib.ListN.{get_or, length}
+use mathlib.Core.Path.{◌≡◌}
+use Rattle.words.proofs.Steps.{Filled}
 use Rattle.words.specs.Rows.{class_words}
 use Rattle.words.proofs.ClassSet.load.Given as goal
 

@@ -1,11 +1,8 @@
 -- `ClassSet::store`: the words of the set over those from at on, one by one.
 use Prim.Native.Nat.{◌-◌, ◌≤◌}
-use borrow.Author.Rules.{rules}
-use lib.ListN.{length, length-set}
-use lib.Seq.{paste, paste-zero}
-use mathlib.Core.Path.{◌∙◌, ◌≡◌, refl}
-use native.Mathlib.Omega.{arith}
-use Rattle.frames.proofs.Rows.{stored_all, stored_more}
+use lib.ListN.{length}
+use lib.Seq.{paste}
+use mathlib.Core.Path.{◌≡◌}
 use Rattle.words.specs.Rows.{class_words}
 use Rattle.words.proofs.ClassSet.store.Given as goal
 

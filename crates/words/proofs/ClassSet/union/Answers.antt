@@ -1,10 +1,10 @@
-use Prim.Native.Nat.{◌-◌, ◌≤◌, ℕ}
+use Prim.Native.Nat.{ℕ}
 use borrow.Author.Rules.{rules}
 use lib.Bits.{bit_or}
 use lib.ListN.{get_or, length, length-set}
 use mathlib.Core.Path.{◌∙◌, ◌≡◌}
 use native.Mathlib.Omega.{arith}
-use Rattle.words.proofs.Steps.{Filled, filled_more, members_union, union_filled}
+use Rattle.words.proofs.Steps.{filled_more, members_union, union_filled}
 use Rattle.words.specs.Rows.{class_words}
 use Rattle.words.proofs.ClassSet.union.Goals as goal
 

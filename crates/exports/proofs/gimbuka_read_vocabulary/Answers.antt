@@ -1,0 +1,6 @@
+use Rattle.exports.proofs.Coding.{coded}
+use Rattle.exports.specs.Codes.{reading_code}
+use Rattle.exports.proofs.gimbuka_read_vocabulary.Goals as goal
+
+pub returns : goal.returns
+returns c = coded c.read_vocabulary.ensures reading_code c.reading.ensures
