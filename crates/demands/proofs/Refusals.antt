@@ -12,7 +12,7 @@ use Rattle.demands.specs.Refusals.{FirstRefusal, compliance_order, equality_orde
 use Rattle.demands.specs.Refusals.{second_policy_order, vocabulary_order}
 use Rattle.equality.specs.Comparisons.{EqualityPost}
 use Rattle.meaning.specs.Answers.{checked_answer, comparison_answer, possibility_answer, reading_answer, refused, verdict_answer}
-use Rattle.meaning.specs.Operations.{possibility, read_policy, read_second_policy, read_vocabulary}
+use Rattle.meaning.specs.Operations.{read_policy, read_second_policy, read_vocabulary}
 use Rattle.meaning.specs.declared.Checked.{Checked}
 use Rattle.meaning.specs.declared.Comparison.{Comparison}
 use Rattle.meaning.specs.declared.Possibility.{Possibility}

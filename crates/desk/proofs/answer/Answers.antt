@@ -1,5 +1,4 @@
 -- `answer`: what is decided, printed.
-use borrow.Author.Rules.{rules}
 use Rattle.text.proofs.Outcomes.{answer_printed}
 use Rattle.desk.proofs.answer.Goals as goal
 

@@ -1,12 +1,9 @@
 use borrow.Author.Rules.{rules}
-use Prim.Native.Nat.{◌+◌, ◌-◌, ◌/◌, ◌≤◌, ℕ}
-use mathlib.Core.List.{map}
+use Prim.Native.Nat.{◌+◌, ◌/◌, ℕ}
 use mathlib.Core.Path.{◌∙◌, ◌≡◌, ap, refl}
 use lib.ListN.{length, length-set, set, take}
 use native.Mathlib.Omega.{arith}
 use Rattle.input.proofs.Words.{decode_more}
-use Rattle.meaning.specs.Lists.{counting}
-use Rattle.meaning.specs.Program.{word_at}
 use Rattle.input.proofs.decode.Goals as goal
 
 pub loop-i-init : goal.loop-i-init

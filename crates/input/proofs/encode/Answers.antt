@@ -1,7 +1,4 @@
-use borrow.Author.Rules.{rules}
-use Prim.Native.Nat.{◌-◌}
-use lib.ListN.{length}
-use Rattle.input.proofs.Bytes.{BytesLeft, bytes_more, bytes_put, bytes_room, bytes_start}
+use Rattle.input.proofs.Bytes.{bytes_more, bytes_put, bytes_room, bytes_start}
 use Rattle.input.proofs.encode.Goals as goal
 
 pub loop-i-init : goal.loop-i-init

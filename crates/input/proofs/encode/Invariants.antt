@@ -1,8 +1,7 @@
 -- `encode`: at word i the bytes of those before it are put, and the others are left.
-use borrow.Author.Rules.{rules}
 use Prim.Native.Nat.{◌-◌}
 use lib.ListN.{length}
-use Rattle.input.proofs.Bytes.{BytesLeft, bytes_more, bytes_put, bytes_room, bytes_start}
+use Rattle.input.proofs.Bytes.{BytesLeft}
 use Rattle.input.proofs.encode.Given as goal
 
 abbrev pub invariant-loop-i : goal.invariant-loop-i

@@ -1,5 +1,4 @@
 -- `is_exact`: the places of the parts, one after the other.
-use borrow.Author.Rules.{rules}
 use Rattle.input.proofs.Words.{exact_parts}
 use Rattle.input.proofs.is_exact.Goals as goal
 

@@ -1,5 +1,4 @@
 -- `part`: from after the word count to the next part.
-use borrow.Author.Rules.{rules}
 use Rattle.input.proofs.Words.{part_taken}
 use Rattle.input.proofs.part.Goals as goal
 

@@ -1,5 +1,4 @@
 use borrow.Author.Rules.{rules}
-use Prim.Native.Nat.{◌<◌, ℕ}
 use native.Mathlib.Omega.{arith}
 use Rattle.printing.proofs.Decimal.{decimal_length, decimal_some, put_digits, put_last}
 use Rattle.printing.proofs.+put_decimal.Goals as goal

@@ -1,8 +1,5 @@
 use borrow.Author.Rules.{rules}
-use Prim.Native.Nat.{◌+◌, ◌-◌, ◌≤◌}
-use lib.ListN.{length, take}
 use Rattle.printing.proofs.Printing.{put_name_all, put_next, put_none}
-use Rattle.frames.specs.Rows.{Put}
 use Rattle.printing.proofs.put_name.Goals as goal
 
 pub loop-i-init : goal.loop-i-init

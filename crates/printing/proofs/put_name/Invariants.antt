@@ -1,8 +1,6 @@
 -- `put_name`: after i turns the name's first i bytes are put.
-use borrow.Author.Rules.{rules}
 use Prim.Native.Nat.{◌+◌, ◌-◌, ◌≤◌}
 use lib.ListN.{length, take}
-use Rattle.printing.proofs.Printing.{put_name_all, put_next, put_none}
 use Rattle.frames.specs.Rows.{Put}
 use Rattle.printing.proofs.put_name.Given as goal
 

@@ -1,5 +1,4 @@
 -- `put_compliant`: the name and a line feed.
-use borrow.Author.Rules.{rules}
 use Rattle.frames.proofs.Puts.{put_then}
 use Rattle.text.proofs.put_compliant.Goals as goal
 

@@ -1,5 +1,4 @@
 -- `put_fact`: the line by the kind.
-use borrow.Author.Rules.{rules}
 use Rattle.frames.proofs.Puts.{put_as}
 use Rattle.text.proofs.Facts.{fact_edge, fact_member, fact_value}
 use Rattle.text.proofs.put_fact.Goals as goal

@@ -1,11 +1,6 @@
 use borrow.Author.Rules.{rules}
-use Prim.Native.Nat.{◌*◌, ◌+◌, ◌-◌, ◌≤◌}
-use Rattle.meaning.specs.Lists.{flat_map}
-use Rattle.meaning.specs.Program.{fact_line}
 use Rattle.frames.proofs.Puts.{put_nothing}
-use Rattle.frames.specs.Rows.{Put}
 use Rattle.text.proofs.Facts.{facts_all, facts_more}
-use Rattle.text.specs.Text.{most_line, records_to}
 use Rattle.text.proofs.put_facts.Goals as goal
 
 pub loop-k-init : goal.loop-k-init

@@ -1,16 +1,13 @@
 -- `put_facts`: after k turns the lines of records 1 to k are put.
-use borrow.Author.Rules.{rules}
 use Prim.Native.Nat.{◌*◌, ◌+◌, ◌-◌, ◌≤◌}
 use Rattle.meaning.specs.Lists.{flat_map}
 use Rattle.meaning.specs.Program.{fact_line}
-use Rattle.frames.proofs.Puts.{put_nothing}
 use Rattle.frames.specs.Rows.{Put}
-use Rattle.text.proofs.Facts.{facts_all, facts_more}
 use Rattle.text.specs.Text.{most_line, records_to}
 use Rattle.text.proofs.put_facts.Given as goal
 
 abbrev pub invariant-loop-k : goal.invariant-loop-k
-invariant-loop-k l = 
+invariant-loop-k l =
     (l.k ≤ l.n) × (l.next ≤ l.at + most_line * l.k) × Put l.initial.text l.at (flat_map fact_line (records_to l.out l.k)) l.text l.next
 
 abbrev pub decreases-loop-k : goal.decreases-loop-k

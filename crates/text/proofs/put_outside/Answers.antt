@@ -1,5 +1,4 @@
 -- `put_outside`: the answer's line and the records' lines.
-use borrow.Author.Rules.{rules}
 use native.Mathlib.Omega.{arith}
 use Rattle.frames.proofs.Puts.{put_as, put_then}
 use Rattle.text.proofs.Facts.{model_count, model_printed}

@@ -1,5 +1,4 @@
 -- `put_refused`: the name, the number and a line feed.
-use borrow.Author.Rules.{rules}
 use Rattle.frames.proofs.Puts.{put_then}
 use Rattle.text.proofs.put_refused.Goals as goal
 
