@@ -20,7 +20,7 @@ use Rattle.meaning.specs.Operations.{read_second_policy, read_vocabulary, refuse
 use Rattle.meaning.specs.Policy.{policy_of, policy_refusal, second_refusal}
 use Rattle.meaning.specs.Records.{or_else}
 use Rattle.meaning.specs.Vocabulary.{Vocabulary, vocabulary_of, vocabulary_refusal}
-use Rattle.theory.proofs.Refusals.{cond-all}
+use Rattle.theory.proofs.Refusals.{cond_all}
 
 -- ---- the first of several numbers
 
@@ -137,4 +137,4 @@ model_check_follows v p q m w =
     let b = refutes (facts_of m) (vocabulary_of v) (policy_of p) (policy_of q) in
     let rest = cond b (result yes) (result no) in
     rw (unless_or (input_refusal v p q) (or_else (model_refusal v m) (work_refusal w)) rest, unless_or (model_refusal v m) (work_refusal w) rest)
-    (follows_input v p q (follows_unless (model_refusal v m) (follows_unless (work_refusal w) (cond-all (λ (a : Answer CheckResult). Follows [] a) b (answering nil) (answering nil)))))
+    (follows_input v p q (follows_unless (model_refusal v m) (follows_unless (work_refusal w) (cond_all (λ (a : Answer CheckResult). Follows [] a) b (answering nil) (answering nil)))))

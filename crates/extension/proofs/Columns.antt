@@ -28,7 +28,7 @@ use Rattle.satisfaction.proofs.Rows.{none_in}
 use Rattle.satisfaction.specs.Places.{put_in, record_words}
 use Rattle.spans.proofs.Rows.{Row, row_inside, row_put, shuffle}
 use Rattle.theory.proofs.Links.{onward_le, tests}
-use Rattle.theory.proofs.Refusals.{cond-all}
+use Rattle.theory.proofs.Refusals.{cond_all}
 use Rattle.words.proofs.Laws.{named_within}
 use Rattle.words.specs.Sets.{in_set}
 
@@ -81,7 +81,7 @@ module _ {p m w : List ℕ} {k : ℕ} where
   pub filling_on : {c₀ c c' : List ℕ} {i : ℕ} → Readable m → Name most_records k → columns_end ≤ length c → Name (individual_count m) i → CellFilled p w k i c c' →
       (l : List ℕ) → Filling p m w k c₀ c (i ∷ l) → Filling p m w k c₀ c' l
   filling_on {c₀} {c} {c'} {i} rm nk room ni x l t = record {
-    only = rw x.words (cond-all (Only (Span columns_at columns_end) c₀) x.test (row_inside c k (at_column i named) nk (omega arith) (omega arith) (omega arith) refl t.only) t.only);
+    only = rw x.words (cond_all (Only (Span columns_at columns_end) c₀) x.test (row_inside c k (at_column i named) nk (omega arith) (omega arith) (omega arith) refl t.only) t.only);
     left = λ n y h r d nd. rw x.words (go d nd x.test (test_is n y h r) (t.left n y h r d nd));
     others = λ d j nd h. rw x.words (off d j nd h x.test) ∙ t.others d j nd h;
   }

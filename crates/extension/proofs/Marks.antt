@@ -23,7 +23,7 @@ use Rattle.spans.proofs.Joining.{at_set}
 use Rattle.spans.proofs.Rows.{row_inside, row_put, shuffle}
 use Rattle.spans.specs.Values.{ValuesMarked, valued}
 use Rattle.theory.proofs.Counting.{in_counting}
-use Rattle.theory.proofs.Refusals.{cond-all}
+use Rattle.theory.proofs.Refusals.{cond_all}
 use Rattle.theory.proofs.Rules.{T_and, and_T, any_at, any_in, any_out, at_any, same_test}
 use Rattle.words.specs.Sets.{in_set}
 
@@ -66,7 +66,7 @@ module _ (p m : List ℕ) (k : ℕ) where
       (l : List ℕ) → Telling p m k w₀ w (i ∷ l) → Telling p m k w₀ w' l
   telling_on {w₀} {w} {i = i} n r h e l t =
       subst (λ (y : List ℕ). Telling p m k w₀ y l) (sym (e ∙ rw (r.classed.rows i (name_of p k) h))) (record {
-        only = cond-all (Only (Span sets_at heights_at) w₀) (in_class p m k i) (row_inside w k (at_set i few) n long (omega arith) (omega arith) refl t.only) t.only;
+        only = cond_all (Only (Span sets_at heights_at) w₀) (in_class p m k i) (row_inside w k (at_set i few) n long (omega arith) (omega arith) refl t.only) t.only;
         left = λ d nd. go d nd (in_class p m k i) (t.left d nd);
         others = λ d j nd h. off d j nd h (in_class p m k i) ∙ t.others d j nd h;
       })

@@ -11,7 +11,7 @@ use Rattle.frames.proofs.Rows.{put_append, put_nil}
 use Rattle.frames.specs.Rows.{Put, put_at}
 
 pub put_nothing : (w : List ℕ) (at : ℕ) → Put w at [] w at
-put_nothing w at = record { is = sym (put_nil w at); place = omega arith; size = refl }
+put_nothing w at = record { text = sym (put_nil w at); place = omega arith; size = refl }
 
 -- a piece that leaves the slice as long as it was stands within it
 within : (w : List ℕ) (at x : ℕ) (xs : List ℕ) → length (put_at w at (x ∷ xs)) ≡ length w → at + length (x ∷ xs) ≤ length w
@@ -24,7 +24,7 @@ joined w at (x ∷ xs) ys e = put_append w at (x ∷ xs) (within w at x xs e) ys
 
 pub put_then : {w u v : List ℕ} {at m r : ℕ} {xs ys : List ℕ} → Put w at xs u m → Put u m ys v r → Put w at (xs ++ ys) v r
 put_then {w} {u} {v} {at} {m} {r} {xs} {ys} p q = record {
-  is = q.is ∙ ap (λ (l : List ℕ). put_at l m ys) p.is ∙ ap (λ (k : ℕ). put_at (put_at w at xs) k ys) p.place ∙ joined w at xs ys (ap length (sym p.is) ∙ p.size);
+  text = q.text ∙ ap (λ (l : List ℕ). put_at l m ys) p.text ∙ ap (λ (k : ℕ). put_at (put_at w at xs) k ys) p.place ∙ joined w at xs ys (ap length (sym p.text) ∙ p.size);
   place = omega (arith, length-append xs ys);
   size = q.size ∙ p.size;
 }
@@ -35,18 +35,18 @@ put_as {w} {u} {at} {r} e p = subst (λ (l : List ℕ). Put w at l u r) e p
 
 -- one stored
 pub put_one : (w : List ℕ) (at x : ℕ) → at < length w → Put w at (x ∷ []) (set w at x) (at + 1)
-put_one w at x h = record { is = rw add-one (set_split w at x h); place = refl; size = length-set w at x }
+put_one w at x h = record { text = rw add-one (set_split w at x h); place = refl; size = length-set w at x }
 
 -- several stored, one after another: `sets` computes to the stores
 pub put_stores : (w : List ℕ) (at : ℕ) (vs : List ℕ) → at + length vs ≤ length w → Put w at vs (sets w at vs) (at + length vs)
-put_stores w at vs h = record { is = sets-eq vs w at h ∙ append_assoc (take at w) _ _; place = refl; size = length-sets w at vs }
+put_stores w at vs h = record { text = sets-eq vs w at h ∙ append_assoc (take at w) _ _; place = refl; size = length-sets w at vs }
 
 -- a slice that begins with what was put there
 pub put_taken : {w u : List ℕ} {r : ℕ} {ys : List ℕ} → Put w 0 ys u r → take r u ≡ ys
-put_taken {w} {u} {r} {ys} p = ap (take r) p.is ∙ take_at ys (drop (0 + length ys) w) r (omega arith)
+put_taken {w} {u} {r} {ys} p = ap (take r) p.text ∙ take_at ys (drop (0 + length ys) w) r (omega arith)
 
 pub put_within : {w u : List ℕ} {r : ℕ} {ys : List ℕ} → Put w 0 ys u r → r ≤ length u
-put_within {w} {u} {r} {ys} p = omega (arith, ap length p.is, length-append ys (drop (0 + length ys) w))
+put_within {w} {u} {r} {ys} p = omega (arith, ap length p.text, length-append ys (drop (0 + length ys) w))
 
 -- ---- a walk that puts the words vs from a place on: where it has come to, the words us are left
 
@@ -62,9 +62,9 @@ module _ {w₀ : List ℕ} {at₀ : ℕ} {vs w : List ℕ} {at : ℕ} {us : List
   pub rest_more : (xs ys : List ℕ) {w' : List ℕ} {r : ℕ} → us ≡ xs ++ ys → Put w at xs w' r → Rest w₀ at₀ vs w' r ys
   rest_more xs ys {w'} {r} e p = record {
     same =
-        ap (λ (l : List ℕ). put_at l r ys) p.is
+        ap (λ (l : List ℕ). put_at l r ys) p.text
         ∙ ap (λ (k : ℕ). put_at (put_at w at xs) k ys) p.place
-        ∙ joined w at xs ys (ap length (sym p.is) ∙ p.size)
+        ∙ joined w at xs ys (ap length (sym p.text) ∙ p.size)
         ∙ ap (put_at w at) (sym e)
         ∙ g.same;
     ends = omega (arith, p.place, g.ends, ap length e, length-append xs ys);
@@ -73,7 +73,7 @@ module _ {w₀ : List ℕ} {at₀ : ℕ} {vs w : List ℕ} {at : ℕ} {us : List
 
   pub rest_end : us ≡ [] → Put w₀ at₀ vs w at
   rest_end e = record {
-    is = sym (put_nil w at) ∙ ap (put_at w at) (sym e) ∙ g.same;
+    text = sym (put_nil w at) ∙ ap (put_at w at) (sym e) ∙ g.same;
     place = omega (arith, g.ends, ap length e);
     size = g.size;
   }

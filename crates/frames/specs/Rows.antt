@@ -9,8 +9,8 @@ row_at n ws at = take n (drop at ws)
 abbrev pub put_at : List ℕ → ℕ → List ℕ → List ℕ
 put_at ws at vs = take at ws ++ (vs ++ drop (at + length vs) ws)
 
--- w' is w with others in the place of theirs, from a place on, and as long; r is the place after them, where the next go
-pub record Put (w : List ℕ) (at : ℕ) (vs w' : List ℕ) (r : ℕ) : Type 0 where
-  pub is : w' ≡ put_at w at vs
-  pub place : r ≡ at + length vs
-  pub size : length w' ≡ length w
+-- `after` is `before` with `printed` in the place of what stood there from `at` on, and no longer; the next place is r
+pub record Put (before : List ℕ) (at : ℕ) (printed after : List ℕ) (r : ℕ) : Type 0 where
+  pub text : after ≡ put_at before at printed
+  pub place : r ≡ at + length printed
+  pub size : length after ≡ length before

@@ -17,7 +17,7 @@ use Rattle.meaning.specs.Vocabulary.{class_count, feature_count, role_count, voc
 use Rattle.policy.specs.Numbers.{numbered}
 use Rattle.policy.specs.Trails.{Arrived, Follows, going, levels, stopped, trail_words}
 use Rattle.theory.proofs.Links.{falling_le, tests}
-use Rattle.theory.proofs.Refusals.{or_else_assoc, or_else_first, policyRefusal-≤}
+use Rattle.theory.proofs.Refusals.{or_else_assoc, or_else_first, policy_refusal-≤}
 use Rattle.words.proofs.Laws.{in_zeros}
 
 -- ---- a record
@@ -121,7 +121,7 @@ module _ (v p : List ℕ) {t : Bool} (e : t ≡ is_sized 6 most_policy_words (le
 -- ---- the refusals in order
 
 pub small : (v p : List ℕ) {b : ℕ} → b ≡ policy_refusal v p → b ≤ 8
-small v p e = rw e (policyRefusal-≤ v p)
+small v p e = rw e (policy_refusal-≤ v p)
 
 -- a is the vocabulary's refusal
 module _ (v p : List ℕ) (latter : Bool) {a : ℕ} (ea : a ≡ vocabulary_refusal v) where

@@ -24,9 +24,9 @@ use Rattle.rehearsal.specs.Load.{advance_by, draw, load_policy, load_term, most_
 use Rattle.theory.proofs.ModelWords.{model_length}
 use Rattle.theory.proofs.Most.{pieces_most}
 use Rattle.theory.proofs.Picks.{PickedForm, clean_non_empty_form, combinations_picked}
-use Rattle.theory.proofs.Refusals.{cond-all}
+use Rattle.theory.proofs.Refusals.{cond_all}
 use Rattle.theory.proofs.Rules.{T_and, all_mono, is_true}
-use Rattle.theory.proofs.Sizes.{form_picked, length-canonicalModel-≤, normal_weight, size_weight}
+use Rattle.theory.proofs.Sizes.{form_picked, length-canonical_model-≤, normal_weight, size_weight}
 
 ends_most : (s N m : ℕ) → length (flat_map (ends 1) (load_policy s N m)) ≡ 2 * m
 ends_most s N zero = refl
@@ -69,14 +69,14 @@ module _ (K : Vocabulary) (classes : K.classes ≤ most_classes) (Q : Policy) wh
   unfolding Short countermodel
   picked_short c h u k =
       let small : individuals u ≤ 3 = omega (arith, size_weight u.successors, form_picked k, normal_weight K c) in
-      omega (arith, model_length (individuals u) (canonical_model K u), length-canonicalModel-≤ K u, mul-le-mul classes small, form_picked k, normal_weight K c)
+      omega (arith, model_length (individuals u) (canonical_model K u), length-canonical_model-≤ K u, mul-le-mul classes small, form_picked k, normal_weight K c)
 
   -- what the search finds is one of them
   found_short : (s k : ℕ) (l : List Form) (rest : Decision) → All Short l → HasRoom K rest → HasRoom K (or_escape s (first_failing (passes K Q) k l) rest)
   unfolding Short
   found_short s k [] rest h r = r
   found_short s k (u ∷ l) rest (cons h t) r =
-      cond-all (λ (x : Found Form). HasRoom K (or_escape s x rest)) (passes K Q u) (found_short s (suc k) l rest t r) h
+      cond_all (λ (x : Found Form). HasRoom K (or_escape s x rest)) (passes K Q u) (found_short s (suc k) l rest t r) h
 
   term_short : (s : ℕ) (c : Chain) (rest : Decision) → count c ≤ 2 → HasRoom K rest → HasRoom K (or_escape s (first_failure K Q c) rest)
   unfolding first_failure possible
@@ -92,7 +92,7 @@ module _ (K : Vocabulary) (classes : K.classes ≤ most_classes) (Q : Policy) wh
 
   pub load_has_room : (s N m : ℕ) → HasRoom K (resolve K (load_policy s N m) Q)
   unfolding resolve decide
-  load_has_room s N m = cond-all (HasRoom K) (short_way K (load_policy s N m) Q) tt (from 1 s m)
+  load_has_room s N m = cond_all (HasRoom K) (short_way K (load_policy s N m) Q) tt (from 1 s m)
     where
       from : (i s m : ℕ) → HasRoom K (decide_from K Q i (load_policy s N m))
       from i s zero = tt

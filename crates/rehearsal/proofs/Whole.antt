@@ -83,4 +83,4 @@ module _ (s N m : ℕ) (o : List ℕ) {t : Bool} (e : t ≡ is_load s N m) where
                 let first = put_as (ap (λ (x : ℕ). counted (policy_words (load_policy x N m))) a.seed) b.words in
                 let second = put_as (ap (λ (x : ℕ). counted (policy_words (load_policy x N m))) runs) f.words in
                 let all = put_as (append_assoc v p q) (put_then (put_then a.words first) second) in
-                filled (all.is ∙ rw zero-add)
+                filled (all.text ∙ rw zero-add)

@@ -31,7 +31,7 @@ use Rattle.spelling.specs.Spelling.{spelled, term_key, too_long}
 use Rattle.theory.proofs.Equality.{indistinct_right}
 use Rattle.theory.proofs.Links.{split}
 use Rattle.theory.proofs.PolicyWords.{policy_words_accepted, policy_words_read}
-use Rattle.theory.proofs.Refusals.{or_else_zero, unless-all}
+use Rattle.theory.proofs.Refusals.{or_else_zero, unless_all}
 
 -- ---- what is not too long
 
@@ -93,7 +93,7 @@ pub spell_told : (v p : List ℕ) (w o : ℕ) → Told v p w o (spell v p w o)
 unfolding spell spell_of spelling_words
 spell_told v p w o =
     let ws = policy_words (spelled (vocabulary_of v) (policy_of p)) in
-    unless-all (Told v p w o) refuses (or_else (vocabulary_refusal v) (or_else (policy_refusal v p) (work_refusal w))) _ refuses_it (λ e.
+    unless_all (Told v p w o) refuses (or_else (vocabulary_refusal v) (or_else (policy_refusal v p) (work_refusal w))) _ refuses_it (λ e.
     let a = or_else_zero (vocabulary_refusal v) (or_else (policy_refusal v p) (work_refusal w)) e in
     let b = or_else_zero (policy_refusal v p) (work_refusal w) a.1 in
     split (Told v p w o) (too_long (spelled (vocabulary_of v) (policy_of p))) (λ t. refuses_it 43) (λ t.

@@ -22,14 +22,14 @@ use Rattle.meaning.specs.Vocabulary.{Vocabulary, class_count, feature_count, rol
 use Rattle.theory.proofs.Links.{choose, passed, tests}
 use Rattle.theory.proofs.ModelCheck.{refutes_iff}
 use Rattle.theory.proofs.ModelWords.{NamedFact}
-use Rattle.theory.proofs.Refusals.{unless-all}
+use Rattle.theory.proofs.Refusals.{unless_all}
 use Rattle.theory.proofs.Rules.{all_at, is_true, not_true}
 
 module _ (v p q m : List ℕ) where
   pub check_judged : (w : ℕ) → CorrectCheck v p q m (model_check v p q m w)
   unfolding model_check
   check_judged w =
-      unless-all (CorrectCheck v p q m) refused (or_else (input_refusal v p q) (or_else (model_refusal v m) (work_refusal w))) _ unsaid_check (λ e. go (refutes F K P Q) refl)
+      unless_all (CorrectCheck v p q m) refused (or_else (input_refusal v p q) (or_else (model_refusal v m) (work_refusal w))) _ unsaid_check (λ e. go (refutes F K P Q) refl)
     where
       F : List Fact
       F = facts_of m

@@ -24,7 +24,7 @@ use Rattle.theory.proofs.Containment.{Decided, all_comply, decided, refuted, som
 use Rattle.theory.proofs.Interpretations.{contained_finite, tested_finite}
 use Rattle.theory.proofs.ModelWords.{model_facts, model_individuals}
 use Rattle.theory.proofs.Normal.{BoundedChain}
-use Rattle.theory.proofs.Refusals.{accepted_input, cond-all, or_else_zero, unless-all}
+use Rattle.theory.proofs.Refusals.{accepted_input, cond_all, or_else_zero, unless_all}
 use Rattle.theory.proofs.Rules.{any_right, is_true}
 use Rattle.theory.proofs.ShortWay.{resolve_decide}
 
@@ -51,11 +51,11 @@ module _ (K : Vocabulary) (w : Bounded K) where
   }
 
   -- what a decision reports: what follows where the first policy complies, else an escape with its words, or 23
-  pub reported-all {ℓ} : {A : Type 0} (P Q : Policy) → All (BoundedChain K.classes) P → (o : ℕ) (tell : ℕ → ℕ → ℕ → A) (rest : Outcome A) (R : Outcome A → Type ℓ) →
+  pub reported_all {ℓ} : {A : Type 0} (P Q : Policy) → All (BoundedChain K.classes) P → (o : ℕ) (tell : ℕ → ℕ → ℕ → A) (rest : Outcome A) (R : Outcome A → Type ℓ) →
       ((n : ℕ) → R (refuses n)) → (All (Complies K Q) P → R rest) →
       ((s q : ℕ) (words : List ℕ) → Escape K P Q s q words → length words ≤ o → R (record { answer = result (tell (suc s) (suc q) (length words)); words = words })) →
       R (reported K o tell (resolve K P Q) rest)
-  reported-all P Q f o tell rest R refuse yes-all no_one = rw (resolve_decide K P Q) (go (decide K P Q) (decided K P Q))
+  reported_all P Q f o tell rest R refuse yes-all no_one = rw (resolve_decide K P Q) (go (decide K P Q) (decided K P Q))
     where
       fits : (s q : ℕ) (words : List ℕ) → Escape K P Q s q words → (b : Bool) → leb (length words) o ≡ b →
           R (cond b (record { answer = result (tell (suc s) (suc q) (length words)); words = words }) (refuses 23))
@@ -75,10 +75,10 @@ module _ (v p q : List ℕ) where
   pub compliance_told : (w o : ℕ) → CorrectVerdict (vocabulary_of v) (policy_of p) (policy_of q) o (compliance v p q w o)
   unfolding compliance compliance_of
   compliance_told w o =
-      unless-all (CorrectVerdict K (policy_of p) (policy_of q) o) refuses (or_else (input_refusal v p q) (work_refusal w)) _ unsaid_verdict (λ e.
+      unless_all (CorrectVerdict K (policy_of p) (policy_of q) o) refuses (or_else (input_refusal v p q) (work_refusal w)) _ unsaid_verdict (λ e.
       let a = accepted_input v p q (or_else_zero (input_refusal v p q) (work_refusal w) e).0 in
-      cond-all (CorrectVerdict K (policy_of p) (policy_of q) o) (crowded K (policy_of p) (policy_of q)) (unsaid_verdict 22)
-      (reported-all K (bounded v a.vocabulary) (policy_of p) (policy_of q) (bounded_terms v p a.first_policy) o outside (says compliant) (CorrectVerdict K (policy_of p) (policy_of q) o)
+      cond_all (CorrectVerdict K (policy_of p) (policy_of q) o) (crowded K (policy_of p) (policy_of q)) (unsaid_verdict 22)
+      (reported_all K (bounded v a.vocabulary) (policy_of p) (policy_of q) (bounded_terms v p a.first_policy) o outside (says compliant) (CorrectVerdict K (policy_of p) (policy_of q) o)
       unsaid_verdict (λ h. agreed (sound K (policy_of p) (policy_of q) h)) escaped))
 
   -- demand 2: where a verdict is given, "compliant" if and only if the first policy is contained in the second

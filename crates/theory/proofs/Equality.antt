@@ -13,10 +13,10 @@ use Rattle.meaning.specs.Promises.{CorrectComparison, IsRefusal, same, side1, si
 use Rattle.meaning.specs.Records.{or_else}
 use Rattle.meaning.specs.Vocabulary.{Vocabulary, vocabulary_of}
 use Rattle.theory.proofs.Bounds.{bounded, bounded_terms}
-use Rattle.theory.proofs.Compliance.{compliant_right, contained_right, no_escape, reported-all}
+use Rattle.theory.proofs.Compliance.{compliant_right, contained_right, no_escape, reported_all}
 use Rattle.theory.proofs.Containment.{sound}
 use Rattle.theory.proofs.Interpretations.{contained_finite, tested_finite}
-use Rattle.theory.proofs.Refusals.{accepted_input, cond-all, or_else_zero, unless-all}
+use Rattle.theory.proofs.Refusals.{accepted_input, cond_all, or_else_zero, unless_all}
 
 pub both_ways_lem : {K : Vocabulary} {P Q : Policy} → Contained K P Q → Contained K Q P → Indistinct K P Q
 both_ways_lem c d I proper s e i = (c I proper s e i, d I proper s e i)
@@ -40,12 +40,12 @@ module _ (v p q : List ℕ) where
   pub equality_compared : (w o : ℕ) → CorrectComparison (vocabulary_of v) (policy_of p) (policy_of q) o (equality v p q w o)
   unfolding equality equality_of
   equality_compared w o =
-      unless-all (CorrectComparison K P Q o) refuses (or_else (input_refusal v p q) (work_refusal w)) _ unsaid_comparison (λ e.
+      unless_all (CorrectComparison K P Q o) refuses (or_else (input_refusal v p q) (work_refusal w)) _ unsaid_comparison (λ e.
       let a = accepted_input v p q (or_else_zero (input_refusal v p q) (work_refusal w) e).0 in
       let b = bounded v a.vocabulary in
-      cond-all (CorrectComparison K P Q o) (crowded K P Q || crowded K Q P) (unsaid_comparison 22)
-      (reported-all K b P Q (bounded_terms v p a.first_policy) o (differs 1) _ (CorrectComparison K P Q o) unsaid_comparison (λ c.
-      reported-all K b Q P (bounded_terms v q a.second_policy) o (differs 2) (says equal) (CorrectComparison K P Q o) unsaid_comparison
+      cond_all (CorrectComparison K P Q o) (crowded K P Q || crowded K Q P) (unsaid_comparison 22)
+      (reported_all K b P Q (bounded_terms v p a.first_policy) o (differs 1) _ (CorrectComparison K P Q o) unsaid_comparison (λ c.
+      reported_all K b Q P (bounded_terms v q a.second_policy) o (differs 2) (says equal) (CorrectComparison K P Q o) unsaid_comparison
       (λ d. same (both_ways_lem (sound K P Q c) (sound K Q P d))) (λ s k words. side2 s k words (sound K P Q c))) side1))
 
   -- "equal" exactly when no interpretation, finite or countable, tells the two policies apart

@@ -10,7 +10,7 @@ use Rattle.meaning.specs.Lists.{filter, flat_map}
 use Rattle.meaning.specs.Policy.{Policy}
 use Rattle.meaning.specs.Splitting.{ends, insert, insert_all, pieces, points, wide, wide_neighbours}
 use Rattle.theory.proofs.Count.{count_pieces}
-use Rattle.theory.proofs.Refusals.{cond-all}
+use Rattle.theory.proofs.Refusals.{cond_all}
 
 -- ---- X has lo, hi and at most every end
 
@@ -18,8 +18,8 @@ pub insert_most : (e : ℕ) (l : List ℕ) → length (insert e l) ≤ suc (leng
 insert_most e [] = omega arith
 insert_most e (x ∷ l) =
     let h = insert_most e l in
-    cond-all (λ (m : List ℕ). length m ≤ suc (suc (length l))) (ltb e x) (omega arith)
-    (cond-all (λ (m : List ℕ). length m ≤ suc (suc (length l))) (eqb e x) (omega arith) (omega arith))
+    cond_all (λ (m : List ℕ). length m ≤ suc (suc (length l))) (ltb e x) (omega arith)
+    (cond_all (λ (m : List ℕ). length m ≤ suc (suc (length l))) (eqb e x) (omega arith) (omega arith))
 
 inserts_most : (es l : List ℕ) → length (insert_all es l) ≤ length es + length l
 inserts_most [] l = omega arith
@@ -29,7 +29,7 @@ filter_most : (p : ℕ → Bool) (l : List ℕ) → length (filter p l) ≤ leng
 filter_most p [] = omega arith
 filter_most p (x ∷ l) =
     let h = filter_most p l in
-    cond-all (λ (m : List ℕ). length m ≤ suc (length l)) (p x) (omega arith) (omega arith)
+    cond_all (λ (m : List ℕ). length m ≤ suc (length l)) (p x) (omega arith) (omega arith)
 
 points_most : (Q : Policy) (s : Constraint) → length (points Q s) ≤ length (flat_map (ends s.feature) Q) + 2
 points_most Q s =
@@ -43,7 +43,7 @@ gaps_most : (x : ℕ) (l : List ℕ) → wide x l ≤ length l
 gaps_most x [] = omega arith
 gaps_most x (y ∷ l) =
     let h = gaps_most y l in
-    cond-all (λ (n : ℕ). n + wide y l ≤ suc (length l)) (leb (suc (suc x)) y) (omega arith) (omega arith)
+    cond_all (λ (n : ℕ). n + wide y l ≤ suc (length l)) (leb (suc (suc x)) y) (omega arith) (omega arith)
 
 pub neighbours_most : (X : List ℕ) → length X + wide_neighbours X ≤ 2 * length X - 1
 neighbours_most [] = omega arith

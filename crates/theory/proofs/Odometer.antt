@@ -23,10 +23,10 @@ module _ {A : Type 0} {x : A} where
   at_get_or (at_here e) y = sym e
   at_get_or (at_there a) y = at_get_or a y
 
-  pub get_d_at : (l : List A) (i : ℕ) (y : A) → i < length l → get_or l i y ≡ x → At x l i
-  get_d_at [] i y b e = absurd (omega arith)
-  get_d_at (z ∷ l) zero y b e = at_here (sym e)
-  get_d_at (z ∷ l) (suc i) y b e = at_there (get_d_at l i y (omega arith) e)
+  pub get_or_at : (l : List A) (i : ℕ) (y : A) → i < length l → get_or l i y ≡ x → At x l i
+  get_or_at [] i y b e = absurd (omega arith)
+  get_or_at (z ∷ l) zero y b e = at_here (sym e)
+  get_or_at (z ∷ l) (suc i) y b e = at_there (get_or_at l i y (omega arith) e)
 
   at_left : {l : List A} {i : ℕ} (m : List A) → At x l i → At x (l ++ m) i
   at_left m (at_here e) = at_here e

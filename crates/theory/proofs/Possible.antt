@@ -19,7 +19,7 @@ use Rattle.meaning.specs.Vocabulary.{Vocabulary, vocabulary_of, vocabulary_refus
 use Rattle.theory.proofs.Bounds.{bounded, bounded_terms}
 use Rattle.theory.proofs.Impossible.{possible_iff}
 use Rattle.theory.proofs.Normal.{BoundedChain}
-use Rattle.theory.proofs.Refusals.{or_else_zero, unless-all}
+use Rattle.theory.proofs.Refusals.{or_else_zero, unless_all}
 use Rattle.theory.proofs.Rewriting.{holds_possible}
 use Rattle.theory.proofs.Rules.{any_cases, any_none, head, is_true, not_true, tail}
 
@@ -55,7 +55,7 @@ module _ (K : Vocabulary) (w : Bounded K) where
 pub possibility_right : (v p : List ℕ) (w : ℕ) → CorrectPossibility (vocabulary_of v) (policy_of p) (possibility v p w)
 unfolding possibility
 possibility_right v p w =
-    unless-all (CorrectPossibility (vocabulary_of v) (policy_of p)) refused (or_else (vocabulary_refusal v) (or_else (policy_refusal v p) (work_refusal w))) _ unsaid_possibility (λ e.
+    unless_all (CorrectPossibility (vocabulary_of v) (policy_of p)) refused (or_else (vocabulary_refusal v) (or_else (policy_refusal v p) (work_refusal w))) _ unsaid_possibility (λ e.
     let a = or_else_zero (vocabulary_refusal v) (or_else (policy_refusal v p) (work_refusal w)) e in
     let b = or_else_zero (policy_refusal v p) (work_refusal w) a.1 in
     answered (possible_from (vocabulary_of v) 1 (policy_of p)) (possibly_from (vocabulary_of v) (bounded v a.0) 1 (policy_of p) (bounded_terms v p b.0)))

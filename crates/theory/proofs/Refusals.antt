@@ -38,9 +38,9 @@ pub second_refusal_some : (n : ℕ) → (n ≡ 0 → ⊥) → n + 10 ≡ second_
 second_refusal_some zero h = absurd (h refl)
 second_refusal_some (suc n) h = omega arith
 
-pub cond-all {ℓ} : {A : Type 0} (P : A → Type ℓ) (b : Bool) {x y : A} → P x → P y → P (cond b x y)
-cond-all P true h k = h
-cond-all P false h k = k
+pub cond_all {ℓ} : {A : Type 0} (P : A → Type ℓ) (b : Bool) {x y : A} → P x → P y → P (cond b x y)
+cond_all P true h k = h
+cond_all P false h k = k
 
 -- a walk's fault, and so a policy's refusal, is at most 8
 abbrev Few : Walk → Type 0
@@ -56,20 +56,20 @@ walk-≤ zero v p d k seen = omega arith
 walk-≤ (suc f) v p d k seen =
     let inner = walk f v p (suc d) (child_of p k) (k ∷ seen) in
     let on = onward-≤ inner (walk f v p d (next_of p k)) (walk-≤ f v p (suc d) (child_of p k) (k ∷ seen)) (walk-≤ f v p d (next_of p k)) in
-    cond-all Few (eqb k 0) (omega arith)
-    (cond-all Few (any (eqb k) seen) (omega arith)
-    (cond-all Few (sound_record v p d k) (cond-all Few (eqb d 17) (omega arith) on) (omega arith)))
+    cond_all Few (eqb k 0) (omega arith)
+    (cond_all Few (any (eqb k) seen) (omega arith)
+    (cond_all Few (sound_record v p d k) (cond_all Few (eqb d 17) (omega arith) on) (omega arith)))
 
-pub policyRefusal-≤ : (v p : List ℕ) → policy_refusal v p ≤ 8
+pub policy_refusal-≤ : (v p : List ℕ) → policy_refusal v p ≤ 8
 unfolding policy_refusal
-policyRefusal-≤ v p =
-    cond-all (λ n. n ≤ 8) (is_sized 6 most_policy_words (length p))
-    (cond-all (λ n. n ≤ 8) (headed_policy p) (walk-≤ (length p) v p 0 (first_term p) []) (omega arith)) (omega arith)
+policy_refusal-≤ v p =
+    cond_all (λ n. n ≤ 8) (is_sized 6 most_policy_words (length p))
+    (cond_all (λ n. n ≤ 8) (headed_policy p) (walk-≤ (length p) v p 0 (first_term p) []) (omega arith)) (omega arith)
 
 -- what holds of no refusal and of a chain's holds of the reader's along the chain
 pub along_all : (P : ℕ → Type 0) (next : ℕ → ℕ) (sound : ℕ → Bool) {r : ℕ} → P 0 → P r → (f k : ℕ) → P (refusal_along r next sound f k)
 along_all P next sound z h zero k = z
-along_all P next sound z h (suc f) k = cond-all P (eqb k 0) z (cond-all P (sound k) (along_all P next sound z h f (next k)) h)
+along_all P next sound z h (suc f) k = cond_all P (eqb k 0) z (cond_all P (sound k) (along_all P next sound z h f (next k)) h)
 
 -- ---- the refusals before 21, and 21, are early
 
@@ -84,14 +84,14 @@ pub vocabulary_early : (v : List ℕ) → Early (vocabulary_refusal v)
 unfolding vocabulary_refusal
 vocabulary_early v =
     let chain = along_all Early (axiom_next v) (sound_axiom v) refl refl (length v) (first_axiom v) in
-    let opposed = cond-all Early (is_opposed (axioms_of v)) refl refl in
-    cond-all Early (is_sized 4 most_vocabulary_words (length v)) (cond-all Early (headed_vocabulary v) (or_else_early (axioms_refusal (length v) v (first_axiom v)) _ chain opposed) refl) refl
+    let opposed = cond_all Early (is_opposed (axioms_of v)) refl refl in
+    cond_all Early (is_sized 4 most_vocabulary_words (length v)) (cond_all Early (headed_vocabulary v) (or_else_early (axioms_refusal (length v) v (first_axiom v)) _ chain opposed) refl) refl
 
 pub policy_early : (v p : List ℕ) → Early (policy_refusal v p)
-policy_early v p = few_early (policy_refusal v p) (let a = policyRefusal-≤ v p in omega arith)
+policy_early v p = few_early (policy_refusal v p) (let a = policy_refusal-≤ v p in omega arith)
 
 pub second_early : (v q : List ℕ) → Early (second_refusal (policy_refusal v q))
-second_early v q = go (policy_refusal v q) (policyRefusal-≤ v q)
+second_early v q = go (policy_refusal v q) (policy_refusal-≤ v q)
   where
     go : (n : ℕ) → n ≤ 8 → Early (second_refusal n)
     go zero h = refl
@@ -104,10 +104,10 @@ input_early v p q =
 
 pub model_early : (v m : List ℕ) → Early (model_refusal v m)
 unfolding model_refusal
-model_early v m = cond-all Early (is_sized 5 most_model_words (length m)) (cond-all Early (headed_model m) (along_all Early (fact_next m) (sound_fact v m) refl refl (length m) (first_fact m)) refl) refl
+model_early v m = cond_all Early (is_sized 5 most_model_words (length m)) (cond_all Early (headed_model m) (along_all Early (fact_next m) (sound_fact v m) refl refl (length m) (first_fact m)) refl) refl
 
 pub work_early : (w : ℕ) → Early (work_refusal w)
-work_early w = cond-all Early (ltb w work_size) refl refl
+work_early w = cond_all Early (ltb w work_size) refl refl
 
 -- the vocabulary and both policies are accepted
 pub accepted_input : (v p q : List ℕ) → input_refusal v p q ≡ 0 → AcceptedInput v p q
@@ -118,9 +118,9 @@ accepted_input v p q e =
     record { vocabulary = a.0; first_policy = b.0; second_policy = second_refusal_zero (policy_refusal v q) b.1 }
 
 -- what holds of every refusal, and of what comes when there is none, holds of the outcome
-pub unless-all {ℓ} : {A : Type 0} (P : A → Type ℓ) (refuse : ℕ → A) (n : ℕ) (later : A) → ((k : ℕ) → P (refuse k)) → (n ≡ 0 → P later) → P (unless refuse n later)
-unless-all P refuse zero later f g = g refl
-unless-all P refuse (suc n) later f g = f (suc n)
+pub unless_all {ℓ} : {A : Type 0} (P : A → Type ℓ) (refuse : ℕ → A) (n : ℕ) (later : A) → ((k : ℕ) → P (refuse k)) → (n ≡ 0 → P later) → P (unless refuse n later)
+unless_all P refuse zero later f g = g refl
+unless_all P refuse (suc n) later f g = f (suc n)
 
 -- a number that is not 0 is the refusal
 pub unless_some : {A : Type 0} (refuse : ℕ → A) (n : ℕ) (later : A) → (n ≡ 0 → ⊥) → refuse n ≡ unless refuse n later

@@ -25,7 +25,7 @@ use Rattle.theory.proofs.Canonical.{model_proper}
 use Rattle.theory.proofs.ModelWords.{NamedFact}
 use Rattle.theory.proofs.Pairs.{pairs_in_lem}
 use Rattle.theory.proofs.Picks.{Parts, Picked, PickedForm, no_parts, none_picked, parts, picked}
-use Rattle.theory.proofs.Refusals.{cond-all}
+use Rattle.theory.proofs.Refusals.{cond_all}
 use Rattle.theory.proofs.Rules.{all_append, all_at, all_map, all_of, head, tail}
 
 -- ---- a normal form is no greater than its term
@@ -43,11 +43,11 @@ size_weight none = omega arith
 size_weight (successor r n under next) = omega (arith, size_weight under, size_weight next)
 
 -- a constraint adds at most one
-length-placeConstraint-≤ : (one : Bool) (s : Constraint) (l : List Constraint) → length (place_constraint one s l) ≤ suc (length l)
-length-placeConstraint-≤ one s [] = omega arith
-length-placeConstraint-≤ one s (t ∷ l) =
-    let h = length-placeConstraint-≤ one s l in
-    cond-all (λ (m : List Constraint). length m ≤ suc (suc (length l))) (one && eqb t.feature s.feature) (omega arith) (omega arith)
+length-place_constraint-≤ : (one : Bool) (s : Constraint) (l : List Constraint) → length (place_constraint one s l) ≤ suc (length l)
+length-place_constraint-≤ one s [] = omega arith
+length-place_constraint-≤ one s (t ∷ l) =
+    let h = length-place_constraint-≤ one s l in
+    cond_all (λ (m : List Constraint). length m ≤ suc (suc (length l))) (one && eqb t.feature s.feature) (omega arith) (omega arith)
 
 -- a successor adds at most one, and what its inner conjuncts add
 place_weight : (one : Bool) (r : ℕ) (fresh : Form) (grow : Form → Form) (n : ℕ) → form_weight fresh ≡ 0 → ((t : Form) → form_weight (grow t) ≤ form_weight t + n) →
@@ -57,7 +57,7 @@ place_weight one r fresh grow n z g (successor q m under next) =
     let t : Form = record { node = m; successors = under } in
     let a = g t in
     let h = place_weight one r fresh grow n z g next in
-    cond-all (λ (s : Successors). weight s ≤ suc (weight (successor q m under next) + n)) (one && eqb r q) (omega arith) (omega arith)
+    cond_all (λ (s : Successors). weight s ≤ suc (weight (successor q m under next) + n)) (one && eqb r q) (omega arith) (omega arith)
 
 add_weight : (K : Vocabulary) (c : Chain) (t : Form) → form_weight (add K c t) ≤ form_weight t + count c
 add_weight K end t = omega arith
@@ -71,7 +71,7 @@ add_weight K (some r child next) t =
     )
 add_weight K (interval f lo hi next) t =
     let s : Constraint = record { feature = f; lo = lo; hi = hi } in
-    omega (arith, add_weight K next (with_constraint K s t), length-placeConstraint-≤ (is_functional_feature K f) s t.node.constraints)
+    omega (arith, add_weight K next (with_constraint K s t), length-place_constraint-≤ (is_functional_feature K f) s t.node.constraints)
 
 pub normal_weight : (K : Vocabulary) (c : Chain) → form_weight (normal_form K c) ≤ count c
 unfolding normal_form
@@ -89,7 +89,7 @@ place_held one r fresh grow n z g none = simp append-nil (omega (arith, g fresh)
 place_held one r fresh grow n z g (successor q m under next) =
     let t : Form = record { node = m; successors = under } in
     let h = place_held one r fresh grow n z g next in
-    cond-all (λ (s : Successors). length (constraints_below s) ≤ length (constraints_below (successor q m under next)) + n) (one && eqb r q)
+    cond_all (λ (s : Successors). length (constraints_below s) ≤ length (constraints_below (successor q m under next)) + n) (one && eqb r q)
     (simp length-append (omega (arith, simp length-append at (g t)))) (simp length-append (omega arith))
 
 add_held : (K : Vocabulary) (c : Chain) (t : Form) → held (add K c t) ≤ held t + interval_count c
@@ -102,7 +102,7 @@ add_held K (some r child next) t =
     simp length-append (omega arith)
 add_held K (interval f lo hi next) t =
     let s : Constraint = record { feature = f; lo = lo; hi = hi } in
-    let a = length-placeConstraint-≤ (is_functional_feature K f) s t.node.constraints in
+    let a = length-place_constraint-≤ (is_functional_feature K f) s t.node.constraints in
     let b = simp length-append at (add_held K next (with_constraint K s t)) in
     simp length-append (omega arith)
 
@@ -127,14 +127,14 @@ module _ (R F : ℕ) where
   constraint_named : (one : Bool) (s : Constraint) → Name F s.feature → (l : List Constraint) → NamedConstraints l → NamedConstraints (place_constraint one s l)
   constraint_named one s h [] k = cons h nil
   constraint_named one s h (t ∷ l) k =
-      cond-all NamedConstraints (one && eqb t.feature s.feature) (cons (head k) (tail k)) (cons (head k) (constraint_named one s h l (tail k)))
+      cond_all NamedConstraints (one && eqb t.feature s.feature) (cons (head k) (tail k)) (cons (head k) (constraint_named one s h l (tail k)))
 
   successor_named : (one : Bool) (r : ℕ) (fresh : Form) (grow : Form → Form) → Name R r → NamedForm fresh → ((t : Form) → NamedForm t → NamedForm (grow t)) →
       (under : Successors) → NamedSuccessors under → NamedSuccessors (place_successor one r fresh grow under)
   successor_named one r fresh grow h f g none k = let a = g fresh f in (h, a.node, a.successors, tt)
   successor_named one r fresh grow h f g (successor q n under next) k =
       let a = g (record { node = n; successors = under }) (record { node = k.1; successors = k.2 }) in
-      cond-all NamedSuccessors (one && eqb r q) (k.0, a.node, a.successors, k.3) (k.0, k.1, k.2, successor_named one r fresh grow h f g next k.3)
+      cond_all NamedSuccessors (one && eqb r q) (k.0, a.node, a.successors, k.3) (k.0, k.1, k.2, successor_named one r fresh grow h f g next k.3)
 
   add_named : (N : ℕ) (K : Vocabulary) (c : Chain) → NamedChain N R F c → (t : Form) → NamedForm t → NamedForm (add K c t)
   add_named N K end h t k = k
@@ -185,22 +185,22 @@ module _ {Q : Policy} where
 
 length-filter-≤ : (p : ℕ → Bool) (l : List ℕ) → length (filter p l) ≤ length l
 length-filter-≤ p [] = omega arith
-length-filter-≤ p (x ∷ l) = let h = length-filter-≤ p l in cond-all (λ (m : List ℕ). length m ≤ suc (length l)) (p x) (omega arith) (omega arith)
+length-filter-≤ p (x ∷ l) = let h = length-filter-≤ p l in cond_all (λ (m : List ℕ). length m ≤ suc (length l)) (p x) (omega arith) (omega arith)
 
 length_counting : (from n : ℕ) → length (counting from n) ≡ n
 length_counting from zero = refl
 length_counting from (suc n) = omega (arith, length_counting (suc from) n)
 
-length-insertPair-≤ : (s : Constraint) (l : List Constraint) → length (insert_pair s l) ≤ suc (length l)
-length-insertPair-≤ s [] = omega arith
-length-insertPair-≤ s (t ∷ l) =
-    let h = length-insertPair-≤ s l in
+length-insert_pair-≤ : (s : Constraint) (l : List Constraint) → length (insert_pair s l) ≤ suc (length l)
+length-insert_pair-≤ s [] = omega arith
+length-insert_pair-≤ s (t ∷ l) =
+    let h = length-insert_pair-≤ s l in
     let P : List Constraint → Type 0 = λ m. length m ≤ suc (suc (length l)) in
-    cond-all P (same_pair s t) (omega arith) (cond-all P (pair_before s t) (omega arith) (omega arith))
+    cond_all P (same_pair s t) (omega arith) (cond_all P (pair_before s t) (omega arith) (omega arith))
 
 length-pairs-≤ : (l : List Constraint) → length (pairs l) ≤ length l
 length-pairs-≤ [] = omega arith
-length-pairs-≤ (s ∷ l) = omega (arith, length-pairs-≤ l, length-insertPair-≤ s (pairs l))
+length-pairs-≤ (s ∷ l) = omega (arith, length-pairs-≤ l, length-insert_pair-≤ s (pairs l))
 
 module _ (K : Vocabulary) where
   classes_few : (n : Node) → length (classes_above K n) ≤ K.classes
@@ -226,9 +226,9 @@ module _ (K : Vocabulary) where
         mul-add K.classes 1 (size under),
       )
 
-  pub length-canonicalModel-≤ : (t : Form) → length (canonical_model K t) ≤ K.classes * individuals t + form_weight t
+  pub length-canonical_model-≤ : (t : Form) → length (canonical_model K t) ≤ K.classes * individuals t + form_weight t
   unfolding canonical_model
-  length-canonicalModel-≤ t =
+  length-canonical_model-≤ t =
       omega (
         arith,
         node_few t.node t.successors 1,
@@ -241,7 +241,7 @@ module _ (K : Vocabulary) where
 
 all_kept : {P : ℕ → Type 0} (p : ℕ → Bool) {l : List ℕ} → All P l → All P (filter p l)
 all_kept p nil = nil
-all_kept {P} p (cons {x = x} h t) = cond-all (All P) (p x) (cons h (all_kept p t)) (all_kept p t)
+all_kept {P} p (cons {x = x} h t) = cond_all (All P) (p x) (cons h (all_kept p t)) (all_kept p t)
 
 counting_named : (N from n : ℕ) → 1 ≤ from → from + n ≤ suc N → All (Name N) (counting from n)
 counting_named N from zero a b = nil

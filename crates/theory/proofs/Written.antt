@@ -31,9 +31,9 @@ use Rattle.theory.proofs.Containment.{witness}
 use Rattle.theory.proofs.Equality.{equality_compared}
 use Rattle.theory.proofs.ModelWords.{model_accepted}
 use Rattle.theory.proofs.Picks.{PickedForm}
-use Rattle.theory.proofs.Refusals.{accepted_input, cond-all, or_else_zero, unless-all}
+use Rattle.theory.proofs.Refusals.{accepted_input, cond_all, or_else_zero, unless_all}
 use Rattle.theory.proofs.Rules.{all_at, any_right}
-use Rattle.theory.proofs.Sizes.{form_picked, length-canonicalModel-≤, model_named, named_picked, normal_named, normal_weight, size_weight}
+use Rattle.theory.proofs.Sizes.{form_picked, length-canonical_model-≤, model_named, named_picked, normal_named, normal_weight, size_weight}
 use Rattle.theory.proofs.Terms.{count-<}
 use Rattle.theory.proofs.Wellformed.{accepted, accepted_counts}
 
@@ -50,7 +50,7 @@ module _ (v p : List ℕ) (e : vocabulary_refusal v ≡ 0) (h : policy_refusal v
       let l : count c < most_records = all_at (count-< (policy_of p) most_records (omega arith)) m in
       let b = accepted_counts v e in
       let small : individuals u ≤ most_individuals = omega (arith, size_weight u.successors, form_picked k, normal_weight K c) in
-      let few : length (canonical_model K u) ≤ most_facts = omega (arith, length-canonicalModel-≤ K u, mul-le-mul b.0.1 small, form_picked k, normal_weight K c) in
+      let few : length (canonical_model K u) ≤ most_facts = omega (arith, length-canonical_model-≤ K u, mul-le-mul b.0.1 small, form_picked k, normal_weight K c) in
       model_accepted v (individuals u) (canonical_model K u) (omega arith) small few
       (model_named (role_count v) (feature_count v) K u (named_picked (role_count v) (feature_count v) k (normal_named (role_count v) (feature_count v) (class_count v) K c (all_at a.named m))))
 
@@ -71,7 +71,7 @@ unfolding model_check input_refusal
 check_answers v p q m w a k l =
     let full : ltb w work_size ≡ false = le-ltb w work_size l in
     rw (a.vocabulary, a.first_policy, a.second_policy, k, full)
-    (cond-all (λ (r : Answer CheckResult). IsRefusal r → ⊥) (refutes (facts_of m) (vocabulary_of v) (policy_of p) (policy_of q))
+    (cond_all (λ (r : Answer CheckResult). IsRefusal r → ⊥) (refutes (facts_of m) (vocabulary_of v) (policy_of p) (policy_of q))
     (λ z. let y : ◌≡◌ {A = ℕ} 0 1 = cc z.1 in omega arith) (λ z. let y : ◌≡◌ {A = ℕ} 0 1 = cc z.1 in omega arith))
 
 -- the model check accepts the words, and answers yes of these policies
@@ -91,7 +91,7 @@ upheld {v} {p} {q} a {words = words} x =
 -- what is answered, and not refused, has accepted inputs
 answered_input : {A : Type 0} (v p q : List ℕ) (w : ℕ) (later : Outcome A) → (IsRefusal (unless refuses (or_else (input_refusal v p q) (work_refusal w)) later).answer → ⊥) → AcceptedInput v p q
 answered_input {A} v p q w later =
-    unless-all (λ (r : Outcome A). (IsRefusal r.answer → ⊥) → AcceptedInput v p q) refuses (or_else (input_refusal v p q) (work_refusal w)) later
+    unless_all (λ (r : Outcome A). (IsRefusal r.answer → ⊥) → AcceptedInput v p q) refuses (or_else (input_refusal v p q) (work_refusal w)) later
     (λ k t. absurd (t (k, refl))) (λ e t. accepted_input v p q (or_else_zero (input_refusal v p q) (work_refusal w) e).0)
 
 module _ (v p q : List ℕ) (w o : ℕ) where

@@ -22,7 +22,7 @@ use Rattle.odometer.specs.Odometer.{Dialled}
 use Rattle.splitting.specs.Constraints.{first_constraints, piece_count}
 use Rattle.theory.proofs.Count.{count_combinations}
 use Rattle.theory.proofs.Digits.{Takes, fill, number}
-use Rattle.theory.proofs.Odometer.{at_get_or, at_lt, combination_at, get_d_at}
+use Rattle.theory.proofs.Odometer.{at_get_or, at_lt, combination_at, get_or_at}
 use Rattle.theory.proofs.Rules.{order}
 
 -- one element of a list stands at a place
@@ -39,7 +39,7 @@ chosen Q w e i = get_or (pieces Q (constraint_at w i)) (e i) nothing
 
 module _ (Q : Policy) (w : List ℕ) where
   pub chosen_at : (n : ℕ) (e : ℕ → ℕ) → Valid (piece_count Q w) n e → (i : ℕ) → i < n → At (chosen Q w e i) (pieces Q (constraint_at w i)) (e i)
-  chosen_at n e v i h = get_d_at (pieces Q (constraint_at w i)) (e i) nothing (v i h) refl
+  chosen_at n e v i h = get_or_at (pieces Q (constraint_at w i)) (e i) nothing (v i h) refl
 
   takes : (e : ℕ → ℕ) (v : ℕ → Constraint) (o n : ℕ) → ((i : ℕ) → i < o + n → At (v i) (pieces Q (constraint_at w i)) (e i)) →
       Takes Q e v o (map (constraint_at w) (counting o n))
