@@ -20,7 +20,7 @@
  * there. 700005 words are enough for every countermodel, 4100 for every vocabulary, 3078 for every spelling, 4643 for every load.
  *
  * A call takes at most so much stack, as measured on x86-64 (`scripts/judge stack`), of which a thread of its own needs some: to
- * rehearse 6 KB, read 8 KB, read OWL 11 KB, spell 34 KB, possible 39 KB, model check 46 KB, compliance 67 KB, equality 83 KB. A thread of
+ * rehearse 6 KB, read 8 KB, read OWL 11 KB, spell 33 KB, possible 27 KB, model check 47 KB, compliance 65 KB, equality 81 KB. A thread of
  * 128 KB has room for each.
  *
  * An example. A buyer keeps data for 1 to 60 days, a subscriber consents to 0 to 30:
