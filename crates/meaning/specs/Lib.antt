@@ -18,6 +18,7 @@ pub mod Model
 pub mod Countermodel
 pub mod Containment
 pub mod ModelCheck
+pub mod Refusals
 pub mod Answers
 pub mod Operations
 pub mod Promises

@@ -1,7 +1,9 @@
-// The three series of names, and the answers of the operations. The definitions stand in specs/, the theorems about them in crate theory.
+// The three series of names, the answers of the operations, and their refusals. The definitions stand in specs/, the theorems about them
+// in crate theory.
 #![tactic(auto)]
 
 pub mod limits;
+pub mod refusals;
 
 // A class's number, from 1.
 #[derive(Clone, Copy)]
@@ -15,48 +17,16 @@ pub struct RoleNo(pub u32);
 #[derive(Clone, Copy)]
 pub struct FeatureNo(pub u32);
 
-// Read vocabulary, Read policy.
-#[derive(Clone, Copy)]
-pub enum Reading {
-    Accepted,
-    Refused(u32),
-}
-
-// Possible: the first term that is possible, or none is.
-#[derive(Clone, Copy)]
-pub enum Possibility {
-    Possible(u32),
-    Impossible,
-    Refused(u32),
-}
-
-// Compliance: compliant, or term s and combination q with the words written.
+// Compliance: compliant, or term s and combination q with the words written. An Option would not say which of the two is the yes.
 #[derive(Clone, Copy)]
 pub enum Verdict {
     Compliant,
     Outside(u32, u32, usize),
-    Refused(u32),
 }
 
-// Equality: equal, or a side with its s and q and the words written.
+// Equality: equal, or a side with its s and q and the words written. Of both, as of a verdict, the yes has a name.
 #[derive(Clone, Copy)]
 pub enum Comparison {
     Equal,
     Differs(u32, u32, u32, usize),
-    Refused(u32),
-}
-
-// Model check.
-#[derive(Clone, Copy)]
-pub enum Checked {
-    Yes,
-    No,
-    Refused(u32),
-}
-
-// An operation that fills an output: the words written.
-#[derive(Clone, Copy)]
-pub enum Filling {
-    Written(usize),
-    Refused(u32),
 }
