@@ -1,15 +1,11 @@
-// What the tables of records share: a word, a record, a name, a link read and written, a length, an answer.
+// What the tables of records share: a word, a record, a name, a link read and written, a length.
 #![tactic(auto)]
 
 ghost use Rattle.std.specs.Prelude.{[], ◌∷◌, ◌≡◌, ◌+◌, ◌<◌, ◌^◌, ◌≤◌, get_or, length, set};
 ghost use Rattle.frames.specs.Rows.{Put};
-ghost use Rattle.meaning.specs.Answers.{accepted, reading_answer, refused, result as told};
-ghost use Rattle.meaning.specs.Operations.{unless};
 ghost use Rattle.meaning.specs.PolicyWords.{record_words};
 ghost use Rattle.meaning.specs.Records.{is_name, is_onward, is_sized};
 ghost use Rattle.records.specs.Written.{link_at};
-
-use meaning::Reading;
 
 // A word of a table. Past the end stands 0, so that reading asks nothing of the caller.
 pub fn word(l: &[u32], i: usize) -> u32
@@ -90,15 +86,4 @@ pub fn is_sized(width: usize, most: usize, n: usize) -> bool
     ensures { result ≡ is_sized width most n }
 {
     n % width == 0 && (width <= n && n <= most)
-}
-
-// The answer of a reader whose first refusal has this number, 0 for none.
-pub fn reading(refusal: u32) -> Reading
-    ensures { reading_answer result ≡ unless refused refusal (told accepted) }
-{
-    if refusal == 0 {
-        Reading::Accepted
-    } else {
-        Reading::Refused(refusal)
-    }
 }

@@ -38,6 +38,7 @@ pub mod Defaults
 pub mod Bounds
 pub mod Sizes
 pub mod Refusals
+pub mod Numbers
 pub mod Most
 pub mod Possible
 pub mod Compliance

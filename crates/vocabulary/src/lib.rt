@@ -1,17 +1,19 @@
 // Read vocabulary: records of four words after a header, chained by links that rise.
 #![tactic(auto)]
 
-ghost use Rattle.std.specs.Prelude.{◌≡◌, ◌&&◌, cond, true, ◌≤◌, length};
+ghost use Rattle.std.specs.Prelude.{◌≡◌, ◌&&◌, cond, true, ◌≤◌, IsOk, length};
 ghost use Rattle.meaning.specs.Answers.{reading_answer};
 ghost use Rattle.meaning.specs.Operations.{read_vocabulary};
 ghost use Rattle.meaning.specs.Records.{is_name, last_of};
+ghost use Rattle.meaning.specs.Refusals.{number_in, vocabulary_number};
 ghost use Rattle.meaning.specs.Vocabulary.{axiom_kind, axiom_left, axiom_next, axiom_right, axioms_refusal, class_count, feature_count};
 ghost use Rattle.meaning.specs.Vocabulary.{first_axiom, headed_vocabulary, role_count, sound_axiom, vocabulary_refusal};
 ghost use Rattle.vocabulary.specs.Names.{Noted, chain_refusal, name_at};
 ghost use Rattle.words.specs.Sets.{including_all};
 
 use meaning::limits::{MOST_CLASSES, MOST_FEATURES, MOST_ROLES, MOST_VOCABULARY_WORDS};
-use meaning::{ClassNo, FeatureNo, Reading, RoleNo};
+use meaning::refusals::{Refusal, VocabularyFault};
+use meaning::{ClassNo, FeatureNo, RoleNo};
 use records::{is_name, is_onward, word};
 use words::{NAME_WORDS, do_meet, insert};
 
@@ -99,32 +101,36 @@ fn is_headed(v: &[u32]) -> bool
 }
 
 // A record names two things, and both must be right.
-fn refused_unless(left: bool, right: bool) -> u32
-    ensures { result ≡ cond (left && right) 0 3 }
+fn check_names(left: bool, right: bool) -> Result<(), VocabularyFault>
+    ensures { number_in vocabulary_number result ≡ cond (left && right) 0 3 }
 {
-    if left && right { 0 } else { 3 }
+    if left && right {
+        Ok(())
+    } else {
+        Err(VocabularyFault::Record)
+    }
 }
 
 // Record k's kind, names, zeros and link.
-fn axiom_refusal(v: &[u32], k: u32) -> u32
+fn check_axiom(v: &[u32], k: u32) -> Result<(), VocabularyFault>
     requires { 4 ≤ length v.now }
-    ensures { result ≡ cond (sound_axiom v.now k) 0 3 }
+    ensures { number_in vocabulary_number result ≡ cond (sound_axiom v.now k) 0 3 }
 {
     if !is_onward(last_axiom(v), k, axiom_next(v, k)) {
-        return 3;
+        return Err(VocabularyFault::Record);
     }
     let kind = axiom_kind(v, k);
     let a = axiom_left(v, k);
     let b = axiom_right(v, k);
     match kind {
-        1 => refused_unless(is_class(v, ClassNo(a)), is_class(v, ClassNo(b))),
-        2 => refused_unless(is_class(v, ClassNo(a)), is_class(v, ClassNo(b))),
-        3 => refused_unless(is_role(v, RoleNo(a)), b == 0),
-        4 => refused_unless(is_feature(v, FeatureNo(a)), b == 0),
-        5 => refused_unless(is_role(v, RoleNo(a)), is_class(v, ClassNo(b))),
-        6 => refused_unless(is_role(v, RoleNo(a)), b == 0),
-        7 => refused_unless(is_feature(v, FeatureNo(a)), b == 0),
-        _ => 3,
+        1 => check_names(is_class(v, ClassNo(a)), is_class(v, ClassNo(b))),
+        2 => check_names(is_class(v, ClassNo(a)), is_class(v, ClassNo(b))),
+        3 => check_names(is_role(v, RoleNo(a)), b == 0),
+        4 => check_names(is_feature(v, FeatureNo(a)), b == 0),
+        5 => check_names(is_role(v, RoleNo(a)), is_class(v, ClassNo(b))),
+        6 => check_names(is_role(v, RoleNo(a)), b == 0),
+        7 => check_names(is_feature(v, FeatureNo(a)), b == 0),
+        _ => Err(VocabularyFault::Record),
     }
 }
 
@@ -138,97 +144,88 @@ pub fn insert_name(v: &[u32], k: u32, kind: u32, names: &mut [u32])
     insert(names, axiom_left(v, k));
 }
 
-// Puts the name of record k into the set of its kind: 3 or 6, of roles, 4 or 7, of features.
-fn note(
-    v: &[u32],
-    k: u32,
-    threes: &mut [u32],
-    fours: &mut [u32],
-    sixes: &mut [u32],
-    sevens: &mut [u32],
-)
-    ensures threes_after { threes.new ≡ including_all threes.old (name_at v.now 3 k) }
-    ensures fours_after { fours.new ≡ including_all fours.old (name_at v.now 4 k) }
-    ensures sixes_after { sixes.new ≡ including_all sixes.old (name_at v.now 6 k) }
-    ensures sevens_after { sevens.new ≡ including_all sevens.old (name_at v.now 7 k) }
-{
-    insert_name(v, k, 3, threes);
-    insert_name(v, k, 4, fours);
-    insert_name(v, k, 6, sixes);
-    insert_name(v, k, 7, sevens);
+// The names that records state functional, kinds 3 and 4, and those that they let have many values, kinds 6 and 7.
+#[derive(Clone, Copy)]
+struct Sides {
+    functional_roles: [u32; NAME_WORDS],
+    functional_features: [u32; NAME_WORDS],
+    many_roles: [u32; NAME_WORDS],
+    many_features: [u32; NAME_WORDS],
 }
 
-// The first refusal along the chain, which ends: a link that does not rise is refused before it is followed. On the way the names that
+impl Sides {
+    const NONE: Sides = Sides {
+        functional_roles: [0; NAME_WORDS],
+        functional_features: [0; NAME_WORDS],
+        many_roles: [0; NAME_WORDS],
+        many_features: [0; NAME_WORDS],
+    };
+
+    // Puts the name of record k into the set of its kind.
+    fn note(&mut self, v: &[u32], k: u32)
+        ensures functional_roles { self.new.functional_roles ≡ including_all self.old.functional_roles (name_at v.now 3 k) }
+        ensures functional_features { self.new.functional_features ≡ including_all self.old.functional_features (name_at v.now 4 k) }
+        ensures many_roles { self.new.many_roles ≡ including_all self.old.many_roles (name_at v.now 6 k) }
+        ensures many_features { self.new.many_features ≡ including_all self.old.many_features (name_at v.now 7 k) }
+    {
+        insert_name(v, k, 3, &mut self.functional_roles);
+        insert_name(v, k, 4, &mut self.functional_features);
+        insert_name(v, k, 6, &mut self.many_roles);
+        insert_name(v, k, 7, &mut self.many_features);
+    }
+}
+
+// The first fault along the chain, which ends: a link that does not rise is refused before it is followed. On the way the names that
 // may stand both ways are noted, so that the chain is walked once.
-fn axioms_refusal(
-    v: &[u32],
-    threes: &mut [u32],
-    fours: &mut [u32],
-    sixes: &mut [u32],
-    sevens: &mut [u32],
-) -> u32
+fn check_axioms(v: &[u32], sides: &mut Sides) -> Result<(), VocabularyFault>
     requires { (4 ≤ length v.now) × (first_axiom v.now ≤ last_of 4 v.now) }
-    ensures value { result ≡ axioms_refusal (length v.now) v.now (first_axiom v.now) }
-    ensures noted { result ≡ 0 → Noted v.now 3 threes.old threes.new }
-    ensures noted_2 { result ≡ 0 → Noted v.now 4 fours.old fours.new }
-    ensures noted_3 { result ≡ 0 → Noted v.now 6 sixes.old sixes.new }
-    ensures noted_4 { result ≡ 0 → Noted v.now 7 sevens.old sevens.new }
+    ensures value { number_in vocabulary_number result ≡ axioms_refusal (length v.now) v.now (first_axiom v.now) }
+    ensures functional_roles { IsOk result → Noted v.now 3 sides.old.functional_roles sides.new.functional_roles }
+    ensures functional_features { IsOk result → Noted v.now 4 sides.old.functional_features sides.new.functional_features }
+    ensures many_roles { IsOk result → Noted v.now 6 sides.old.many_roles sides.new.many_roles }
+    ensures many_features { IsOk result → Noted v.now 7 sides.old.many_features sides.new.many_features }
 {
     let mut k = first_axiom(v);
     while k != 0 {
-        let refusal = axiom_refusal(v, k);
-        if refusal != 0 {
-            return refusal;
-        }
-        note(v, k, threes, fours, sixes, sevens);
+        check_axiom(v, k)?;
+        sides.note(v, k);
         k = axiom_next(v, k);
     }
-    0
+    Ok(())
 }
 
-// 3, then 44: a role or a feature is said to be functional and many-valued.
-fn chain_refusal(v: &[u32]) -> u32
+// The chain's first fault; then whether a role or a feature is said to be functional and many-valued.
+fn check_chain(v: &[u32]) -> Result<(), VocabularyFault>
     requires { (4 ≤ length v.now) × (headed_vocabulary v.now ≡ true) }
-    ensures { result ≡ chain_refusal v.now }
+    ensures { number_in vocabulary_number result ≡ chain_refusal v.now }
 {
-    let mut threes = [0u32; NAME_WORDS];
-    let mut fours = [0u32; NAME_WORDS];
-    let mut sixes = [0u32; NAME_WORDS];
-    let mut sevens = [0u32; NAME_WORDS];
-    let refusal = axioms_refusal(
-        v,
-        &mut threes[..],
-        &mut fours[..],
-        &mut sixes[..],
-        &mut sevens[..],
-    );
-    if refusal != 0 {
-        return refusal;
+    let mut sides = Sides::NONE;
+    check_axioms(v, &mut sides)?;
+    if do_meet(&sides.functional_roles, &sides.many_roles) {
+        return Err(VocabularyFault::Opposed);
     }
-    if do_meet(&threes[..], &sixes[..]) {
-        return 44;
+    if do_meet(&sides.functional_features, &sides.many_features) {
+        return Err(VocabularyFault::Opposed);
     }
-    if do_meet(&fours[..], &sevens[..]) {
-        return 44;
-    }
-    0
+    Ok(())
 }
 
-// The number of the first refusal, 0 for none: the operations that read a vocabulary first pass it on.
-pub fn vocabulary_refusal(v: &[u32]) -> u32
-    ensures { result ≡ vocabulary_refusal v.now }
+// The first fault: the operations that read a vocabulary first pass it on.
+pub fn check_vocabulary(v: &[u32]) -> Result<(), VocabularyFault>
+    ensures { number_in vocabulary_number result ≡ vocabulary_refusal v.now }
 {
     if !records::is_sized(4, MOST_VOCABULARY_WORDS, v.len()) {
-        return 1;
+        return Err(VocabularyFault::Length);
     }
     if !is_headed(v) {
-        return 2;
+        return Err(VocabularyFault::Header);
     }
-    chain_refusal(v)
+    check_chain(v)
 }
 
-pub fn read_vocabulary(v: &[u32]) -> Reading
+pub fn read_vocabulary(v: &[u32]) -> Result<(), Refusal>
     ensures { reading_answer result ≡ read_vocabulary v.now }
 {
-    records::reading(vocabulary_refusal(v))
+    check_vocabulary(v)?;
+    Ok(())
 }

@@ -1,6 +1,6 @@
 use Rattle.vocabulary.proofs.Laws.{bad_link, below_fits, disjoint_fits, feature_fits, many_feature_fits, many_role_fits}
 use Rattle.vocabulary.proofs.Laws.{range_fits, role_fits, unknown}
-use Rattle.vocabulary.proofs.axiom_refusal.Goals as goal
+use Rattle.vocabulary.proofs.check_axiom.Goals as goal
 
 pub returns-then-not-is_onward : goal.returns-then-not-is_onward
 returns-then-not-is_onward c = search bad_link
