@@ -14,10 +14,9 @@ use Rattle.meaning.specs.Policy.{Walk, child_of, fault_of, first_term, headed_po
 use Rattle.meaning.specs.Policy.{policy_refusal, record_fits, second_refusal, sound_record}
 use Rattle.meaning.specs.Records.{is_name, is_onward, is_sized, last_of, or_else}
 use Rattle.meaning.specs.Vocabulary.{class_count, feature_count, role_count, vocabulary_refusal}
-use Rattle.policy.specs.Numbers.{numbered}
 use Rattle.policy.specs.Trails.{Arrived, Follows, going, levels, stopped, trail_words}
 use Rattle.theory.proofs.Links.{falling_le, tests}
-use Rattle.theory.proofs.Refusals.{or_else_assoc, or_else_first, policy_refusal-≤}
+use Rattle.theory.proofs.Refusals.{or_else_assoc, or_else_first}
 use Rattle.words.proofs.Laws.{in_zeros}
 
 -- ---- a record
@@ -120,21 +119,13 @@ module _ (v p : List ℕ) {t : Bool} (e : t ≡ is_sized 6 most_policy_words (le
 
 -- ---- the refusals in order
 
-pub small : (v p : List ℕ) {b : ℕ} → b ≡ policy_refusal v p → b ≤ 8
-small v p e = rw e (policy_refusal-≤ v p)
+-- a is the vocabulary's refusal, and b comes after it
+module _ (v : List ℕ) (b : ℕ) {a : ℕ} (ea : a ≡ vocabulary_refusal v) where
+  pub vocabulary_first : (a ≡ 0 → ⊥) → a ≡ or_else (vocabulary_refusal v) b
+  vocabulary_first n = rw (sym ea) (or_else_first a b n)
 
--- a is the vocabulary's refusal
-module _ (v p : List ℕ) (latter : Bool) {a : ℕ} (ea : a ≡ vocabulary_refusal v) where
-  pub vocabulary_first : (a ≡ 0 → ⊥) → a ≡ or_else (vocabulary_refusal v) (numbered latter (policy_refusal v p))
-  vocabulary_first n = rw (sym ea) (or_else_first a _ n)
-
-  -- and b the policy's
-  module _ {b : ℕ} (z : a ≡ 0) (eb : b ≡ policy_refusal v p) where
-    pub policy_former : latter ≡ false → b ≡ or_else (vocabulary_refusal v) (numbered latter (policy_refusal v p))
-    policy_former f = rw (sym ea ∙ z, f) eb
-
-    pub policy_latter : {r : ℕ} → latter ≡ true → r ≡ second_refusal b → r ≡ or_else (vocabulary_refusal v) (numbered latter (policy_refusal v p))
-    policy_latter f er = rw (sym ea ∙ z, f) (er ∙ ap second_refusal eb)
+  pub then_next : {r : ℕ} → a ≡ 0 → r ≡ b → r ≡ or_else (vocabulary_refusal v) b
+  then_next z er = rw (sym ea ∙ z) er
 
 -- a is the refusal of the vocabulary and the first policy
 module _ (v p q : List ℕ) {a : ℕ} (ea : a ≡ or_else (vocabulary_refusal v) (policy_refusal v p)) where
@@ -142,9 +133,9 @@ module _ (v p q : List ℕ) {a : ℕ} (ea : a ≡ or_else (vocabulary_refusal v)
   unfolding input_refusal
   input_former n = rw (or_else_assoc (vocabulary_refusal v) (policy_refusal v p), sym ea) (or_else_first a _ n)
 
-  pub input_latter : {b r : ℕ} → a ≡ 0 → b ≡ policy_refusal v q → r ≡ second_refusal b → r ≡ input_refusal v p q
+  pub input_latter : {r : ℕ} → a ≡ 0 → r ≡ second_refusal (policy_refusal v q) → r ≡ input_refusal v p q
   unfolding input_refusal
-  input_latter z eb er = rw (or_else_assoc (vocabulary_refusal v) (policy_refusal v p), sym ea ∙ z) (er ∙ ap second_refusal eb)
+  input_latter z er = rw (or_else_assoc (vocabulary_refusal v) (policy_refusal v p), sym ea ∙ z) er
 
 -- n is the first refusal, and x its answer
 module _ (v p : List ℕ) {n : ℕ} {x : Answer ReadingResult} (h : x ≡ unless refused n (result accepted)) where

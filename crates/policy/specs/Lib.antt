@@ -1,4 +1,3 @@
--- What the walk carries, and the refusals of two policies.
-pub mod Numbers
+-- What the walk carries.
 pub mod Terms
 pub mod Trails

@@ -6,14 +6,16 @@ ghost use Rattle.meaning.specs.Answers.{reading_answer};
 ghost use Rattle.meaning.specs.Operations.{input_refusal, read_policy, read_second_policy};
 ghost use Rattle.meaning.specs.Policy.{child_of, first_term, headed_policy, hi_of, kind_of, lo_of, name_of, next_of, policy_refusal};
 ghost use Rattle.meaning.specs.Policy.{record_fits, second_refusal, sound_record};
-ghost use Rattle.meaning.specs.Records.{last_of};
-ghost use Rattle.policy.specs.Numbers.{refusal_of};
+ghost use Rattle.meaning.specs.Records.{last_of, or_else};
+ghost use Rattle.meaning.specs.Refusals.{number_in, policy_number, refusal_number};
+ghost use Rattle.meaning.specs.Vocabulary.{vocabulary_refusal};
 ghost use Rattle.policy.specs.Trails.{Follows, Walkable, depth_at, fault_at, levels};
 
 use meaning::limits::{MOST_DEPTH, MOST_POLICY_WORDS, MOST_RECORDS};
-use meaning::{ClassNo, FeatureNo, Reading, RoleNo};
+use meaning::refusals::{PolicyFault, Refusal};
+use meaning::{ClassNo, FeatureNo, RoleNo};
 use records::{is_onward, word};
-use vocabulary::{is_class, is_feature, is_role, vocabulary_refusal};
+use vocabulary::{check_vocabulary, is_class, is_feature, is_role};
 use words::{has, insert};
 
 pub fn kind_of(p: &[u32], k: u32) -> u32
@@ -110,46 +112,50 @@ const MARKS: usize = MOST_RECORDS / 32;
 // The header's chain is a level too.
 const LEVELS: u32 = MOST_DEPTH + 1;
 
-// The fault at record k, 0 for none, in the order 7, 6, 8. left counts the levels that may still stand, the record's own among them.
-fn fault_at(v: &[u32], p: &[u32], left: u32, k: u32, seen: &[u32]) -> u32
+// What is wrong at record k, looked for in this order: it was reached before, it is not sound, it is too deep. left counts the levels
+// that may still stand, the record's own among them.
+fn check_record(v: &[u32], p: &[u32], left: u32, k: u32, seen: &[u32]) -> Result<(), PolicyFault>
     requires { (6 ≤ length p.now) × (left ≤ levels) }
-    ensures { result ≡ fault_at v.now p.now (depth_at left) k seen.now }
+    ensures { number_in policy_number result ≡ fault_at v.now p.now (depth_at left) k seen.now }
 {
     let reached = has(seen, k);
     let sound = is_sound(v, p, LEVELS - left, k);
     if reached {
-        return 7;
+        return Err(PolicyFault::ReachedTwice);
     }
     if !sound {
-        return 6;
+        return Err(PolicyFault::Record);
     }
-    if left == 0 { 8 } else { 0 }
+    if left == 0 {
+        return Err(PolicyFault::TooDeep);
+    }
+    Ok(())
 }
 
-// The first fault of the walk from record first on, 0 for none; the records reached are marked. It ends, since levels fall into a child
-// chain and links rise along a chain. Only the former is a call: the stack does not grow with a chain's length.
-fn walk_from(v: &[u32], p: &[u32], left: u32, first: u32, seen: &mut [u32]) -> u32
+// The first fault of the walk from record first on; the records reached are marked. It ends, since levels fall into a child chain and
+// links rise along a chain. Only the former is a call: the stack does not grow with a chain's length.
+fn walk_from(
+    v: &[u32],
+    p: &[u32],
+    left: u32,
+    first: u32,
+    seen: &mut [u32],
+) -> Result<(), PolicyFault>
     requires { Walkable p.now left first }
-    ensures { Follows v.now p.now left first seen.old seen.new result }
+    ensures { Follows v.now p.now left first seen.old seen.new (number_in policy_number result) }
 {
     let mut k = first;
     while k != 0 {
-        let fault = fault_at(v, p, left, k, seen);
-        if fault != 0 {
-            return fault;
-        }
+        check_record(v, p, left, k, seen)?;
         let child = child_of(p, k);
         insert(seen, k);
         k = next_of(p, k);
         if child == 0 {
             continue;
         }
-        let inner = walk_from(v, p, left - 1, child, seen);
-        if inner != 0 {
-            return inner;
-        }
+        walk_from(v, p, left - 1, child, seen)?;
     }
-    0
+    Ok(())
 }
 
 fn is_headed(p: &[u32]) -> bool
@@ -161,66 +167,52 @@ fn is_headed(p: &[u32]) -> bool
             & ((word(p, 2) == 0) & ((word(p, 3) == 0) & ((word(p, 4) == 0) & (word(p, 5) == 0)))))
 }
 
-// The number of the first refusal, 0 for none: the operations that read a policy pass it on.
-pub fn policy_refusal(v: &[u32], p: &[u32]) -> u32
-    ensures { result ≡ policy_refusal v.now p.now }
+// The first fault: the operations that read a policy pass it on.
+pub fn check_policy(v: &[u32], p: &[u32]) -> Result<(), PolicyFault>
+    ensures { number_in policy_number result ≡ policy_refusal v.now p.now }
 {
     if !records::is_sized(6, MOST_POLICY_WORDS, p.len()) {
-        return 4;
+        return Err(PolicyFault::Length);
     }
     if !is_headed(p) {
-        return 5;
+        return Err(PolicyFault::Header);
     }
     let mut seen = [0; MARKS];
     walk_from(v, p, LEVELS, first_term(p), &mut seen)
 }
 
-// A second policy's refusals are 10 greater.
-fn second_refusal(refusal: u32) -> u32
-    requires { refusal ≤ 8 }
-    ensures { result ≡ second_refusal refusal }
+// The vocabulary, then the policy.
+pub fn read_policy(v: &[u32], p: &[u32]) -> Result<(), Refusal>
+    ensures answer { reading_answer result ≡ read_policy v.now p.now }
+    ensures number { number_in refusal_number result ≡ or_else (vocabulary_refusal v.now) (policy_refusal v.now p.now) }
 {
-    if refusal == 0 { 0 } else { refusal + 10 }
+    check_vocabulary(v)?;
+    check_policy(v, p)?;
+    Ok(())
 }
 
-// The vocabulary's first refusal, then that of a policy, which may be the latter of two.
-fn refusal_of(v: &[u32], p: &[u32], latter: bool) -> u32
-    ensures { result ≡ refusal_of latter v.now p.now }
+// The policy as the second of two.
+fn check_second(v: &[u32], q: &[u32]) -> Result<(), Refusal>
+    ensures { number_in refusal_number result ≡ second_refusal (policy_refusal v.now q.now) }
 {
-    let refusal = vocabulary_refusal(v);
-    if refusal != 0 {
-        return refusal;
+    match check_policy(v, q) {
+        Ok(()) => Ok(()),
+        Err(f) => Err(Refusal::SecondPolicy(f)),
     }
-    let own = policy_refusal(v, p);
-    if latter { second_refusal(own) } else { own }
 }
 
-// The first refusal of an operation on one policy: the vocabulary, then the policy.
-pub fn first_refusal(v: &[u32], p: &[u32]) -> u32
-    ensures { result ≡ refusal_of false v.now p.now }
-{
-    refusal_of(v, p, false)
-}
-
-pub fn read_policy(v: &[u32], p: &[u32]) -> Reading
-    ensures { reading_answer result ≡ read_policy v.now p.now }
-{
-    records::reading(refusal_of(v, p, false))
-}
-
-pub fn read_second_policy(v: &[u32], q: &[u32]) -> Reading
+pub fn read_second_policy(v: &[u32], q: &[u32]) -> Result<(), Refusal>
     ensures { reading_answer result ≡ read_second_policy v.now q.now }
 {
-    records::reading(refusal_of(v, q, true))
+    check_vocabulary(v)?;
+    check_second(v, q)
 }
 
-// The first refusal of an operation's three tables: the vocabulary, the first policy, the second.
-pub fn input_refusal(v: &[u32], p: &[u32], q: &[u32]) -> u32
-    ensures { result ≡ input_refusal v.now p.now q.now }
+// The three tables of an operation: the vocabulary, the first policy, the second.
+pub fn check_input(v: &[u32], p: &[u32], q: &[u32]) -> Result<(), Refusal>
+    ensures { number_in refusal_number result ≡ input_refusal v.now p.now q.now }
 {
-    let refusal = refusal_of(v, p, false);
-    if refusal != 0 {
-        return refusal;
-    }
-    second_refusal(policy_refusal(v, q))
+    read_policy(v, p)?;
+    check_second(v, q)?;
+    Ok(())
 }

@@ -1,5 +1,5 @@
 use Rattle.policy.proofs.Walking.{fault_bad, fault_deep, fault_none, fault_twice}
-use Rattle.policy.proofs.fault_at.Goals as goal
+use Rattle.policy.proofs.check_record.Goals as goal
 
 pub returns-then-reached : goal.returns-then-reached
 returns-then-reached c = search fault_twice
@@ -10,5 +10,5 @@ returns-then-not-sound c = search fault_bad
 pub returns-then-left-eq0 : goal.returns-then-left-eq0
 returns-then-left-eq0 c = search fault_deep
 
-pub returns-else-left-eq0 : goal.returns-else-left-eq0
-returns-else-left-eq0 c = search fault_none
+pub returns : goal.returns
+returns c = search fault_none

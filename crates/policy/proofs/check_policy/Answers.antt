@@ -1,7 +1,7 @@
 -- `policy_refusal`: the length, the header, then the walk with no record marked.
 use borrow.Author.Rules.{rules}
 use Rattle.policy.proofs.Laws.{few, first, least, walked, wrong_header, wrong_size}
-use Rattle.policy.proofs.policy_refusal.Goals as goal
+use Rattle.policy.proofs.check_policy.Goals as goal
 
 pub returns-then-not-is_sized : goal.returns-then-not-is_sized
 returns-then-not-is_sized c = search wrong_size
