@@ -5,9 +5,11 @@ ghost use Rattle.std.specs.Prelude.{◌≡◌, ◌≤◌, length};
 ghost use Rattle.meaning.specs.Model.{fact_fits, fact_kind, fact_name, fact_next, fact_other, fact_owner, first_fact};
 ghost use Rattle.meaning.specs.Model.{headed_model, individual_count, model_refusal, sound_fact};
 ghost use Rattle.meaning.specs.Records.{last_of};
+ghost use Rattle.meaning.specs.Refusals.{model_number, number_in};
 ghost use Rattle.model.specs.Chain.{chain_refusal};
 
 use meaning::limits::{MOST_INDIVIDUALS, MOST_MODEL_WORDS};
+use meaning::refusals::ModelFault;
 use meaning::{ClassNo, FeatureNo, RoleNo};
 use records::{is_name, is_onward, word};
 use vocabulary::{is_class, is_feature, is_role};
@@ -87,19 +89,19 @@ fn is_sound(v: &[u32], m: &[u32], k: u32) -> bool
     is_fit(v, m, k) & is_onward(last_fact(m), k, fact_next(m, k))
 }
 
-// The first refusal along the chain, which ends: a link that does not rise is refused before it is followed.
-fn facts_refusal(v: &[u32], m: &[u32]) -> u32
+// The first fault along the chain, which ends: a link that does not rise is refused before it is followed.
+fn check_facts(v: &[u32], m: &[u32]) -> Result<(), ModelFault>
     requires { (5 ≤ length m.now) × (first_fact m.now ≤ last_of 5 m.now) }
-    ensures { result ≡ chain_refusal v.now m.now }
+    ensures { number_in model_number result ≡ chain_refusal v.now m.now }
 {
     let mut k = first_fact(m);
     while k != 0 {
         if !is_sound(v, m, k) {
-            return 33;
+            return Err(ModelFault::Record);
         }
         k = fact_next(m, k);
     }
-    0
+    Ok(())
 }
 
 fn is_headed(m: &[u32]) -> bool
@@ -111,15 +113,15 @@ fn is_headed(m: &[u32]) -> bool
             & ((word(m, 2) == 0) & ((word(m, 3) == 0) & (word(m, 4) == 0))))
 }
 
-// The number of a model's first refusal, 0 for none.
-pub fn model_refusal(v: &[u32], m: &[u32]) -> u32
-    ensures { result ≡ model_refusal v.now m.now }
+// The first fault: the operation that reads a model passes it on.
+pub fn check_model(v: &[u32], m: &[u32]) -> Result<(), ModelFault>
+    ensures { number_in model_number result ≡ model_refusal v.now m.now }
 {
     if !records::is_sized(5, MOST_MODEL_WORDS, m.len()) {
-        return 31;
+        return Err(ModelFault::Length);
     }
     if !is_headed(m) {
-        return 32;
+        return Err(ModelFault::Header);
     }
-    facts_refusal(v, m)
+    check_facts(v, m)
 }

@@ -1,5 +1,5 @@
 use Rattle.model.proofs.Laws.{facts_end, facts_fall, facts_on, facts_start, facts_stop}
-use Rattle.model.proofs.facts_refusal.Goals as goal
+use Rattle.model.proofs.check_facts.Goals as goal
 
 pub loop-k-init : goal.loop-k-init
 loop-k-init c = search facts_start

@@ -1,6 +1,6 @@
 use Rattle.meaning.specs.Records.{falling, last_of}
 use Rattle.model.proofs.Laws.{ReadingFacts}
-use Rattle.model.proofs.facts_refusal.Given as goal
+use Rattle.model.proofs.check_facts.Given as goal
 
 abbrev pub invariant-loop-k : goal.invariant-loop-k
 invariant-loop-k l = ReadingFacts l.v l.m l.k
