@@ -5,6 +5,7 @@ use mathlib.Core.List.{List, []}
 use mathlib.Core.Path.{◌∙◌, ◌≡◌, ap, refl, subst, sym}
 use lib.ListN.{length}
 use native.Mathlib.Omega.{arith}
+use Rattle.std.specs.Prelude.{Err, Ok, Result}
 use borrow.Author.Tests.{not-false, not-true}
 use Rattle.extension.specs.Sets.{Extended}
 use Rattle.frames.proofs.Frames.{only_span, only_then}
@@ -17,13 +18,14 @@ use Rattle.meaning.specs.ModelCheck.{refutes}
 use Rattle.meaning.specs.Operations.{Early, Outcome, input_refusal, model_check, says, work_refusal}
 use Rattle.meaning.specs.Promises.{CorrectCheck}
 use Rattle.meaning.specs.Records.{or_else}
-use Rattle.meaning.specs.declared.Checked.{Checked}
+use Rattle.meaning.specs.Refusals.{refusal_number}
+use Rattle.meaning.specs.declared.refusals.Refusal.{Refusal}
 use Rattle.model_check.specs.Judging.{Checkable, ModelCheckPost, Parted, is_refuted, tables_refusal}
 use Rattle.satisfaction.specs.Classes.{Satisfied}
-use Rattle.meaning.specs.declared.Checked.TheVariants as checked
 use Rattle.theory.proofs.Checking.{check_judged}
 use Rattle.theory.proofs.Refusals.{accepted_input, input_early, model_early, or_else_assoc, or_else_early, or_else_first, or_else_zero}
 use Rattle.theory.proofs.Refusals.{says_unless}
+use Rattle.theory.proofs.Numbers.{refusal_numbered}
 
 -- ---- what is refuted
 
@@ -69,7 +71,7 @@ tables_early v p q m = or_else_early (input_refusal v p q) (model_refusal v m) (
 abbrev told : List ℕ → List ℕ → List ℕ → List ℕ → Outcome CheckResult
 told v p q m = says (cond (is_refuted v p q m) yes no)
 
-pub check_post : {v p q m w w' : List ℕ} {a : Checked} → Done (tables_refusal v p q m) (told v p q m) (checked_answer a) w w' [] [] → ModelCheckPost v p q m w w' a
+pub check_post : {v p q m w w' : List ℕ} {a : Result Bool Refusal} → Done (tables_refusal v p q m) (told v p q m) (checked_answer a) w w' [] [] → ModelCheckPost v p q m w w' a
 unfolding model_check
 check_post {v} {p} {q} {m} {w} {a = a} d = record { answer = same; work = d.work; right = subst (CorrectCheck v p q m) (sym same) (check_judged v p q m (length w)) }
   where
@@ -82,24 +84,23 @@ check_post {v} {p} {q} {m} {w} {a = a} d = record { answer = same; work = d.work
         d.answer ∙ says_unless (or_else (tables_refusal v p q m) (work_refusal (length w))) (cond (is_refuted v p q m) yes no)
         ∙ rw (outside (is_refuted v p q m), ← or_else_assoc (input_refusal v p q) (model_refusal v m) (work_refusal (length w)))
 
--- n is the first refusal of the tables, and r that of all
-module _ {v p q m w : List ℕ} {n r : ℕ} (e : n ≡ tables_refusal v p q m) (f : r ≡ or_else n (work_refusal (length w))) where
-  pub refuses : (r ≡ 0 → ⊥) → ModelCheckPost v p q m w w (checked.Refused r)
-  refuses h = check_post (done_refused (in_order w e f) (told v p q m) [] (tables_early v p q m) h)
+module _ {v p q m w : List ℕ} where
+  -- what is refused of the tables, or of the work slice where of them nothing is
+  pub refuses_tables : {e : Refusal} → refusal_number e ≡ tables_refusal v p q m → ModelCheckPost v p q m w w (Err e)
+  refuses_tables {e} f =
+      let n = refusal_numbered e in
+      check_post (done_refused (in_order w f (or_else_first (refusal_number e) (work_refusal (length w)) n)) (told v p q m) [] (tables_early v p q m) n)
 
-  module _ (z : r ≡ 0) where
-    pub checkable : Checkable v p q m w
-    checkable =
-        let t = or_else_zero (input_refusal v p q) (model_refusal v m) (done_before (in_order w e f) z) in
-        record { input = accepted_input v p q t.0; model = t.1; long = done_full (in_order w e f) z }
+  module _ (e : 0 ≡ tables_refusal v p q m) where
+    pub refuses_work : {r : Refusal} → refusal_number r ≡ work_refusal (length w) → ModelCheckPost v p q m w w (Err r)
+    refuses_work {r} f = check_post (done_refused (in_order w e f) (told v p q m) [] (tables_early v p q m) (refusal_numbered r))
 
-    -- b is what the model tells
-    module _ {b : Bool} {w₁ w₂ : List ℕ} (d : b ≡ is_refuted v p q m) (o : Only (Span 0 work_size) w w₁) (c : Cleared 0 work_size w₁ w₂) where
-      says_it : {a : Checked} → checked_answer a ≡ result (cond b yes no) → ModelCheckPost v p q m w w₂ a
-      says_it g = check_post (done_answered (in_order w e f) z {told = told v p q m} refl (g ∙ ap (λ (t : Bool). result (cond t yes no)) d) (outputs_none []) o c)
+    module _ (f : 0 ≡ work_refusal (length w)) where
+      pub checkable : Checkable v p q m w
+      checkable =
+          let t = or_else_zero (input_refusal v p q) (model_refusal v m) (sym e) in
+          record { input = accepted_input v p q t.0; model = t.1; long = done_full (in_order w e f) refl }
 
-      pub says_yes : b ≡ true → ModelCheckPost v p q m w w₂ checked.Yes
-      says_yes g = says_it (rw g)
-
-      pub says_no : b ≡ false → ModelCheckPost v p q m w w₂ checked.No
-      says_no g = says_it (rw g)
+      -- b is what the model tells
+      pub says_it : {b : Bool} {w₁ w₂ : List ℕ} → b ≡ is_refuted v p q m → Only (Span 0 work_size) w w₁ → Cleared 0 work_size w₁ w₂ → ModelCheckPost v p q m w w₂ (Ok b)
+      says_it d o c = check_post (done_answered (in_order w e f) refl {told = told v p q m} refl (ap (λ (t : Bool). result (cond t yes no)) d) (outputs_none []) o c)

@@ -1,5 +1,5 @@
 -- What Model check asks of its tables, and what it leaves behind.
-use Rattle.std.specs.Prelude.{◌≤◌, ℕ, Bool, ◌&&◌, not, List, ◌≡◌, length}
+use Rattle.std.specs.Prelude.{◌≤◌, ℕ, Bool, ◌&&◌, not, List, Result, ◌≡◌, length}
 use Rattle.extension.specs.Columns.{columns_end}
 use Rattle.extension.specs.Sets.{Taken}
 use Rattle.frames.specs.Frames.{Only, Span}
@@ -12,7 +12,7 @@ use Rattle.meaning.specs.Policy.{policy_of}
 use Rattle.meaning.specs.Promises.{CorrectCheck}
 use Rattle.meaning.specs.Records.{or_else}
 use Rattle.meaning.specs.Vocabulary.{vocabulary_of}
-use Rattle.meaning.specs.declared.Checked.{Checked}
+use Rattle.meaning.specs.declared.refusals.Refusal.{Refusal}
 use Rattle.satisfaction.specs.Classes.{Interpreted}
 use Rattle.satisfaction.specs.Places.{sets_at, sets_end}
 
@@ -44,7 +44,7 @@ is_refuted v p q m = refutes (facts_of m) (vocabulary_of v) (policy_of p) (polic
 
 -- whatever the slices held: the definition's answer, and the work slice as the answer has it; and the answer is right, yes exactly
 -- where the words' interpretation satisfies the vocabulary with its first individual in the first policy and outside the second
-pub record ModelCheckPost (v p q m w w' : List ℕ) (r : Checked) : Type 0 where
+pub record ModelCheckPost (v p q m w w' : List ℕ) (r : Result Bool Refusal) : Type 0 where
   pub answer : checked_answer r ≡ model_check v p q m (length w)
   pub work : w' ≡ work_after (checked_answer r) w
   pub right : CorrectCheck v p q m (checked_answer r)

@@ -6,14 +6,15 @@
 ghost use Rattle.std.specs.Prelude.{◌≡◌};
 ghost use Rattle.frames.specs.Frames.{Only, Span};
 ghost use Rattle.meaning.specs.Limits.{work_size};
+ghost use Rattle.meaning.specs.Refusals.{number_in, refusal_number};
 ghost use Rattle.model_check.specs.Judging.{Checkable, ModelCheckPost, Partable, Parted, is_refuted, tables_refusal};
 
 use extension::{COLUMNS, is_inside};
-use frames::{clear, work_refusal};
-use meaning::Checked;
+use frames::{check_work, clear};
 use meaning::limits::WORK_SIZE;
-use model::model_refusal;
-use policy::input_refusal;
+use meaning::refusals::Refusal;
+use model::check_model;
+use policy::check_input;
 use satisfaction::is_satisfied;
 
 // Whether the model tells the policies apart, with columns to work in.
@@ -40,27 +41,29 @@ fn does_refute(v: &[u32], p: &[u32], q: &[u32], m: &[u32], work: &mut [u32]) -> 
     does_part(p, q, m, work, &mut columns)
 }
 
-// The first refusal of the four tables: the vocabulary, the policies, the model.
-fn tables_refusal(v: &[u32], p: &[u32], q: &[u32], m: &[u32]) -> u32
-    ensures { result ≡ tables_refusal v.now p.now q.now m.now }
+// The four tables: the vocabulary, the policies, the model.
+fn check_tables(v: &[u32], p: &[u32], q: &[u32], m: &[u32]) -> Result<(), Refusal>
+    ensures { number_in refusal_number result ≡ tables_refusal v.now p.now q.now m.now }
 {
-    let refusal = input_refusal(v, p, q);
-    if refusal != 0 {
-        return refusal;
-    }
-    model_refusal(v, m)
+    check_input(v, p, q)?;
+    check_model(v, m)?;
+    Ok(())
 }
 
-// Model check: the refusals of the vocabulary, the policies and the model, 21, then the answer.
-pub fn model_check(v: &[u32], p: &[u32], q: &[u32], m: &[u32], work: &mut [u32]) -> Checked
+// Model check: the refusals of the vocabulary, the policies and the model, that of the work slice, then the answer.
+pub fn model_check(
+    v: &[u32],
+    p: &[u32],
+    q: &[u32],
+    m: &[u32],
+    work: &mut [u32],
+) -> Result<bool, Refusal>
     ensures { ModelCheckPost v.now p.now q.now m.now
         work.old work.new result }
 {
-    let refusal = work_refusal(tables_refusal(v, p, q, m), work);
-    if refusal != 0 {
-        return Checked::Refused(refusal);
-    }
+    check_tables(v, p, q, m)?;
+    check_work(work)?;
     let yes = does_refute(v, p, q, m, work);
     clear(work, 0, WORK_SIZE);
-    if yes { Checked::Yes } else { Checked::No }
+    Ok(yes)
 }

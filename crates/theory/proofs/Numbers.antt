@@ -1,6 +1,6 @@
 -- The numbers of the refusals: none is 0, and what hands a fault on keeps its number.
 use Prim.Native.Nat.{suc, zero, ℕ}
-use mathlib.Core.Path.{◌∙◌, ◌≡◌, ap, refl}
+use mathlib.Core.Path.{◌∙◌, ◌≡◌, ap, refl, subst, sym}
 use native.Mathlib.Omega.{arith}
 use Rattle.std.specs.Prelude.{Err, IsErrAnd, Ok, Result}
 use Rattle.meaning.specs.Answers.{Answer, ReadingResult, accepted, reading_answer, refused, result}
@@ -61,6 +61,10 @@ pub converted : {A E : Type 0} (r : Result A Refusal) (e : E) (refuse : E → Re
     number_in refusal_number r ≡ n
 converted (Ok a) e refuse h k = absurd h
 converted (Err f) e refuse h k = ap refusal_number h ∙ k
+
+pub handed_on : {A E : Type 0} (P : Result A E → Type 0) (r : Result A E) {e : E} → IsErrAnd r (λ f. f ≡ e) → P (Err e) → P r
+handed_on P (Ok a) h p = absurd h
+handed_on P (Err f) h p = subst (λ x. P (Err x)) (sym h) p
 
 pub unless_refused : {A : Type 0} (n : ℕ) (told : Answer A) → (n ≡ 0 → ⊥) → refused n ≡ unless refused n told
 unless_refused zero told h = absurd (h refl)
