@@ -6,6 +6,7 @@ use mathlib.Core.Path.{◌≡◌, ap, refl, subst₂}
 use lib.Dec.{leb}
 use lib.ListN.{length}
 use native.Mathlib.Omega.{arith}
+use Rattle.std.specs.Prelude.{Err, Ok, Result}
 use Rattle.containment.specs.Verdicts.{CompliancePost, VerdictTested}
 use Rattle.decision.proofs.Policies.{taken}
 use Rattle.decision.specs.Decisions.{settled}
@@ -24,6 +25,7 @@ use Rattle.meaning.specs.Policy.{Policy, policy_of}
 use Rattle.meaning.specs.Promises.{CorrectVerdict, agreed, escaped, unsaid_verdict}
 use Rattle.meaning.specs.Vocabulary.{Vocabulary, vocabulary_of}
 use Rattle.meaning.specs.declared.Verdict.{Verdict}
+use Rattle.meaning.specs.declared.refusals.Refusal.{Refusal}
 use Rattle.preparation.specs.Prepared.{Prepared}
 use Rattle.short_way.specs.Stops.{PreparedPair}
 use Rattle.meaning.specs.declared.Verdict.TheVariants as verdict
@@ -55,20 +57,20 @@ module _ (K : Vocabulary) (P Q : Policy) (o : ℕ) where
 -- ---- demand 2
 
 module _ (v p q o o' : List ℕ) where
-  told : (r : Verdict) (x : Outcome VerdictResult) → CorrectVerdict (vocabulary_of v) (policy_of p) (policy_of q) (length o) x → verdict_answer r ≡ x.answer → o' ≡ output_after x.words o →
+  told : (r : Result Verdict Refusal) (x : Outcome VerdictResult) → CorrectVerdict (vocabulary_of v) (policy_of p) (policy_of q) (length o) x → verdict_answer r ≡ x.answer → o' ≡ output_after x.words o →
       VerdictTested v p q o' r
-  told verdict.Compliant x (agreed c) a d = λ M. c _
-  told verdict.Compliant x (unsaid_verdict n) a d = absurd (let z : ◌≡◌ {A = ℕ} 0 1 = cc in omega arith)
-  told verdict.Compliant x (escaped s k words h l) a d = absurd (let z : ◌≡◌ {A = ℕ} 0 1 = cc in omega arith)
-  told (verdict.Outside s c n) x (agreed m) a d = absurd (let z : ◌≡◌ {A = ℕ} 0 1 = cc in omega arith)
-  told (verdict.Outside s c n) x (unsaid_verdict m) a d = absurd (let z : ◌≡◌ {A = ℕ} 0 1 = cc in omega arith)
-  told (verdict.Outside s c n) x (escaped i k words h l) a d =
+  told (Ok verdict.Compliant) x (agreed c) a d = λ M. c _
+  told (Ok verdict.Compliant) x (unsaid_verdict n) a d = absurd (let z : ◌≡◌ {A = ℕ} 0 1 = cc in omega arith)
+  told (Ok verdict.Compliant) x (escaped s k words h l) a d = absurd (let z : ◌≡◌ {A = ℕ} 0 1 = cc in omega arith)
+  told (Ok (verdict.Outside s c n)) x (agreed m) a d = absurd (let z : ◌≡◌ {A = ℕ} 0 1 = cc in omega arith)
+  told (Ok (verdict.Outside s c n)) x (unsaid_verdict m) a d = absurd (let z : ◌≡◌ {A = ℕ} 0 1 = cc in omega arith)
+  told (Ok (verdict.Outside s c n)) x (escaped i k words h l) a d =
       let m : n ≡ length words = cc in
       let t = taken words o n m d in
       (subst₂ (λ (j : ℕ) (F : List Fact). Refutes (vocabulary_of v) (policy_of p) (policy_of q) j F) (ap individual_count t) (ap facts_of t) h.refutes, λ y. no_escape (tested_finite (vocabulary_of v) (policy_of p) (policy_of q) y) h)
-  told (verdict.Refused m) x t a d = tt
+  told (Err e) x t a d = tt
 
-pub compliance_post : {v p q w w' o o' : List ℕ} {r : Verdict} → Done (input_refusal v p q) (settled v p q (length o)) (verdict_answer r) w w' o o' → CompliancePost v p q w w' o o' r
+pub compliance_post : {v p q w w' o o' : List ℕ} {r : Result Verdict Refusal} → Done (input_refusal v p q) (settled v p q (length o)) (verdict_answer r) w w' o o' → CompliancePost v p q w w' o o' r
 unfolding compliance
 compliance_post {v} {p} {q} {w} {o = o} {o' = o'} {r = r} d = record {
   answer = d.answer;

@@ -4,6 +4,7 @@ use mathlib.Core.Bool.{Bool, cond, false, not, true}
 use mathlib.Core.List.{List, [], ◌∷◌}
 use mathlib.Core.Path.{◌∙◌, ◌≡◌, ap, refl, sym}
 use native.Mathlib.Omega.{arith}
+use Rattle.std.specs.Prelude.{Option, Result}
 use lib.ListN.{length}
 use Rattle.containment.specs.Verdicts.{PossiblePost}
 use Rattle.frames.proofs.Work.{Done}
@@ -14,7 +15,7 @@ use Rattle.meaning.specs.Operations.{Outcome, possibility, possible_from, says, 
 use Rattle.meaning.specs.Policy.{Chain, Policy, policy_of, policy_refusal}
 use Rattle.meaning.specs.Records.{or_else}
 use Rattle.meaning.specs.Vocabulary.{Vocabulary, vocabulary_of, vocabulary_refusal}
-use Rattle.meaning.specs.declared.Possibility.{Possibility}
+use Rattle.meaning.specs.declared.refusals.Refusal.{Refusal}
 use Rattle.preparation.specs.Prepared.{Accepting, Prepared}
 use Rattle.theory.proofs.Refusals.{or_else_assoc, or_else_zero, says_unless}
 
@@ -44,7 +45,7 @@ accepting {v} {p} z g = record { prepared = g; policy = (or_else_zero (vocabular
 abbrev pub told_possible : List ℕ → List ℕ → Outcome PossibilityResult
 told_possible v p = says (possible_from (vocabulary_of v) 1 (policy_of p))
 
-pub possible_post : {v p w w' : List ℕ} {r : Possibility} →
+pub possible_post : {v p w w' : List ℕ} {r : Result (Option ℕ) Refusal} →
     Done (or_else (vocabulary_refusal v) (policy_refusal v p)) (told_possible v p) (possibility_answer r) w w' [] [] → PossiblePost v p w w' r
 unfolding possibility
 possible_post {v} {p} {w} d =

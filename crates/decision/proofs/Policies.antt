@@ -6,6 +6,7 @@ use mathlib.Core.Path.{◌∙◌, ◌≡◌, ap, refl, subst, sym}
 use lib.ListN.{drop, length, take}
 use lib.Seq.{take_at}
 use native.Mathlib.Omega.{arith}
+use Rattle.std.specs.Prelude.{Err, Ok, Result}
 use borrow.Author.Tests.{le-leb, lt-leb}
 use Rattle.decision.specs.Decisions.{Countable, Delivers, Failed, Failure, Reports, StoppedPair, decision, exceeds, settled}
 use Rattle.frames.proofs.Frames.{only_then}
@@ -37,6 +38,8 @@ use Rattle.short_way.specs.Stops.{Behind, LeftAt, PreparedPair, StopsBy}
 use Rattle.short_way.specs.declared.Stop.{Stop}
 use Rattle.tabulation.specs.Tabulation.{Tabulated}
 use Rattle.meaning.specs.declared.Verdict.TheVariants as verdict
+use Rattle.meaning.specs.declared.refusals.Refusal.{Refusal}
+use Rattle.meaning.specs.declared.refusals.Refusal.TheVariants as refusal
 use Rattle.decision.proofs.Terms.{pieces_tables}
 use Rattle.theory.proofs.Bounds.{bounded, chain_bounded}
 use Rattle.theory.proofs.Containment.{witness}
@@ -136,11 +139,11 @@ unfolding output_after
 taken words o n e d = sym (ap (take n) d ∙ take_at words (drop (length words) o) n (sym e))
 
 module _ (s q : ℕ) (words o : List ℕ) where
-  pub reports_23 : length o < length words → Delivers (written (length o) (outside s q) words) o o (verdict.Refused 23)
+  pub reports_23 : length o < length words → Delivers (written (length o) (outside s q) words) o o (Err refusal.Output)
   reports_23 h = rw (lt-leb (length words) (length o) h) (record { answer = refl; output = outputs_none o })
 
   pub reports_words : {o' : List ℕ} {n : ℕ} → length words ≤ length o → n ≡ length words → o' ≡ output_after words o →
-      Delivers (written (length o) (outside s q) words) o o' (verdict.Outside s q n)
+      Delivers (written (length o) (outside s q) words) o o' (Ok (verdict.Outside s q n))
   reports_words h e d = rw (le-leb (length words) (length o) h) (record { answer = ap (λ (k : ℕ). result (outside s q k)) e; output = d })
 
 -- ---- what is decided
@@ -149,10 +152,10 @@ module _ (K : Vocabulary) (P Q : Policy) (o : List ℕ) where
   abbrev told : Outcome VerdictResult
   told = reported K (length o) outside (resolve K P Q) (says Rattle.meaning.specs.Answers.compliant)
 
-  pub delivers_compliant : {o' : List ℕ} → o' ≡ o → contained ≡ decide K P Q → Delivers told o o' verdict.Compliant
+  pub delivers_compliant : {o' : List ℕ} → o' ≡ o → contained ≡ decide K P Q → Delivers told o o' (Ok verdict.Compliant)
   delivers_compliant h e = rw (resolve_decide K P Q ∙ sym e) (record { answer = refl; output = h ∙ outputs_none o })
 
-  pub delivers_report : {s q : ℕ} {u : Form} {o' : List ℕ} {r : Verdict} → escapes s q u ≡ decide K P Q → Delivers (written (length o) (outside s q) (countermodel K u)) o o' r →
+  pub delivers_report : {s q : ℕ} {u : Form} {o' : List ℕ} {r : Result Verdict Refusal} → escapes s q u ≡ decide K P Q → Delivers (written (length o) (outside s q) (countermodel K u)) o o' r →
       Delivers told o o' r
   delivers_report e d = rw (resolve_decide K P Q ∙ sym e) d
 
@@ -184,7 +187,7 @@ module _ {v p : List ℕ} (q : List ℕ) {s k : ℕ} (a : Asking (Undecided v p 
     abbrev failure : Failure (vocabulary_of v) (policy_of q) (term_at p k) w'' t r
     failure = g.told v (term_at p k) (d.impossible v b (asking_term a n).named) (d.tabled v b (asking_term a n).named)
 
-    pub term_fails : {o o₀ o' : List ℕ} {x : Verdict} → (r ≡ 0 → ⊥) → o ≡ o₀ → Reports s r w'' t o o' x → Delivers (decision v p q (length o₀)) o₀ o' x
+    pub term_fails : {o o₀ o' : List ℕ} {x : Result Verdict Refusal} → (r ≡ 0 → ⊥) → o ≡ o₀ → Reports s r w'' t o o' x → Delivers (decision v p q (length o₀)) o₀ o' x
     term_fails {o} {o₀} {o'} {x} z e y =
         let i = fails_some (vocabulary_of v) (policy_of q) (term_at p k) w'' t z failure in
         let h = bounded v b.accepted in
@@ -205,7 +208,7 @@ module _ {v p q w : List ℕ} {f : Functional} {stop : Stop} (a : StoppedPair v 
   abbrev K : Vocabulary
   K = vocabulary_of v
 
-  pub settles_short : (o : List ℕ) → stop.term ≡ 0 → Delivers (settled v p q (length o)) o o verdict.Compliant
+  pub settles_short : (o : List ℕ) → stop.term ≡ 0 → Delivers (settled v p q (length o)) o o (Ok verdict.Compliant)
   unfolding compliance_of
   settles_short o z =
       let e = a.stops.succeeds z in
@@ -216,7 +219,7 @@ module _ {v p q w : List ℕ} {f : Functional} {stop : Stop} (a : StoppedPair v 
     pub stopped_crowded : b ≡ crowded (vocabulary_of v) (policy_of p) (policy_of q)
     stopped_crowded = e ∙ sym (split_crowded K (policy_of p) (policy_of q) (a.stops.fails n))
 
-    pub settles_22 : (o : List ℕ) → b ≡ true → Delivers (settled v p q (length o)) o o (verdict.Refused 22)
+    pub settles_22 : (o : List ℕ) → b ≡ true → Delivers (settled v p q (length o)) o o (Err refusal.Combinations)
     unfolding compliance_of
     settles_22 o h = rw (sym stopped_crowded ∙ h) (record { answer = refl; output = outputs_none o })
 
@@ -224,6 +227,6 @@ module _ {v p q w : List ℕ} {f : Functional} {stop : Stop} (a : StoppedPair v 
       pub stopped_countable : {w' : List ℕ} → Only InTables w w' → Countable v p q w' f stop.place stop.term
       stopped_countable o = record { ready = ready_still a.ready o; left = a.stops.left; few = sym e ∙ h }
 
-      pub settles_split : (o : List ℕ) {o' : List ℕ} {r : Verdict} → Delivers (decision v p q (length o)) o o' r → Delivers (settled v p q (length o)) o o' r
+      pub settles_split : (o : List ℕ) {o' : List ℕ} {r : Result Verdict Refusal} → Delivers (decision v p q (length o)) o o' r → Delivers (settled v p q (length o)) o o' r
       unfolding compliance_of
       settles_split o d = rw (sym stopped_crowded ∙ h) d

@@ -1,5 +1,5 @@
 -- What a decision asks of its caller, and what it tells.
-use Rattle.std.specs.Prelude.{suc, zero, ℕ, Bool, ◌&&◌, false, not, List, ◌≡◌, ltb, length}
+use Rattle.std.specs.Prelude.{suc, zero, ℕ, Bool, ◌&&◌, false, not, List, Result, ◌≡◌, ltb, length}
 use Rattle.countermodel.specs.Facts.{Modelled}
 use Rattle.frames.specs.Frames.{Only}
 use Rattle.functional.specs.declared.Functional.{Functional}
@@ -18,13 +18,14 @@ use Rattle.meaning.specs.Policy.{Chain, Policy, policy_of}
 use Rattle.meaning.specs.Splitting.{combination_count}
 use Rattle.meaning.specs.Vocabulary.{Vocabulary, vocabulary_of}
 use Rattle.meaning.specs.declared.Verdict.{Verdict}
+use Rattle.meaning.specs.declared.refusals.Refusal.{Refusal}
 use Rattle.preparation.specs.Prepared.{Accepting, Prepared}
 use Rattle.short_way.specs.Stops.{LeftAt, PreparedPair, Stops}
 use Rattle.short_way.specs.declared.Stop.{Stop}
 use Rattle.splitting.specs.Ends.{Ends}
 
 -- the answer is the outcome's, and the output holds the outcome's words
-pub record Delivers (x : Outcome VerdictResult) (o o' : List ℕ) (r : Verdict) : Type 0 where
+pub record Delivers (x : Outcome VerdictResult) (o o' : List ℕ) (r : Result Verdict Refusal) : Type 0 where
   pub answer : verdict_answer r ≡ x.answer
   pub output : o' ≡ output_after x.words o
 
@@ -40,7 +41,7 @@ pub record Countable (v p q w : List ℕ) (f : Functional) (s k : ℕ) : Type 0 
   pub few : too_many (vocabulary_of v) (policy_of p) (policy_of q) ≡ false
 
 -- what is reported of the combination that the tables hold, by whatever vocabulary
-abbrev pub Reports : ℕ → ℕ → List ℕ → Tables → List ℕ → List ℕ → Verdict → Type 0
+abbrev pub Reports : ℕ → ℕ → List ℕ → Tables → List ℕ → List ℕ → Result Verdict Refusal → Type 0
 Reports s c w t o o' r =
     (K : Vocabulary) (u : Form) → Modelled K u w t → Delivers (written (length o) (outside s c) (countermodel K u)) o o' r
 
@@ -61,7 +62,7 @@ abbrev pub Counts : List ℕ → List ℕ → List ℕ → Functional → Bool �
 Counts p e w f r = (v : List ℕ) → Accepting v p w f → (Q : Policy) → Ends Q e → r ≡ too_many (vocabulary_of v) (policy_of p) Q
 
 -- the decision is delivered, by whatever vocabulary it can be made
-abbrev pub Decides : List ℕ → List ℕ → List ℕ → Functional → Stop → List ℕ → List ℕ → Verdict → Type 0
+abbrev pub Decides : List ℕ → List ℕ → List ℕ → Functional → Stop → List ℕ → List ℕ → Result Verdict Refusal → Type 0
 Decides p q w f stop o o' r = (v : List ℕ) → Countable v p q w f stop.place stop.term → Delivers (decision v p q (length o)) o o' r
 
 -- Compliance after 21, with an output of so many words
@@ -69,7 +70,7 @@ abbrev pub settled : List ℕ → List ℕ → List ℕ → ℕ → Outcome Verd
 settled v p q o = compliance_of (vocabulary_of v) (policy_of p) (policy_of q) o
 
 -- that is delivered, by whatever vocabulary
-abbrev pub SettlesFrom : List ℕ → List ℕ → List ℕ → Functional → Stop → List ℕ → List ℕ → Verdict → Type 0
+abbrev pub SettlesFrom : List ℕ → List ℕ → List ℕ → Functional → Stop → List ℕ → List ℕ → Result Verdict Refusal → Type 0
 SettlesFrom p q w f stop o o' r = (v : List ℕ) → StoppedPair v p q w f stop → Delivers (settled v p q (length o)) o o' r
 
 -- the first combination of a term to fail, counted from 1, which the tables hold; 0 for none

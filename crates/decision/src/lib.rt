@@ -20,6 +20,7 @@ use functional::Functional;
 use layout::Tables;
 use meaning::Verdict;
 use meaning::limits::MOST_COMBINATIONS;
+use meaning::refusals::Refusal;
 use policy::{first_term, next_of};
 use short_way::Stop;
 use splitting::{ENDS, collect, combinations, count_intervals, may_exceed};
@@ -78,9 +79,9 @@ fn failure_of(q: &[u32], work: &mut [u32], ends: &[u64], t: Tables, known: bool)
     first_failure(q, work, ends, t)
 }
 
-// Term s and combination c, which the tables hold, with the words of its countermodel; where these do not fit, 23 before a
-// word is written.
-fn report(work: &[u32], t: Tables, s: u32, c: u32, out: &mut [u32]) -> Verdict
+// Term s and combination c, which the tables hold, with the words of its countermodel; where these do not fit, that is refused before
+// a word is written.
+fn report(work: &[u32], t: Tables, s: u32, c: u32, out: &mut [u32]) -> Result<Verdict, Refusal>
     requires { Standing work.now t }
     ensures reports { Reports s c work.now t out.old out.new result }
     ensures out_len_unchanged { length out.new ≡ length out.old }
@@ -88,10 +89,10 @@ fn report(work: &[u32], t: Tables, s: u32, c: u32, out: &mut [u32]) -> Verdict
     let records = countermodel::size(work, t);
     let words = 5 * (records + 1);
     if out.len() < words {
-        return Verdict::Refused(23);
+        return Err(Refusal::Output);
     }
     countermodel::write(work, t, records, out);
-    Verdict::Outside(s, c, words)
+    Ok(Verdict::Outside(s, c, words))
 }
 
 // From the stop on, the first term of p with a combination that fails, and the first of those: the terms before it pass whole.
@@ -103,7 +104,7 @@ pub fn decide(
     ends: &[u64],
     stop: Stop,
     out: &mut [u32],
-) -> Verdict
+) -> Result<Verdict, Refusal>
     requires { ((v : List ℕ) × Countable v p.now q.now work.old f stop.place stop.term) × Ends (policy_of q.now) ends.now }
     ensures decides { Decides p.now q.now work.old f stop
         out.old out.new result }
@@ -122,11 +123,11 @@ pub fn decide(
         s += 1;
         k = next_of(p, k);
     }
-    Verdict::Compliant
+    Ok(Verdict::Compliant)
 }
 
-// What Compliance answers after 21, from where the short way of p in q stopped: compliant where it succeeds; else 22, for every term
-// before any verdict, and then the verdict.
+// What Compliance answers once the work slice is full, from where the short way of p in q stopped: compliant where it succeeds; else
+// too many combinations are refused, for every term before any verdict, and then comes the verdict.
 pub fn settle_from(
     p: &[u32],
     q: &[u32],
@@ -134,7 +135,7 @@ pub fn settle_from(
     f: Functional,
     stop: Stop,
     out: &mut [u32],
-) -> Verdict
+) -> Result<Verdict, Refusal>
     requires { (v : List ℕ) × StoppedPair v p.now q.now work.old f stop }
     ensures settles_from { SettlesFrom p.now q.now work.old f stop
         out.old out.new result }
@@ -142,14 +143,14 @@ pub fn settle_from(
     ensures out_len_unchanged { length out.new ≡ length out.old }
 {
     if stop.term == 0 {
-        return Verdict::Compliant;
+        return Ok(Verdict::Compliant);
     }
     let mut space = [0; ENDS];
     let n = collect(q, &mut space);
     let ends = &space[..n];
     let many = has_too_many(p, work, f, ends);
     if many {
-        return Verdict::Refused(22);
+        return Err(Refusal::Combinations);
     }
     decide(p, q, work, f, ends, stop, out)
 }

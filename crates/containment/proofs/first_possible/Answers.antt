@@ -28,7 +28,7 @@ returns-then-not-t c =
     let n = c.loop-k-test.true in record {
       possible_by = λ v a.
           let x = i.0 v a in
-          asking_found x n (λ l e. ap result (sym (possible_found _ _ _ (t.impossible v (prepared_kept i.1 a.prepared) (asking_term x n).named) (not-true _ c.if-not-t.true) l) ∙ e));
+          asking_found x n (λ l e. sym (possible_found _ _ _ (t.impossible v (prepared_kept i.1 a.prepared) (asking_term x n).named) (not-true _ c.if-not-t.true) l) ∙ e);
       only = only_then i.1 t.only;
     }
 
@@ -53,4 +53,4 @@ pub shape_of-work : goal.shape_of-work
 shape_of-work c = c.loop-k.invariant.1.size
 
 pub returns : goal.returns
-returns c = record { possible_by = λ v a. ap result (asking_ends (c.loop-k.invariant.0 v a) c.loop-k-test.false); only = c.loop-k.invariant.1 }
+returns c = record { possible_by = λ v a. asking_ends (c.loop-k.invariant.0 v a) c.loop-k-test.false; only = c.loop-k.invariant.1 }

@@ -1,38 +1,51 @@
 use lib.ListN.{length}
+use mathlib.Core.Path.{refl, sym}
 use native.Mathlib.Omega.{arith}
 use Rattle.containment.proofs.Complying.{pair_ready}
 use Rattle.equality.proofs.Comparing.{compared_late, equality_post}
-use Rattle.equality.specs.Comparisons.{compared}
-use Rattle.frames.proofs.Work.{done_answered, done_before, done_full, done_refused, in_order}
+use Rattle.equality.specs.Comparisons.{EqualityPost, compared}
+use Rattle.frames.proofs.Work.{done_answered, done_full, done_refused, in_order}
+use Rattle.meaning.specs.Operations.{work_refusal}
+use Rattle.meaning.specs.Refusals.{refusal_number}
 use Rattle.preparation.proofs.Laws.{worked}
-use Rattle.theory.proofs.Refusals.{accepted_input, input_early}
+use Rattle.theory.proofs.Numbers.{handed_on, refusal_numbered}
+use Rattle.theory.proofs.Refusals.{accepted_input, input_early, or_else_first}
 use Rattle.equality.proofs.equality.Goals as goal
 
-pub returns-then-refusal-ne0 : goal.returns-then-refusal-ne0
-returns-then-refusal-ne0 c =
+pub returns-in_err-check_input : goal.returns-in_err-check_input
+returns-in_err-check_input c =
     let a = c.args in
-    let r = in_order a.work.now c.input_refusal.ensures c.work_refusal-refusal.ensures in
-    equality_post (done_refused r (compared a.v.now a.p.now a.q.now (length a.out.now)) a.out.now (input_early a.v.now a.p.now a.q.now) c.if-refusal-ne0.true)
+    let e = c.in_err-check_input.field-0.0 in
+    let r = in_order a.work.now c.in_err-check_input.ensures (or_else_first (refusal_number e) (work_refusal (length a.work.now)) (refusal_numbered e)) in
+    handed_on (EqualityPost a.v.now a.p.now a.q.now a.work.now a.work.now a.out.now a.out.now) c.from_residual.result c.from_residual.ensures.1
+    (equality_post (done_refused r (compared a.v.now a.p.now a.q.now (length a.out.now)) a.out.now (input_early a.v.now a.p.now a.q.now) (refusal_numbered e)))
+
+pub returns-in_err-check_work : goal.returns-in_err-check_work
+returns-in_err-check_work c =
+    let a = c.args in
+    let e = c.in_err-check_work.field-0.0 in
+    let r = in_order a.work.now c.in_ok-check_input.ensures c.in_err-check_work.ensures in
+    handed_on (EqualityPost a.v.now a.p.now a.q.now a.work.now a.work.now a.out.now a.out.now)
+    c.from_residual-in_err-check_work.result c.from_residual-in_err-check_work.ensures.1
+    (equality_post (done_refused r (compared a.v.now a.p.now a.q.now (length a.out.now)) a.out.now (input_early a.v.now a.p.now a.q.now) (refusal_numbered e)))
 
 pub prepare-f-requires : goal.prepare-f-requires
 prepare-f-requires c =
     let a = c.args in
-    let r = in_order a.work.now c.input_refusal.ensures c.work_refusal-refusal.ensures in
-    let z = c.if-refusal-ne0.false in
-    ((accepted_input a.v.now a.p.now a.q.now (done_before r z)).vocabulary, done_full r z)
+    let n = c.in_ok-check_input.ensures in
+    ((accepted_input a.v.now a.p.now a.q.now (sym n)).vocabulary, done_full (in_order a.work.now n c.in_ok-check_work.ensures) refl)
 
 pub compare-comparison-requires : goal.compare-comparison-requires
 compare-comparison-requires c =
     let a = c.args in
-    let r = in_order a.work.now c.input_refusal.ensures c.work_refusal-refusal.ensures in
-    let z = c.if-refusal-ne0.false in
+    let n = c.in_ok-check_input.ensures in
     let g = c.prepare-f.ensures in
-    (a.v.now, pair_ready (accepted_input a.v.now a.p.now a.q.now (done_before r z)) (done_full r z) g.only g.prepared)
+    (a.v.now, pair_ready (accepted_input a.v.now a.p.now a.q.now (sym n)) (done_full (in_order a.work.now n c.in_ok-check_work.ensures) refl) g.only g.prepared)
 
 pub clear-requires : goal.clear-requires
 clear-requires c =
-    let r = in_order c.args.work.now c.input_refusal.ensures c.work_refusal-refusal.ensures in
-    omega (arith, done_full r c.if-refusal-ne0.false, c.prepare-f.ensures.only.size, c.compare-comparison.ensures.only.size)
+    let r = in_order c.args.work.now c.in_ok-check_input.ensures c.in_ok-check_work.ensures in
+    omega (arith, done_full r refl, c.prepare-f.ensures.only.size, c.compare-comparison.ensures.only.size)
 
 pub shape_of-out : goal.shape_of-out
 shape_of-out c = c.compare-comparison.ensures.out_len_unchanged
@@ -40,9 +53,9 @@ shape_of-out c = c.compare-comparison.ensures.out_len_unchanged
 pub returns : goal.returns
 returns c =
     let a = c.args in
-    let r = in_order a.work.now c.input_refusal.ensures c.work_refusal-refusal.ensures in
-    let z = c.if-refusal-ne0.false in
+    let n = c.in_ok-check_input.ensures in
+    let r = in_order a.work.now n c.in_ok-check_work.ensures in
     let g = c.prepare-f.ensures in
     let s = c.compare-comparison.ensures in
-    let t = s.compared_by a.v.now (pair_ready (accepted_input a.v.now a.p.now a.q.now (done_before r z)) (done_full r z) g.only g.prepared) in
-    equality_post (done_answered r z {told = compared a.v.now a.p.now a.q.now (length a.out.now)} (compared_late _ _ _ _) t.answer t.output (worked g.only s.only) c.clear.ensures)
+    let t = s.compared_by a.v.now (pair_ready (accepted_input a.v.now a.p.now a.q.now (sym n)) (done_full r refl) g.only g.prepared) in
+    equality_post (done_answered r refl {told = compared a.v.now a.p.now a.q.now (length a.out.now)} (compared_late _ _ _ _) t.answer t.output (worked g.only s.only) c.clear.ensures)
