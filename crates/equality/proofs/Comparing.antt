@@ -31,6 +31,10 @@ use Rattle.short_way.specs.Stops.{PreparedPair, StopsBy}
 use Rattle.short_way.specs.declared.Stop.{Stop}
 use Rattle.meaning.specs.declared.Comparison.TheVariants as comparison
 use Rattle.meaning.specs.declared.Verdict.TheVariants as verdict
+use Rattle.meaning.specs.declared.refusals.Refusal.{Refusal}
+use Rattle.meaning.specs.declared.refusals.Refusal.TheVariants as refusal
+use Rattle.meaning.specs.Refusals.{refusal_number}
+use Rattle.std.specs.Prelude.{Err, Ok, Result}
 use Rattle.theory.proofs.Compliance.{no_escape}
 use Rattle.theory.proofs.Equality.{equality_compared}
 use Rattle.theory.proofs.Interpretations.{tested_finite}
@@ -62,7 +66,7 @@ module _ (K : Vocabulary) (o o' : List ℕ) where
       go false = refl
 
   -- compliant: nothing is written, and what follows is told
-  pub forth_on : (d : Decision) → Delivers (told outside d (says compliant)) o o' verdict.Compliant → (d ≡ contained) × (o' ≡ o)
+  pub forth_on : (d : Decision) → Delivers (told outside d (says compliant)) o o' (Ok verdict.Compliant) → (d ≡ contained) × (o' ≡ o)
   forth_on contained x = (refl, x.output ∙ sym (outputs_none o))
   forth_on (escapes s q u) x = go (leb (length (countermodel K u)) (length o)) x.answer
     where
@@ -73,23 +77,23 @@ module _ (K : Vocabulary) (o o' : List ℕ) where
 
   -- else what follows does not matter
   module _ (rest : Outcome ComparisonResult) where
-    pub forth_outside : {s c n : ℕ} (d : Decision) → Delivers (told outside d (says compliant)) o o' (verdict.Outside s c n) → Compares (told (differs 1) d rest) o o' (comparison.Differs 1 s c n)
+    pub forth_outside : {s c n : ℕ} (d : Decision) → Delivers (told outside d (says compliant)) o o' (Ok (verdict.Outside s c n)) → Compares (told (differs 1) d rest) o o' (Ok (comparison.Differs 1 s c n))
     forth_outside contained x = absurd (let z : ◌≡◌ {A = ℕ} 0 1 = cc in omega arith)
     forth_outside {s} {c} {n} (escapes i q u) x = go (leb (length (countermodel K u)) (length o)) x.answer x.output
       where
         go : (b : Bool) → result (outside s c n) ≡ (cond b (record { answer = result (outside i q (length (countermodel K u))); words = countermodel K u }) (refuses 23)).answer →
             o' ≡ output_after (cond b (record { answer = result (outside i q (length (countermodel K u))); words = countermodel K u }) (refuses 23)).words o →
-            Compares (cond b (record { answer = result (differs 1 i q (length (countermodel K u))); words = countermodel K u }) (refuses 23)) o o' (comparison.Differs 1 s c n)
+            Compares (cond b (record { answer = result (differs 1 i q (length (countermodel K u))); words = countermodel K u }) (refuses 23)) o o' (Ok (comparison.Differs 1 s c n))
         go true e f = record { answer = cc; output = f }
         go false e f = absurd (let z : ◌≡◌ {A = ℕ} 0 1 = cc in omega arith)
 
-    pub forth_refused : {n : ℕ} (d : Decision) → Delivers (told outside d (says compliant)) o o' (verdict.Refused n) → Compares (told (differs 1) d rest) o o' (comparison.Refused n)
+    pub forth_refused : {e : Refusal} (d : Decision) → Delivers (told outside d (says compliant)) o o' (Err e) → Compares (told (differs 1) d rest) o o' (Err e)
     forth_refused contained x = absurd (let z : ◌≡◌ {A = ℕ} 0 1 = cc in omega arith)
-    forth_refused {n} (escapes i q u) x = go (leb (length (countermodel K u)) (length o)) x.answer x.output
+    forth_refused {e = r} (escapes i q u) x = go (leb (length (countermodel K u)) (length o)) x.answer x.output
       where
-        go : (b : Bool) → refused n ≡ (cond b (record { answer = result (outside i q (length (countermodel K u))); words = countermodel K u }) (refuses 23)).answer →
+        go : (b : Bool) → refused (refusal_number r) ≡ (cond b (record { answer = result (outside i q (length (countermodel K u))); words = countermodel K u }) (refuses 23)).answer →
             o' ≡ output_after (cond b (record { answer = result (outside i q (length (countermodel K u))); words = countermodel K u }) (refuses 23)).words o →
-            Compares (cond b (record { answer = result (differs 1 i q (length (countermodel K u))); words = countermodel K u }) (refuses 23)) o o' (comparison.Refused n)
+            Compares (cond b (record { answer = result (differs 1 i q (length (countermodel K u))); words = countermodel K u }) (refuses 23)) o o' (Err r)
         go true e f = absurd (let z : ◌≡◌ {A = ℕ} 0 1 = cc in omega arith)
         go false e f = record { answer = cc; output = f }
 
@@ -97,12 +101,12 @@ module _ (v p q : List ℕ) where
   abbrev decided : Decision
   decided = resolve (vocabulary_of v) (policy_of p) (policy_of q)
 
-  module _ {o o' : List ℕ} {y : Verdict} (a : Delivers (decision v p q (length o)) o o' y) where
-    is : {z : Verdict} → y ≡ z → Delivers (decision v p q (length o)) o o' z
-    is e = subst (λ (z : Verdict). Delivers (decision v p q (length o)) o o' z) e a
+  module _ {o o' : List ℕ} {y : Result Verdict Refusal} (a : Delivers (decision v p q (length o)) o o' y) where
+    is : {z : Result Verdict Refusal} → y ≡ z → Delivers (decision v p q (length o)) o o' z
+    is e = subst (λ (z : Result Verdict Refusal). Delivers (decision v p q (length o)) o o' z) e a
 
     -- the second direction, where the first finds nothing
-    pub differs_back : {o'' : List ℕ} {r : Verdict} {x : Comparison} → y ≡ verdict.Compliant → Delivers (decision v q p (length o')) o' o'' r →
+    pub differs_back : {o'' : List ℕ} {r : Result Verdict Refusal} {x : Result Comparison Refusal} → y ≡ Ok verdict.Compliant → Delivers (decision v q p (length o')) o' o'' r →
         comparison_answer x ≡ sided_answer 2 (verdict_answer r) → Compares (difference v p q (length o)) o o'' x
     differs_back {o''} {r} {x} h b e =
         let f = forth_on (vocabulary_of v) o o' decided (is h) in
@@ -112,10 +116,10 @@ module _ (v p q : List ℕ) where
           output = d.output ∙ ap (λ (l : List ℕ). output_after l o) (side_words (vocabulary_of v) o o'' 2 (resolve (vocabulary_of v) (policy_of q) (policy_of p)));
         })
 
-    pub differs_outside : {s c n : ℕ} → y ≡ verdict.Outside s c n → Compares (difference v p q (length o)) o o' (comparison.Differs 1 s c n)
+    pub differs_outside : {s c n : ℕ} → y ≡ Ok (verdict.Outside s c n) → Compares (difference v p q (length o)) o o' (Ok (comparison.Differs 1 s c n))
     differs_outside h = forth_outside (vocabulary_of v) o o' (reverse v p q (length o)) decided (is h)
 
-    pub differs_refused : {n : ℕ} → y ≡ verdict.Refused n → Compares (difference v p q (length o)) o o' (comparison.Refused n)
+    pub differs_refused : {e : Refusal} → y ≡ Err e → Compares (difference v p q (length o)) o o' (Err e)
     differs_refused h = forth_refused (vocabulary_of v) o o' (reverse v p q (length o)) decided (is h)
 
 -- ---- from the stops on
@@ -139,7 +143,7 @@ or_false : (b : Bool) → (b || false) ≡ b
 or_false true = refl
 or_false false = refl
 
-module _ (K : Vocabulary) {o o' : List ℕ} {r : Verdict} {x : Comparison} where
+module _ (K : Vocabulary) {o o' : List ℕ} {r : Result Verdict Refusal} {x : Result Comparison Refusal} where
   sided_settled : (side : ℕ) (b : Bool) (d : Decision) → Delivers (cond b (refuses 22) (told K o o' outside d (says compliant))) o o' r →
       comparison_answer x ≡ sided_answer side (verdict_answer r) → Compares (cond b (refuses 22) (told K o o' (differs side) d (says equal))) o o' x
   sided_settled side true d h e = record { answer = e ∙ ap (sided_answer side) h.answer; output = h.output }
@@ -148,7 +152,7 @@ module _ (K : Vocabulary) {o o' : List ℕ} {r : Verdict} {x : Comparison} where
     output = h.output ∙ ap (λ (l : List ℕ). output_after l o) (side_words K o o' side d);
   }
 
-module _ {v p q w : List ℕ} {f : Functional} {forth back : Stop} (s : BothStopped v p q w f forth back) {o o' : List ℕ} {r : Verdict} {x : Comparison} where
+module _ {v p q w : List ℕ} {f : Functional} {forth back : Stop} (s : BothStopped v p q w f forth back) {o o' : List ℕ} {r : Result Verdict Refusal} {x : Result Comparison Refusal} where
   -- the first direction's: the answer is the second's
   pub compares_second : forth.term ≡ 0 → Delivers (settled v q p (length o)) o o' r → comparison_answer x ≡ sided_answer 2 (verdict_answer r) →
       Compares (compared v p q (length o)) o o' x
@@ -177,7 +181,7 @@ module _ {v p q : List ℕ} (o : List ℕ) {w : List ℕ} {f : Functional} {fort
   more : b ≡ crowded (vocabulary_of v) (policy_of q) (policy_of p)
   more = stopped_crowded s.second n.second g
 
-  pub compares_22 : (a || b) ≡ true → Compares (compared v p q (length o)) o o (comparison.Refused 22)
+  pub compares_22 : (a || b) ≡ true → Compares (compared v p q (length o)) o o (Err refusal.Combinations)
   unfolding equality_of
   compares_22 h = rw (sym many, sym more, h) (record { answer = refl; output = outputs_none o })
 
@@ -192,7 +196,7 @@ module _ {v p q : List ℕ} (o : List ℕ) {w : List ℕ} {f : Functional} {fort
         go true b h = absurd (let z : ◌≡◌ {A = ℕ} 0 1 = cc in omega arith)
         go false b h = (refl, h)
 
-    pub compares_both : {o' : List ℕ} {r : Comparison} → Compares (difference v p q (length o)) o o' r → Compares (compared v p q (length o)) o o' r
+    pub compares_both : {o' : List ℕ} {r : Result Comparison Refusal} → Compares (difference v p q (length o)) o o' r → Compares (compared v p q (length o)) o o' r
     unfolding equality_of
     compares_both d = rw (sym many, sym more, h) d
 
@@ -219,31 +223,31 @@ module _ (v p q o o' : List ℕ) where
   abbrev K : Vocabulary
   K = vocabulary_of v
 
-  right : (r : Comparison) (x : Outcome ComparisonResult) → CorrectComparison K (policy_of p) (policy_of q) (length o) x → comparison_answer r ≡ x.answer → o' ≡ output_after x.words o →
+  right : (r : Result Comparison Refusal) (x : Outcome ComparisonResult) → CorrectComparison K (policy_of p) (policy_of q) (length o) x → comparison_answer r ≡ x.answer → o' ≡ output_after x.words o →
       ComparisonTested v p q o' r
-  right comparison.Equal x (same h) a d = λ M proper s i j. h _ proper s i j
-  right comparison.Equal x (unsaid_comparison n) a d = absurd (let z : ◌≡◌ {A = ℕ} 0 1 = cc in omega arith)
-  right comparison.Equal x (side1 s k words h l) a d = absurd (let z : ◌≡◌ {A = ℕ} 0 1 = cc in omega arith)
-  right comparison.Equal x (side2 s k words c h l) a d = absurd (let z : ◌≡◌ {A = ℕ} 0 1 = cc in omega arith)
-  right (comparison.Differs side s c n) x (same h) a d = absurd (let z : ◌≡◌ {A = ℕ} 0 1 = cc in omega arith)
-  right (comparison.Differs side s c n) x (unsaid_comparison m) a d = absurd (let z : ◌≡◌ {A = ℕ} 0 1 = cc in omega arith)
-  right (comparison.Differs side s c n) x (side1 i k words h l) a d =
+  right (Ok comparison.Equal) x (same h) a d = λ M proper s i j. h _ proper s i j
+  right (Ok comparison.Equal) x (unsaid_comparison n) a d = absurd (let z : ◌≡◌ {A = ℕ} 0 1 = cc in omega arith)
+  right (Ok comparison.Equal) x (side1 s k words h l) a d = absurd (let z : ◌≡◌ {A = ℕ} 0 1 = cc in omega arith)
+  right (Ok comparison.Equal) x (side2 s k words c h l) a d = absurd (let z : ◌≡◌ {A = ℕ} 0 1 = cc in omega arith)
+  right (Ok (comparison.Differs side s c n)) x (same h) a d = absurd (let z : ◌≡◌ {A = ℕ} 0 1 = cc in omega arith)
+  right (Ok (comparison.Differs side s c n)) x (unsaid_comparison m) a d = absurd (let z : ◌≡◌ {A = ℕ} 0 1 = cc in omega arith)
+  right (Ok (comparison.Differs side s c n)) x (side1 i k words h l) a d =
       let m : n ≡ length words = cc in
       let y : side ≡ 1 = cc in
       let t = taken words o n m d in (
         inl (y, subst₂ (λ (j : ℕ) (F : List Fact). Refutes K (policy_of p) (policy_of q) j F) (ap individual_count t) (ap facts_of t) h.refutes),
         λ g. no_escape (tested_finite K (policy_of p) (policy_of q) (λ M proper s d e. (g M proper s d e).0)) h,
       )
-  right (comparison.Differs side s c n) x (side2 i k words b h l) a d =
+  right (Ok (comparison.Differs side s c n)) x (side2 i k words b h l) a d =
       let m : n ≡ length words = cc in
       let y : side ≡ 2 = cc in
       let t = taken words o n m d in (
         inr (y, subst₂ (λ (j : ℕ) (F : List Fact). Refutes K (policy_of q) (policy_of p) j F) (ap individual_count t) (ap facts_of t) h.refutes),
         λ g. no_escape (tested_finite K (policy_of q) (policy_of p) (λ M proper s d e. (g M proper s d e).1)) h,
       )
-  right (comparison.Refused m) x t a d = tt
+  right (Err e) x t a d = tt
 
-pub equality_post : {v p q w w' o o' : List ℕ} {r : Comparison} → Done (input_refusal v p q) (compared v p q (length o)) (comparison_answer r) w w' o o' → EqualityPost v p q w w' o o' r
+pub equality_post : {v p q w w' o o' : List ℕ} {r : Result Comparison Refusal} → Done (input_refusal v p q) (compared v p q (length o)) (comparison_answer r) w w' o o' → EqualityPost v p q w w' o o' r
 unfolding equality
 equality_post {v} {p} {q} {w} {o = o} {o' = o'} {r = r} d = record {
   answer = d.answer;

@@ -1,5 +1,5 @@
 -- What Equality answers after 21, and what its answers say of interpretations.
-use Rattle.std.specs.Prelude.{ℕ, List, ◌⊎◌, ◌≡◌, length, take}
+use Rattle.std.specs.Prelude.{ℕ, List, ◌⊎◌, ◌≡◌, length, take, Err, Ok, Result}
 use Rattle.decision.specs.Decisions.{Countable, StoppedPair}
 use Rattle.functional.specs.declared.Functional.{Functional}
 use Rattle.meaning.specs.Answers.{Answer, ComparisonResult, VerdictResult, comparison_answer, compliant, differs, equal, outside, refused}
@@ -10,6 +10,7 @@ use Rattle.meaning.specs.Operations.{Outcome, equality, equality_of, output_afte
 use Rattle.meaning.specs.Policy.{policy_of}
 use Rattle.meaning.specs.Vocabulary.{vocabulary_of}
 use Rattle.meaning.specs.declared.Comparison.{Comparison}
+use Rattle.meaning.specs.declared.refusals.Refusal.{Refusal}
 use Rattle.short_way.specs.Stops.{PreparedPair}
 use Rattle.short_way.specs.declared.Stop.{Stop}
 use Rattle.splitting.specs.Ends.{Ends}
@@ -22,7 +23,7 @@ sided_answer side (result compliant) = result equal
 sided_answer side (result (outside s q n)) = result (differs side s q n)
 
 -- the answer is the outcome's, and the output holds the outcome's words
-pub record Compares (x : Outcome ComparisonResult) (o o' : List ℕ) (r : Comparison) : Type 0 where
+pub record Compares (x : Outcome ComparisonResult) (o o' : List ℕ) (r : Result Comparison Refusal) : Type 0 where
   pub answer : comparison_answer r ≡ x.answer
   pub output : o' ≡ output_after x.words o
 
@@ -46,7 +47,7 @@ pub record Comparable (v p q w : List ℕ) (f : Functional) (forth back : Stop) 
   pub second : Countable v q p w f back.place back.term
 
 -- what both directions tell, by whatever vocabulary
-abbrev pub DifferenceBy : List ℕ → List ℕ → List ℕ → Functional → Stop → Stop → List ℕ → List ℕ → Comparison → Type 0
+abbrev pub DifferenceBy : List ℕ → List ℕ → List ℕ → Functional → Stop → Stop → List ℕ → List ℕ → Result Comparison Refusal → Type 0
 DifferenceBy p q w f forth back o o' r = (v : List ℕ) → Comparable v p q w f forth back → Compares (difference v p q (length o)) o o' r
 
 -- the short way stopped there in either direction
@@ -60,10 +61,10 @@ pub record BothFail (forth back : Stop) : Type 0 where
   pub second : back.term ≡ 0 → ⊥
 
 -- what Equality tells after 21, from the stops on, by whatever vocabulary, and from the beginning
-abbrev pub ComparedFrom : List ℕ → List ℕ → List ℕ → Functional → Stop → Stop → List ℕ → List ℕ → Comparison → Type 0
+abbrev pub ComparedFrom : List ℕ → List ℕ → List ℕ → Functional → Stop → Stop → List ℕ → List ℕ → Result Comparison Refusal → Type 0
 ComparedFrom p q w f forth back o o' r = (v : List ℕ) → BothStopped v p q w f forth back → Compares (compared v p q (length o)) o o' r
 
-abbrev pub ComparedBy : List ℕ → List ℕ → List ℕ → Functional → List ℕ → List ℕ → Comparison → Type 0
+abbrev pub ComparedBy : List ℕ → List ℕ → List ℕ → Functional → List ℕ → List ℕ → Result Comparison Refusal → Type 0
 ComparedBy p q w f o o' r = (v : List ℕ) → PreparedPair v p q w f → Compares (compared v p q (length o)) o o' r
 
 -- demand 3, over interpretations given by tests: equal where none tells the policies apart; else the words stand for a finite
@@ -73,14 +74,14 @@ Differing v p q m side =
     ((side ≡ 1) × Refutes (vocabulary_of v) (policy_of p) (policy_of q) (individual_count m) (facts_of m))
     ⊎ ((side ≡ 2) × Refutes (vocabulary_of v) (policy_of q) (policy_of p) (individual_count m) (facts_of m))
 
-abbrev pub ComparisonTested : List ℕ → List ℕ → List ℕ → List ℕ → Comparison → Type 0
-ComparisonTested v p q o comparison.Equal = IndistinctTested (vocabulary_of v) (policy_of p) (policy_of q)
-ComparisonTested v p q o (comparison.Differs side s c n) =
+abbrev pub ComparisonTested : List ℕ → List ℕ → List ℕ → List ℕ → Result Comparison Refusal → Type 0
+ComparisonTested v p q o (Ok comparison.Equal) = IndistinctTested (vocabulary_of v) (policy_of p) (policy_of q)
+ComparisonTested v p q o (Ok (comparison.Differs side s c n)) =
     Differing v p q (take n o) side × (IndistinctTested (vocabulary_of v) (policy_of p) (policy_of q) → ⊥)
-ComparisonTested v p q o (comparison.Refused n) = Unit {0}
+ComparisonTested v p q o (Err e) = Unit {0}
 
 -- what Equality leaves behind
-pub record EqualityPost (v p q w w' o o' : List ℕ) (r : Comparison) : Type 0 where
+pub record EqualityPost (v p q w w' o o' : List ℕ) (r : Result Comparison Refusal) : Type 0 where
   pub answer : comparison_answer r ≡ (equality v p q (length w) (length o)).answer
   pub output : o' ≡ output_after (equality v p q (length w) (length o)).words o
   pub work : w' ≡ work_after (comparison_answer r) w

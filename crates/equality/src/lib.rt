@@ -10,22 +10,23 @@ ghost use Rattle.meaning.specs.Answers.{comparison_answer, verdict_answer};
 ghost use Rattle.short_way.specs.Stops.{PreparedPair};
 
 use decision::{decide, has_too_many, settle_from};
-use frames::{clear, work_refusal};
+use frames::{check_work, clear};
 use functional::Functional;
 use meaning::limits::WORK_SIZE;
+use meaning::refusals::Refusal;
 use meaning::{Comparison, Verdict};
+use policy::check_input;
 use preparation::prepare;
 use short_way::{Stop, find_stop};
 use splitting::{ENDS, collect};
 
 // The verdict of one direction as an answer of Equality.
-fn sided(side: u32, verdict: Verdict) -> Comparison
+fn sided(side: u32, verdict: Result<Verdict, Refusal>) -> Result<Comparison, Refusal>
     ensures { comparison_answer result ≡ sided_answer side (verdict_answer verdict) }
 {
-    match verdict {
-        Verdict::Compliant => Comparison::Equal,
-        Verdict::Outside(s, c, n) => Comparison::Differs(side, s, c, n),
-        Verdict::Refused(n) => Comparison::Refused(n),
+    match verdict? {
+        Verdict::Compliant => Ok(Comparison::Equal),
+        Verdict::Outside(s, c, n) => Ok(Comparison::Differs(side, s, c, n)),
     }
 }
 
@@ -40,23 +41,22 @@ fn differ(
     forth: Stop,
     back: Stop,
     out: &mut [u32],
-) -> Comparison
-    requires by_index { (v : List ℕ) × Comparable v p.now q.now work.old f forth back }
+) -> Result<Comparison, Refusal>
+    requires prepared { (v : List ℕ) × Comparable v p.now q.now work.old f forth back }
     requires both_ends { BothEnds p.now q.now first.now second.now }
     ensures difference_by { DifferenceBy p.now q.now work.old f forth back
         out.old out.new result }
     ensures only { Only InTables work.old work.new }
     ensures out_len_unchanged { length out.new ≡ length out.old }
 {
-    let verdict = decide(p, q, work, f, second, forth, out);
+    let verdict = decide(p, q, work, f, second, forth, out)?;
     match verdict {
         Verdict::Compliant => sided(2, decide(q, p, work, f, first, back, out)),
-        Verdict::Outside(s, c, n) => Comparison::Differs(1, s, c, n),
-        Verdict::Refused(n) => Comparison::Refused(n),
+        Verdict::Outside(s, c, n) => Ok(Comparison::Differs(1, s, c, n)),
     }
 }
 
-// What Equality answers where both short ways fail: 22 for both directions before any verdict.
+// What Equality answers where both short ways fail: too many combinations of either direction before any verdict.
 fn compare_split(
     p: &[u32],
     q: &[u32],
@@ -65,7 +65,7 @@ fn compare_split(
     forth: Stop,
     back: Stop,
     out: &mut [u32],
-) -> Comparison
+) -> Result<Comparison, Refusal>
     requires { ((v : List ℕ) × BothStopped v p.now q.now work.old f forth back) × BothFail forth back }
     ensures compared_from { ComparedFrom p.now q.now work.old f forth back
         out.old out.new result }
@@ -81,13 +81,19 @@ fn compare_split(
     let many = has_too_many(p, work, f, second);
     let more = has_too_many(q, work, f, first);
     if many | more {
-        return Comparison::Refused(22);
+        return Err(Refusal::Combinations);
     }
     differ(p, q, work, f, first, second, forth, back, out)
 }
 
-// What Equality answers after 21: the short way in both directions. Where it succeeds in one, the other is settled as in Compliance.
-fn compare(p: &[u32], q: &[u32], work: &mut [u32], f: Functional, out: &mut [u32]) -> Comparison
+// What Equality answers once the work slice is full: the short way in both directions. Where it succeeds in one, the other is settled as in Compliance.
+fn compare(
+    p: &[u32],
+    q: &[u32],
+    work: &mut [u32],
+    f: Functional,
+    out: &mut [u32],
+) -> Result<Comparison, Refusal>
     requires { (v : List ℕ) × PreparedPair v p.now q.now work.old f }
     ensures compared_by { ComparedBy p.now q.now work.old f
         out.old out.new result }
@@ -105,16 +111,20 @@ fn compare(p: &[u32], q: &[u32], work: &mut [u32], f: Functional, out: &mut [u32
     compare_split(p, q, work, f, forth, back, out)
 }
 
-// Equality: the same refusals in the same order, 22 for each direction whose short way fails; then the first direction's difference, the
-// second's, or equal. Time grows as that of two calls of Compliance.
-pub fn equality(v: &[u32], p: &[u32], q: &[u32], work: &mut [u32], out: &mut [u32]) -> Comparison
+// Equality: the same refusals in the same order, too many combinations of each direction whose short way fails; then the first
+// direction's difference, the second's, or equal. Time grows as that of two calls of Compliance.
+pub fn equality(
+    v: &[u32],
+    p: &[u32],
+    q: &[u32],
+    work: &mut [u32],
+    out: &mut [u32],
+) -> Result<Comparison, Refusal>
     ensures { EqualityPost v.now p.now q.now work.old work.new
         out.old out.new result }
 {
-    let refusal = work_refusal(policy::input_refusal(v, p, q), work);
-    if refusal != 0 {
-        return Comparison::Refused(refusal);
-    }
+    check_input(v, p, q)?;
+    check_work(work)?;
     let f = prepare(v, work);
     let comparison = compare(p, q, work, f, out);
     clear(work, 0, WORK_SIZE);

@@ -57,7 +57,7 @@ differ-requires c =
     let b = r.1 in
     let many = h.counts r.0 (ready_accepts b.first.ready) _ y in
     let more = i.counts r.0 (ready_accepts (second_still b h.only).ready) _ x in
-    record { by_index = (r.0, compares_none c.args.out.now b n many more c.if-many-more.false (only_then h.only i.only)); both_ends = (x, y) }
+    record { prepared = (r.0, compares_none c.args.out.now b n many more c.if-many-more.false (only_then h.only i.only)); both_ends = (x, y) }
 
 pub shape_of-work : goal.shape_of-work
 shape_of-work c = c.differ.ensures.only.size ∙ c.has_too_many-more.ensures.only.size ∙ c.has_too_many-many.ensures.only.size
