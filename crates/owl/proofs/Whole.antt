@@ -1,4 +1,7 @@
 -- The operation: refusals in order, and the words.
+use Rattle.meaning.specs.Refusals.{refusal_number}
+use Rattle.meaning.specs.declared.refusals.Refusal.{Refusal}
+use Rattle.std.specs.Prelude.{Err, Ok}
 use Prim.Native.Nat.{◌*◌, ◌+◌, ◌<◌, ◌≤◌, suc, ℕ}
 use mathlib.Core.Bool.{Bool, false, not, true}
 use mathlib.Core.List.{List, [], ◌∷◌}
@@ -15,7 +18,7 @@ use Rattle.meaning.specs.Limits.{most_axioms, most_classes, most_features, most_
 use Rattle.meaning.specs.Lists.{all, flat_map}
 use Rattle.meaning.specs.Operations.{output_after}
 use Rattle.meaning.specs.Vocabulary.{vocabulary_words}
-use Rattle.meaning.specs.declared.Filling.TheVariants.{Refused, Written}
+use Rattle.meaning.specs.declared.refusals.Refusal.TheVariants as refusal
 use Rattle.name_table.specs.Numbers.{repeats}
 use Rattle.name_table.specs.Table.{names_from}
 use Rattle.owl.proofs.Looking.{class_size, feature_size, role_size, sorted_names}
@@ -36,9 +39,9 @@ use Rattle.words.specs.Members.{members}
 
 -- ---- a refusal writes nothing
 
-pub refused : (text before : List ℕ) (n : ℕ) → owl_refusal text ≡ suc n → OwlPost text before before (Refused (suc n))
+pub refused : (text before : List ℕ) (r : Refusal) {n : ℕ} → refusal_number r ≡ suc n → owl_refusal text ≡ suc n → OwlPost text before before (Err r)
 unfolding read_owl output_after
-refused text before n e = record { answer = rw e; output = rw e }
+refused text before r f e = record { answer = rw (e, f); output = rw e }
 
 -- ---- 41
 
@@ -211,7 +214,7 @@ module _ {text table : List ℕ} {c : Counts} (w : Ready text table c) where
         size = ap length words ∙ vocabulary_length (vocabulary_in (statements_of text)) ∙ omega arith
 
         -- 23
-        pub too_short : (before : List ℕ) → length before < 4 * (last + 1) → OwlPost text before before (Refused 23)
+        pub too_short : (before : List ℕ) → length before < 4 * (last + 1) → OwlPost text before before (Err refusal.Output)
         unfolding read_owl output_after
         too_short before m =
             let d = lt-leb (length (owl_words text)) (length before) (omega (arith, size)) in
@@ -223,7 +226,7 @@ module _ {text table : List ℕ} {c : Counts} (w : Ready text table c) where
 
           -- the words
           pub filled : {after : List ℕ} → after ≡ output_after (vocabulary_words (vocabulary_in (statements_of text))) before →
-              OwlPost text before after (Written (4 * (last + 1)))
+              OwlPost text before after (Ok (4 * (last + 1)))
           unfolding read_owl
           filled q =
               let d = le-leb (length (owl_words text)) (length before) (omega (arith, size)) in

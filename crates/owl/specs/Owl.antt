@@ -1,5 +1,6 @@
 -- SPECIFICATION 3.4 and 9.12: the vocabulary that an OWL text states, and the operation Read OWL.
-use Rattle.std.specs.Prelude.{ℕ, cond, List, [], ◌++◌, ◌∷◌, map, ◌≡◌, eqb, leb, get_or, length}
+use Rattle.meaning.specs.declared.refusals.Refusal.{Refusal}
+use Rattle.std.specs.Prelude.{ℕ, cond, List, [], ◌++◌, ◌∷◌, map, ◌≡◌, eqb, leb, get_or, length, Result}
 use Rattle.declarations.specs.Names.{declared, declared_well, number_in}
 use Rattle.meaning.specs.Answers.{FillingResult, filling_answer, wrote}
 use Rattle.meaning.specs.Limits.{most_axioms, most_text}
@@ -8,7 +9,6 @@ use Rattle.meaning.specs.Operations.{Outcome, output_after, refuses, unless, wri
 use Rattle.meaning.specs.Records.{or_else}
 use Rattle.meaning.specs.Vocabulary.{Axiom, Vocabulary, below, disjoint, functional_feature, functional_role, many_feature, many_role}
 use Rattle.meaning.specs.Vocabulary.{range, unnamed, vocabulary_words}
-use Rattle.meaning.specs.declared.Filling.{Filling}
 use Rattle.statements.specs.Forms.{Parsed, Statement, class, declares, feature, ontology, parsed, role, states, wrong}
 use Rattle.tokens.specs.Tokens.{tokens}
 
@@ -73,6 +73,6 @@ unfoldable pub read_owl : List ℕ → ℕ → Outcome FillingResult
 read_owl text o = let told = written o wrote (owl_words text) in unless refuses (owl_refusal text) told
 
 -- what the operation leaves behind, whatever its slices held: the answer is the definition's, and so is the output
-pub record OwlPost (text before after : List ℕ) (r : Filling) : Type 0 where
+pub record OwlPost (text before after : List ℕ) (r : Result ℕ Refusal) : Type 0 where
   pub answer : filling_answer r ≡ (read_owl text (length before)).answer
   pub output : after ≡ output_after (read_owl text (length before)).words before

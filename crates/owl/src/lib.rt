@@ -23,7 +23,8 @@ ghost use Rattle.words.specs.Sets.{capacity};
 
 use declarations::{Counts, FEATURES, ROLES, list_names, survey};
 use meaning::limits::{MOST_AXIOMS, MOST_CLASSES, MOST_FEATURES, MOST_ROLES, MOST_TEXT};
-use meaning::{ClassNo, FeatureNo, Filling, RoleNo};
+use meaning::refusals::{Refusal, VocabularyFault};
+use meaning::{ClassNo, FeatureNo, RoleNo};
 use name_table::{has_repeats, number};
 use records::{link, put_four};
 use statements::{END, Item, next_item, open_ontology};
@@ -294,7 +295,7 @@ fn write(
     roles: &[u32],
     features: &[u32],
     out: &mut [u32],
-) -> Filling
+) -> Result<usize, Refusal>
     requires ready { Ready text.now table.now c × Begins text.now start × (length text.now ≤ most_text) }
     requires text_value { (sound_names (statements_of text.now) ≡ true) × Many text.now roles.now features.now }
     ensures { OwlPost text.now out.old out.new result }
@@ -302,25 +303,31 @@ fn write(
     let axioms = c.axioms;
     let last = axioms + place(count(roles)) + place(count(features));
     if MOST_AXIOMS < last {
-        return Filling::Refused(1);
+        return Err(Refusal::Vocabulary(VocabularyFault::Length));
     }
     let size = 4 * (last + 1);
     if out.len() < size {
-        return Filling::Refused(23);
+        return Err(Refusal::Output);
     }
     write_all(text, start, table, c, last, roles, features, out);
-    Filling::Written(size)
+    Ok(size)
 }
 
 // With the table of names: 42, or what follows.
-fn finish(text: &[u8], start: usize, table: &[u32], c: Counts, out: &mut [u32]) -> Filling
+fn finish(
+    text: &[u8],
+    start: usize,
+    table: &[u32],
+    c: Counts,
+    out: &mut [u32],
+) -> Result<usize, Refusal>
     requires { Ready text.now table.now c × Begins text.now start × (length text.now ≤ most_text) }
     ensures { OwlPost text.now out.old out.new result }
 {
     let mut roles = [0u32; NAME_WORDS];
     let mut features = [0u32; NAME_WORDS];
     if !are_sound(text, start, table, c, &mut roles[..], &mut features[..]) {
-        return Filling::Refused(42);
+        return Err(Refusal::Names);
     }
     // Who is not functional has many values.
     let many_roles = find_others(&roles[..], c.roles as u32);
@@ -340,7 +347,7 @@ fn finish(text: &[u8], start: usize, table: &[u32], c: Counts, out: &mut [u32]) 
 const TABLE_SIZE: usize = 3 * (FEATURES + MOST_FEATURES as usize);
 
 // With a table of names of its own.
-fn fill(text: &[u8], start: usize, c: Counts, out: &mut [u32]) -> Filling
+fn fill(text: &[u8], start: usize, c: Counts, out: &mut [u32]) -> Result<usize, Refusal>
     requires begins { Begins text.now start × (length text.now ≤ most_text) × (c ≡ counts_of (ontology (tokens text.now))) }
     requires ok_value { (c.ok ≡ true) × (counted c.classes c.roles c.features ≡ true) }
     ensures { OwlPost text.now out.old out.new result }
@@ -352,22 +359,22 @@ fn fill(text: &[u8], start: usize, c: Counts, out: &mut [u32]) -> Filling
 
 // Read OWL. The time grows with the text's length and the number of declared names: each axiom's names are looked up among them, by their
 // prints.
-pub fn read_owl(text: &[u8], out: &mut [u32]) -> Filling
+pub fn read_owl(text: &[u8], out: &mut [u32]) -> Result<usize, Refusal>
     ensures { OwlPost text.now out.old out.new result }
 {
     if MOST_TEXT < text.len() {
-        return Filling::Refused(41);
+        return Err(Refusal::Text);
     }
     let start = open_ontology(text);
     if !start.ok {
-        return Filling::Refused(41);
+        return Err(Refusal::Text);
     }
     let c = survey(text, start.next);
     if !c.ok {
-        return Filling::Refused(41);
+        return Err(Refusal::Text);
     }
     if !are_counted(c) {
-        return Filling::Refused(42);
+        return Err(Refusal::Names);
     }
     fill(text, start.next, c, out)
 }

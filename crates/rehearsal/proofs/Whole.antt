@@ -1,4 +1,5 @@
 -- The operation: 45, 23, the words of the load. Assumes nothing.
+use Rattle.std.specs.Prelude.{Err, Ok}
 use Prim.Native.Nat.{◌*◌, ◌+◌, ◌-◌, ◌<◌, ◌≤◌, ℕ}
 use mathlib.Core.Bool.{Bool, not, true, false}
 use mathlib.Core.List.{List, append_assoc}
@@ -13,7 +14,7 @@ use Rattle.meaning.specs.Limits.{most_classes}
 use Rattle.meaning.specs.Operations.{output_after}
 use Rattle.meaning.specs.PolicyWords.{policy_words}
 use Rattle.meaning.specs.Records.{Name}
-use Rattle.meaning.specs.declared.Filling.TheVariants.{Refused, Written}
+use Rattle.meaning.specs.declared.refusals.Refusal.TheVariants as refusal
 use Rattle.rehearsal.proofs.Seeds.{advance_add, load_length, policy_size, vocabulary_size_lem}
 use Rattle.rehearsal.specs.Drawing.{Drawn, Drawable, load_size}
 use Rattle.rehearsal.specs.Load.{RehearsePost, advance_by, counted, first_part, is_load, load, load_policy, load_refusal, most_seed, most_terms}
@@ -23,7 +24,7 @@ use Rattle.theory.proofs.Links.{bounds}
 
 module _ (s N m : ℕ) (o : List ℕ) {t : Bool} (e : t ≡ is_load s N m) where
   -- 45
-  pub out_of_range : not t ≡ true → RehearsePost s N m o o (Refused 45)
+  pub out_of_range : not t ≡ true → RehearsePost s N m o o (Err refusal.Load)
   unfolding rehearse load_refusal output_after
   out_of_range h = let f : is_load s N m ≡ false = sym e ∙ not-true t h in record { answer = rw f; output = rw f }
 
@@ -39,7 +40,7 @@ module _ (s N m : ℕ) (o : List ℕ) {t : Bool} (e : t ≡ is_load s N m) where
       long = load_length s N m in_range.1.0 ∙ sym size
 
       -- 23
-      pub too_short : length o < n → RehearsePost s N m o o (Refused 23)
+      pub too_short : length o < n → RehearsePost s N m o o (Err refusal.Output)
       unfolding rehearse load_refusal output_after
       too_short l =
           let d = lt-leb (length (load s N m)) (length o) (omega (arith, long)) in
@@ -47,7 +48,7 @@ module _ (s N m : ℕ) (o : List ℕ) {t : Bool} (e : t ≡ is_load s N m) where
 
       module _ (l : n ≤ length o) where
         -- the words
-        pub filled : {o' : List ℕ} → o' ≡ output_after (load s N m) o → RehearsePost s N m o o' (Written n)
+        pub filled : {o' : List ℕ} → o' ≡ output_after (load s N m) o → RehearsePost s N m o o' (Ok n)
         unfolding rehearse load_refusal
         filled q =
             let d = le-leb (length (load s N m)) (length o) (omega (arith, long)) in
@@ -73,7 +74,7 @@ module _ (s N m : ℕ) (o : List ℕ) {t : Bool} (e : t ≡ is_load s N m) where
             third_room = record { long = omega (arith, third_place, a.words.size, b.words.size); classes = in_range.1; terms = in_range.2 }
 
             pub load_put : {o₃ : List ℕ} {r : Cursor} → Drawn o₂ d (counted (policy_words (load_policy d.seed N m))) (advance_by (3 * m) d.seed) o₃ r →
-                RehearsePost s N m o o₃ (Written n)
+                RehearsePost s N m o o₃ (Ok n)
             unfolding output_after load
             load_put f =
                 let runs : d.seed ≡ advance_by (N - 1 + 3 * m) s = b.seed ∙ ap (advance_by (3 * m)) a.seed ∙ sym (advance_add (N - 1) (3 * m) s) in

@@ -1,5 +1,6 @@
 -- SPECIFICATION 9.14: the load that is drawn from a seed, and the operation Rehearse.
-use Rattle.std.specs.Prelude.{◌%◌, ◌*◌, ◌+◌, ◌-◌, suc, zero, ℕ, Bool, ◌&&◌, cond, List, [], ◌++◌, ◌∷◌, ◌≡◌, length}
+use Rattle.meaning.specs.declared.refusals.Refusal.{Refusal}
+use Rattle.std.specs.Prelude.{◌%◌, ◌*◌, ◌+◌, ◌-◌, suc, zero, ℕ, Bool, ◌&&◌, cond, List, [], ◌++◌, ◌∷◌, ◌≡◌, length, Result}
 use Rattle.meaning.specs.Answers.{FillingResult, filling_answer, wrote}
 use Rattle.meaning.specs.Limits.{most_classes}
 use Rattle.meaning.specs.Operations.{Outcome, output_after, refuses, unless, written}
@@ -8,7 +9,6 @@ use Rattle.meaning.specs.PolicyWords.{policy_words}
 use Rattle.meaning.specs.Program.{next_part, part_at}
 use Rattle.meaning.specs.Records.{is_name}
 use Rattle.meaning.specs.Vocabulary.{Axiom, Vocabulary, below, functional_feature, vocabulary_words}
-use Rattle.meaning.specs.declared.Filling.{Filling}
 
 -- ---- draws
 
@@ -102,6 +102,6 @@ unfoldable pub rehearse : ℕ → ℕ → ℕ → ℕ → Outcome FillingResult
 rehearse s N m o = let told = written o wrote (load s N m) in unless refuses (load_refusal s N m) told
 
 -- what the operation leaves behind, whatever its output held: the answer is the definition's, and so is the output
-pub record RehearsePost (s N m : ℕ) (before after : List ℕ) (r : Filling) : Type 0 where
+pub record RehearsePost (s N m : ℕ) (before after : List ℕ) (r : Result ℕ Refusal) : Type 0 where
   pub answer : filling_answer r ≡ (rehearse s N m (length before)).answer
   pub output : after ≡ output_after (rehearse s N m (length before)).words before

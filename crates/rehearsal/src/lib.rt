@@ -11,7 +11,8 @@ ghost use Rattle.rehearsal.specs.Load.{RehearsePost, advance, advance_by, counte
 ghost use Rattle.rehearsal.specs.Load.{most_terms, vocabulary_part};
 
 use meaning::limits::MOST_CLASSES;
-use meaning::{ClassNo, FeatureNo, Filling};
+use meaning::refusals::Refusal;
+use meaning::{ClassNo, FeatureNo};
 use records::{is_name, put_four, put_six, put_word};
 use words::place;
 
@@ -148,18 +149,18 @@ fn size(classes: u32, terms: u32) -> usize
 }
 
 // Rehearse. The time grows with the words that are written.
-pub fn rehearse(seed: u32, classes: u32, terms: u32, out: &mut [u32]) -> Filling
+pub fn rehearse(seed: u32, classes: u32, terms: u32, out: &mut [u32]) -> Result<usize, Refusal>
     ensures { RehearsePost seed classes terms out.old out.new result }
 {
     if !is_load(seed, classes, terms) {
-        return Filling::Refused(45);
+        return Err(Refusal::Load);
     }
     let words = size(classes, terms);
     if out.len() < words {
-        return Filling::Refused(23);
+        return Err(Refusal::Output);
     }
     let first = put_vocabulary(out, seed, classes);
     let second = put_policy(out, first, classes, terms);
     put_policy(out, second, classes, terms);
-    Filling::Written(words)
+    Ok(words)
 }

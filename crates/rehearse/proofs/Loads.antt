@@ -1,4 +1,6 @@
 -- The load's words as bytes, and none where it is refused. Assumes nothing.
+use Rattle.std.specs.Prelude.{Result, Err, Ok}
+use Rattle.meaning.specs.declared.refusals.Refusal.{Refusal}
 use Prim.Native.Nat.{◌*◌, ◌≤◌, ℕ}
 use mathlib.Core.Bool.{true}
 use mathlib.Core.List.{List, []}
@@ -13,8 +15,6 @@ use Rattle.meaning.specs.Answers.{FillingResult, filling_answer, result, wrote}
 use Rattle.meaning.specs.Limits.{output_size, work_size}
 use Rattle.meaning.specs.Operations.{Outcome, compliance, output_after}
 use Rattle.meaning.specs.Program.{bytes_of, printed, program}
-use Rattle.meaning.specs.declared.Filling.{Filling}
-use Rattle.meaning.specs.declared.Filling.TheVariants as filling
 use Rattle.rehearsal.proofs.Promises.{rehearse_piped}
 use Rattle.rehearsal.proofs.Seeds.{load_length}
 use Rattle.rehearsal.specs.Load.{RehearsePost, first_part, is_load, load, load_refusal, rehearse, second_part, vocabulary_part}
@@ -28,12 +28,12 @@ load_fits s N m o = filling_fits (load_refusal s N m) o (load s N m)
 
 -- ---- the words
 
-module _ {s N m : ℕ} {w w' : List ℕ} {x : Filling} (p : RehearsePost s N m w w' x) where
+module _ {s N m : ℕ} {w w' : List ℕ} {x : Result ℕ Refusal} (p : RehearsePost s N m w w' x) where
   -- 45
-  no_words : {n : ℕ} → x ≡ filling.Refused n → (rehearse s N m (length w)).words ≡ []
+  no_words : {e : Refusal} → x ≡ Err e → (rehearse s N m (length w)).words ≡ []
   no_words e = (load_fits s N m (length w)).none _ (sym p.answer ∙ ap filling_answer e)
 
-  module _ {n : ℕ} (e : x ≡ filling.Written n) where
+  module _ {n : ℕ} (e : x ≡ Ok n) where
     fits : (n ≡ length (rehearse s N m (length w)).words) × (length (rehearse s N m (length w)).words ≤ length w)
     fits = (load_fits s N m (length w)).some n (sym p.answer ∙ ap filling_answer e)
 
@@ -50,17 +50,17 @@ module _ {s N m : ℕ} {w w' : List ℕ} {x : Filling} (p : RehearsePost s N m w
 
 -- ---- the bytes
 
-module _ (a b c : List ℕ) {s N m : ℕ} (seed : s ≡ number_of a) (classes : N ≡ number_of b) (terms : m ≡ number_of c) {w w' : List ℕ} (long : length w ≡ most_load) {x : Filling}
+module _ (a b c : List ℕ) {s N m : ℕ} (seed : s ≡ number_of a) (classes : N ≡ number_of b) (terms : m ≡ number_of c) {w w' : List ℕ} (long : length w ≡ most_load) {x : Result ℕ Refusal}
     (p : RehearsePost s N m w w' x) where
   bytes_of_lem : {ws : List ℕ} → ws ≡ (rehearse s N m (length w)).words → bytes_of ws ≡ load_bytes a b c
   unfolding load_bytes
   bytes_of_lem e = rw (e, seed, classes, terms, long)
 
-  pub no_bytes : {n : ℕ} → x ≡ filling.Refused n → (t : List ℕ) → (0 ≤ length t) × (take 0 t ≡ load_bytes a b c)
+  pub no_bytes : {e : Refusal} → x ≡ Err e → (t : List ℕ) → (0 ≤ length t) × (take 0 t ≡ load_bytes a b c)
   unfolding bytes_of
   no_bytes e t = (omega arith, bytes_of_lem (sym (no_words p e)))
 
-  pub load_bytes_lem : {n : ℕ} → x ≡ filling.Written n → {t t' : List ℕ} {r : ℕ} → Put t 0 (bytes_of (take n w')) t' r → (r ≤ length t') × (take r t' ≡ load_bytes a b c)
+  pub load_bytes_lem : {n : ℕ} → x ≡ Ok n → {t t' : List ℕ} {r : ℕ} → Put t 0 (bytes_of (take n w')) t' r → (r ≤ length t') × (take r t' ≡ load_bytes a b c)
   load_bytes_lem e q = (put_within q, put_taken q ∙ bytes_of_lem (first_words p e))
 
 -- ---- numbers in range: the longest load has room, so all of the load is written, and the program comply reads it

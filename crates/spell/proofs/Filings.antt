@@ -1,4 +1,5 @@
 -- What the tables hold, in order, is too long, does not fit, or is written.
+use Rattle.std.specs.Prelude.{Err, Ok}
 use Prim.Native.Nat.{◌*◌, ◌+◌, ◌<◌, ◌≤◌, ℕ}
 use mathlib.Core.Bool.{Bool, ◌||◌, cond, false, true}
 use mathlib.Core.List.{List}
@@ -18,7 +19,7 @@ use Rattle.meaning.specs.Limits.{most_records}
 use Rattle.meaning.specs.Operations.{Outcome, output_after, refuses}
 use Rattle.meaning.specs.Policy.{Policy}
 use Rattle.meaning.specs.PolicyWords.{policy_words}
-use Rattle.meaning.specs.declared.Filling.TheVariants as filling
+use Rattle.meaning.specs.declared.refusals.Refusal.TheVariants as refusal
 use Rattle.spelling.specs.Operation.{filed}
 use Rattle.spelling.specs.Spelling.{too_long}
 use Rattle.spell.specs.Filing.{Filed, HoldsItems, Listed}
@@ -71,7 +72,7 @@ module _ {w : List ℕ} {t : Tables} (g : Listed w t) where
       abbrev told : Bool → Bool → Outcome FillingResult
       told long fits = cond long (refuses 43) (cond fits (record { answer = result (wrote (length (policy_words P))); words = policy_words P }) (refuses 23))
 
-      pub filing_long : {b : Bool} (out : List ℕ) → b ≡ are_too_long (items_from w ds o' top) → b ≡ true → Filed P out out (filling.Refused 43)
+      pub filing_long : {b : Bool} (out : List ℕ) → b ≡ are_too_long (items_from w ds o' top) → b ≡ true → Filed P out out (Err refusal.Spelling)
       filing_long out e f =
           let l : filed P (length out) ≡ refuses 43 = ap (λ (c : Bool). told c (leb (length (policy_words P)) (length out))) (sym (long_told e) ∙ f) in
           record { answer = sym (ap (λ (x : Outcome FillingResult). x.answer) l); output = outputs_none out ∙ ap (λ (x : Outcome FillingResult). output_after x.words out) (sym l) }
@@ -80,14 +81,14 @@ module _ {w : List ℕ} {t : Tables} (g : Listed w t) where
         not_long : too_long P ≡ false
         not_long = sym (long_told e) ∙ f
 
-        pub filing_short : (out : List ℕ) → length out < n → Filed P out out (filling.Refused 23)
+        pub filing_short : (out : List ℕ) → length out < n → Filed P out out (Err refusal.Output)
         filing_short out k =
             let short = lt-leb (length (policy_words P)) (length out) (let z = words_told s in omega arith) in
             let l : filed P (length out) ≡ refuses 23 =
             ap (λ (c : Bool). told c (leb (length (policy_words P)) (length out))) not_long ∙ ap (told false) short in
             record { answer = sym (ap (λ (x : Outcome FillingResult). x.answer) l); output = outputs_none out ∙ ap (λ (x : Outcome FillingResult). output_after x.words out) (sym l) }
 
-        pub filing_written : (out out' : List ℕ) → n ≤ length out → out' ≡ output_after (item_words (items_from w ds o' top)) out → Filed P out out' (filling.Written n)
+        pub filing_written : (out out' : List ℕ) → n ≤ length out → out' ≡ output_after (item_words (items_from w ds o' top)) out → Filed P out out' (Ok n)
         filing_written out out' k i =
             let fits = le-leb (length (policy_words P)) (length out) (let z = words_told s in omega arith) in
             let l : filed P (length out) ≡ record { answer = result (wrote (length (policy_words P))); words = policy_words P } =

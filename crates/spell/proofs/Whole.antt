@@ -1,4 +1,6 @@
 -- The whole operation: its refusals in order, what is laid out and filed, and the work cleared.
+use Rattle.std.specs.Prelude.{Result}
+use Rattle.meaning.specs.declared.refusals.Refusal.{Refusal}
 use Prim.Native.Nat.{ℕ}
 use mathlib.Core.Bool.{Bool, cond, false, true}
 use mathlib.Core.List.{List}
@@ -12,7 +14,6 @@ use Rattle.meaning.specs.Policy.{Policy, policy_of, policy_refusal}
 use Rattle.meaning.specs.PolicyWords.{policy_words}
 use Rattle.meaning.specs.Records.{or_else}
 use Rattle.meaning.specs.Vocabulary.{vocabulary_of, vocabulary_refusal}
-use Rattle.meaning.specs.declared.Filling.{Filling}
 use Rattle.spelling.specs.Operation.{SpellPost, filed, spell, spell_of}
 use Rattle.spelling.specs.Spelling.{spelled, too_long}
 use Rattle.theory.proofs.Refusals.{or_else_assoc}
@@ -29,7 +30,7 @@ filed_late P o = go (too_long P) (leb (length (policy_words P)) o) (policy_words
 abbrev pub told_spelling : List ℕ → List ℕ → ℕ → Outcome FillingResult
 told_spelling v p o = filed (spelled (vocabulary_of v) (policy_of p)) o
 
-pub spell_post : {v p w w' o o' : List ℕ} {r : Filling} →
+pub spell_post : {v p w w' o o' : List ℕ} {r : Result ℕ Refusal} →
     Done (or_else (vocabulary_refusal v) (policy_refusal v p)) (told_spelling v p (length o)) (filling_answer r) w w' o o' → SpellPost v p w w' o o' r
 unfolding spell spell_of
 spell_post {v} {p} {w} {o = o} d =

@@ -1,5 +1,6 @@
 -- What the tables hold of a policy's possible terms, and what is written of it.
-use Rattle.std.specs.Prelude.{◌+◌, ◌<◌, ◌≤◌, ℕ, true, List, map, ◌≡◌, length}
+use Rattle.meaning.specs.declared.refusals.Refusal.{Refusal}
+use Rattle.std.specs.Prelude.{◌+◌, ◌<◌, ◌≤◌, ℕ, true, List, map, ◌≡◌, length, Result}
 use Rattle.arrangement.specs.Insertion.{arranged}
 use Rattle.arrangement.specs.Listing.{entries_of}
 use Rattle.arrangement.specs.Runs.{Fronted, policy_items}
@@ -17,7 +18,6 @@ use Rattle.meaning.specs.NormalForm.{possible}
 use Rattle.meaning.specs.Operations.{output_after}
 use Rattle.meaning.specs.Policy.{Policy, policy_of, term_at}
 use Rattle.meaning.specs.Vocabulary.{vocabulary_of}
-use Rattle.meaning.specs.declared.Filling.{Filling}
 use Rattle.policy.specs.Terms.{TermOf}
 use Rattle.preparation.specs.Prepared.{Accepting}
 use Rattle.spelling.specs.Operation.{filed}
@@ -51,10 +51,10 @@ pub record LaidOut (v p w : List ℕ) (t : Tables) : Type 0 where
   pub holds : HoldsItems w t (spelled (vocabulary_of v) (policy_of p))
 
 -- the policy is written, or it is refused
-pub record Filed (P : Policy) (o o' : List ℕ) (r : Filling) : Type 0 where
+pub record Filed (P : Policy) (o o' : List ℕ) (r : Result ℕ Refusal) : Type 0 where
   pub answer : filling_answer r ≡ (filed P (length o)).answer
   pub output : o' ≡ output_after (filed P (length o)).words o
 
 -- whichever the tables hold
-abbrev pub FiledBy : List ℕ → Tables → List ℕ → List ℕ → Filling → Type 0
+abbrev pub FiledBy : List ℕ → Tables → List ℕ → List ℕ → Result ℕ Refusal → Type 0
 FiledBy w t o o' r = (P : Policy) → HoldsItems w t P → Filed P o o' r

@@ -13,13 +13,13 @@ ghost use Rattle.spelling.specs.Operation.{SpellPost};
 
 use arrangement::{DEPTHS, arrange, find_depths};
 use flattening::prepare_flat;
-use frames::{clear, work_refusal};
+use frames::{check_work, clear};
 use functional::Functional;
 use layout::Tables;
-use meaning::Filling;
 use meaning::limits::{MOST_RECORDS, WORK_SIZE};
+use meaning::refusals::Refusal;
 use normal_form::normalise_all;
-use policy::{first_refusal, first_term, next_of};
+use policy::{first_term, next_of, read_policy};
 use preparation::prepare;
 use tabulation::tabulate;
 use writing::{is_too_long, size, write};
@@ -60,8 +60,8 @@ fn lay_out(v: &[u32], p: &[u32], work: &mut [u32]) -> Tables
     normalise_all(p, work, g, &terms[..], n)
 }
 
-// What the tables hold, in order: 43, 23, or the words.
-fn file(work: &[u32], t: Tables, out: &mut [u32]) -> Filling
+// What the tables hold, in order: too long a spelling, too short an output, or the words.
+fn file(work: &[u32], t: Tables, out: &mut [u32]) -> Result<usize, Refusal>
     requires { Listed work.now t }
     ensures filed_by { FiledBy work.now t out.old out.new result }
     ensures out_len_unchanged { length out.new ≡ length out.old }
@@ -71,25 +71,24 @@ fn file(work: &[u32], t: Tables, out: &mut [u32]) -> Filling
     find_depths(work, t.individuals, &mut depths[..]);
     let top = arrange(work, t, &depths[..], &mut order[..]);
     if is_too_long(work, &depths[..], &order[..], top) {
-        return Filling::Refused(43);
+        return Err(Refusal::Spelling);
     }
     let n = size(work, &order[..], top);
     if out.len() < n {
-        return Filling::Refused(23);
+        return Err(Refusal::Output);
     }
     write(work, &depths[..], &order[..], top, out);
-    Filling::Written(n)
+    Ok(n)
 }
 
-// Spell: the vocabulary's refusals, the policy's, 21, 43, 23, or the words. Time grows with the vocabulary's records times its classes, with
-// the policy's records, and with the square of those of one individual.
-pub fn spell(v: &[u32], p: &[u32], work: &mut [u32], out: &mut [u32]) -> Filling
+// Spell: the words written, after the refusals of the vocabulary, the policy and the work slice, of too long a spelling and of too short
+// an output. Time grows with the vocabulary's records times its classes, with the policy's records, and with the square of those of one
+// individual.
+pub fn spell(v: &[u32], p: &[u32], work: &mut [u32], out: &mut [u32]) -> Result<usize, Refusal>
     ensures { SpellPost v.now p.now work.old work.new out.old out.new result }
 {
-    let refusal = work_refusal(first_refusal(v, p), work);
-    if refusal != 0 {
-        return Filling::Refused(refusal);
-    }
+    read_policy(v, p)?;
+    check_work(work)?;
     let t = lay_out(v, p, work);
     let answer = file(work, t, out);
     clear(work, 0, WORK_SIZE);

@@ -1,12 +1,12 @@
 -- SPECIFICATION 9.13, the operation Spell: the spelling of an accepted policy, written.
-use Rattle.std.specs.Prelude.{ℕ, cond, List, ◌≡◌, length}
+use Rattle.meaning.specs.declared.refusals.Refusal.{Refusal}
+use Rattle.std.specs.Prelude.{ℕ, cond, List, ◌≡◌, length, Result}
 use Rattle.meaning.specs.Answers.{FillingResult, filling_answer, wrote}
 use Rattle.meaning.specs.Operations.{Outcome, output_after, refuses, unless, work_after, work_refusal, written}
 use Rattle.meaning.specs.Policy.{Policy, policy_of, policy_refusal}
 use Rattle.meaning.specs.PolicyWords.{policy_words}
 use Rattle.meaning.specs.Records.{or_else}
 use Rattle.meaning.specs.Vocabulary.{Vocabulary, vocabulary_of, vocabulary_refusal}
-use Rattle.meaning.specs.declared.Filling.{Filling}
 use Rattle.spelling.specs.Spelling.{spelled, too_long}
 
 -- the words of the spelling
@@ -28,7 +28,7 @@ spell v p w o =
     unless refuses (or_else (vocabulary_refusal v) (or_else (policy_refusal v p) (work_refusal w))) told
 
 -- what the operation leaves behind, whatever its slices held: the answer is the definition's, and so are the output and the work slice
-pub record SpellPost (v p w w' o o' : List ℕ) (r : Filling) : Type 0 where
+pub record SpellPost (v p w w' o o' : List ℕ) (r : Result ℕ Refusal) : Type 0 where
   pub answer : filling_answer r ≡ (spell v p (length w) (length o)).answer
   pub output : o' ≡ output_after (spell v p (length w) (length o)).words o
   pub work : w' ≡ work_after (filling_answer r) w

@@ -1,4 +1,7 @@
 -- What the program decides and prints, for a function that reads its input, asks Compliance and prints the verdict.
+use Rattle.meaning.specs.Refusals.{refusal_number}
+use Rattle.meaning.specs.declared.refusals.Refusal.{Refusal}
+use Rattle.std.specs.Prelude.{Err, Ok, Result}
 use Prim.Native.Nat.{◌*◌, ◌/◌, ◌≤◌, suc, ℕ}
 use borrow.Author.Tests.{eqb-true}
 use lib.Dec.{leb}
@@ -22,7 +25,7 @@ use Rattle.meaning.specs.Program.{answer_line, next_part, part_at, printed, prog
 use Rattle.meaning.specs.Promises.{CorrectVerdict, agreed, escaped, unsaid_verdict}
 use Rattle.meaning.specs.Vocabulary.{Vocabulary}
 use Rattle.meaning.specs.declared.Verdict.{Verdict}
-use Rattle.meaning.specs.declared.Verdict.TheVariants.{Compliant, Outside, Refused}
+use Rattle.meaning.specs.declared.Verdict.TheVariants.{Compliant, Outside}
 use Rattle.text.proofs.Facts.{line_printed}
 use Rattle.text.specs.Text.{Shows, shown}
 use Rattle.theory.proofs.Compliance.{compliance_told}
@@ -63,7 +66,7 @@ module _ (bytes : ℕ) (ws : List ℕ) (whole : exact bytes ws ≡ true) (size :
 -- ---- what a verdict shows
 
 -- a verdict with the answer of an outcome of Compliance, and an output with its words, show that outcome
-never : {v : Verdict} {out : List ℕ} {r : Outcome VerdictResult} → ◌≡◌ {A = ℕ} 0 1 → Shows v out r
+never : {v : Result Verdict Refusal} {out : List ℕ} {r : Outcome VerdictResult} → ◌≡◌ {A = ℕ} 0 1 → Shows v out r
 never e = absurd (omega arith)
 
 outputs_front : (words o : List ℕ) (k : ℕ) → length words ≡ k → take k (output_after words o) ≡ words
@@ -74,17 +77,17 @@ model_of : (K : Vocabulary) (u : Form) → countermodel K u ≡ model_words (ind
 unfolding countermodel
 model_of K u = refl
 
-shows : {n : ℕ} {K : Vocabulary} {P Q : Policy} {r : Outcome VerdictResult} → n ≤ output_size → CorrectVerdict K P Q n r → (v : Verdict) → verdict_answer v ≡ r.answer →
+shows : {n : ℕ} {K : Vocabulary} {P Q : Policy} {r : Outcome VerdictResult} → n ≤ output_size → CorrectVerdict K P Q n r → (v : Result Verdict Refusal) → verdict_answer v ≡ r.answer →
     (out o : List ℕ) → out ≡ output_after r.words o → Shows v out r
-shows g (unsaid_verdict n) Compliant e out o h = never (cc)
-shows g (unsaid_verdict n) (Outside s q k) e out o h = never (cc)
-shows g (unsaid_verdict n) (Refused k) e out o h = record { outcome = ap (λ (a : Answer VerdictResult). record { answer = a; words = [] }) e; reported = tt }
-shows g (agreed c) Compliant e out o h = record { outcome = refl; reported = tt }
-shows g (agreed c) (Outside s q k) e out o h = never (cc)
-shows g (agreed c) (Refused k) e out o h = never (cc)
-shows g (escaped s q words x l) Compliant e out o h = never (cc)
-shows g (escaped s q words x l) (Refused k) e out o h = never (cc)
-shows {K = K} g (escaped s q words x l) (Outside s' q' k) e out o h =
+shows g (unsaid_verdict n) (Ok Compliant) e out o h = never (cc)
+shows g (unsaid_verdict n) (Ok (Outside s q k)) e out o h = never (cc)
+shows g (unsaid_verdict n) (Err k) e out o h = record { outcome = ap (λ (a : Answer VerdictResult). record { answer = a; words = [] }) e; reported = tt }
+shows g (agreed c) (Ok Compliant) e out o h = record { outcome = refl; reported = tt }
+shows g (agreed c) (Ok (Outside s q k)) e out o h = never (cc)
+shows g (agreed c) (Err k) e out o h = never (cc)
+shows g (escaped s q words x l) (Ok Compliant) e out o h = never (cc)
+shows g (escaped s q words x l) (Err k) e out o h = never (cc)
+shows {K = K} g (escaped s q words x l) (Ok (Outside s' q' k)) e out o h =
     let long : length words ≡ k = cc in
     let front : take k out ≡ words = ap (take k) h ∙ outputs_front words o k long in
     let model : words ≡ model_words (individuals x.combination) (canonical_model K x.combination) = x.written ∙ model_of K x.combination in
@@ -99,23 +102,23 @@ shows {K = K} g (escaped s q words x l) (Outside s' q' k) e out o h =
       };
     }
 
-pub compliance_shown : (a b c : List ℕ) (w n : ℕ) → n ≤ output_size → (v : Verdict) → verdict_answer v ≡ (compliance a b c w n).answer →
+pub compliance_shown : (a b c : List ℕ) (w n : ℕ) → n ≤ output_size → (v : Result Verdict Refusal) → verdict_answer v ≡ (compliance a b c w n).answer →
     (out o : List ℕ) → out ≡ output_after (compliance a b c w n).words o → Shows v out (compliance a b c w n)
 compliance_shown a b c w n g v = shows g (compliance_told a b c w n) v
 
-pub refusal_shown : {r : Outcome VerdictResult} {n : ℕ} (out : List ℕ) → r ≡ refuses n → Shows (Refused n) out r
+pub refusal_shown : {r : Outcome VerdictResult} {e : Refusal} (out : List ℕ) → r ≡ refuses (refusal_number e) → Shows (Err e) out r
 refusal_shown out e = record { outcome = sym e; reported = tt }
 
 -- Compliance asked of the three parts, with a work slice and an output of the program's sizes
 module _ (bytes : ℕ) (ws : List ℕ) {a b c : List ℕ} {p q w n : ℕ} where
   pub words_shown : exact bytes ws ≡ true → p ≡ next_part ws 0 → q ≡ next_part ws p → a ≡ part_at ws 0 → b ≡ part_at ws p → c ≡ part_at ws q →
-      w ≡ work_size → n ≡ output_size → (v : Verdict) → verdict_answer v ≡ (compliance a b c w n).answer →
+      w ≡ work_size → n ≡ output_size → (v : Result Verdict Refusal) → verdict_answer v ≡ (compliance a b c w n).answer →
       (out o : List ℕ) → out ≡ output_after (compliance a b c w n).words o → Shows v out (decided_words bytes ws)
   words_shown whole at behind ea eb ec ew en v told out o after =
       let same : compliance a b c w n ≡ decided_words bytes ws = rw (words_exact bytes ws whole, ea, eb, ec, ew, en, behind, at) in
       subst (λ (r : Outcome VerdictResult). Shows v out r) same (compliance_shown a b c w n (omega arith) v told out o after)
 
-pub input_shown : (b : List ℕ) {ws out : List ℕ} {v : Verdict} → leb (length b) most_bytes ≡ true → ws ≡ words_of b →
+pub input_shown : (b : List ℕ) {ws out : List ℕ} {v : Result Verdict Refusal} → leb (length b) most_bytes ≡ true → ws ≡ words_of b →
     Shows v out (decided_words (length b) ws) → Shows v out (decided b)
 input_shown b {ws} {out} {v} h e s =
     subst (λ (r : Outcome VerdictResult). Shows v out r) (ap (decided_words (length b)) e ∙ sym (decided_short b h)) s
@@ -133,6 +136,6 @@ program_printed b = go (leb (length b) most_bytes) (exact (length b) (words_of b
     go false whole told = line_printed (refused 40)
 
 -- a verdict that shows what is decided, printed: the text holds it, and begins with it
-pub answer_printed : (b : List ℕ) {t u out : List ℕ} {r : ℕ} {v : Verdict} → Shows v out (decided b) → Put t 0 (printed (shown v out)) u r →
+pub answer_printed : (b : List ℕ) {t u out : List ℕ} {r : ℕ} {v : Result Verdict Refusal} → Shows v out (decided b) → Put t 0 (printed (shown v out)) u r →
     (r ≤ length u) × (take r u ≡ program b)
 answer_printed b s p = (put_within p, put_taken p ∙ ap printed s.outcome ∙ sym (program_printed b))

@@ -17,7 +17,7 @@ pub are_sound-requires : goal.are_sound-requires
 are_sound-requires c = let p = c.requires in (p.0, p.1)
 
 pub returns-then-not-are_sound : goal.returns-then-not-are_sound
-returns-then-not-are_sound c = let p = c.requires in refused _ _ _ (not_sound p.0 p.2 c.are_sound.ensures.value c.if-not-are_sound.true-raw)
+returns-then-not-are_sound c = let p = c.requires in refused _ _ _ refl (not_sound p.0 p.2 c.are_sound.ensures.value c.if-not-are_sound.true-raw)
 
 pub overflow_cast-c : goal.overflow_cast-c
 overflow_cast-c c = let s = sizes_small c.requires.0 in omega arith

@@ -1,3 +1,4 @@
+use mathlib.Core.Path.{refl}
 use mathlib.Core.Path.{◌∙◌}
 use native.Mathlib.Omega.{arith}
 use Rattle.owl.proofs.Whole.{filled, last_record, records_small, refused, too_many_lem, too_short, words_room}
@@ -22,7 +23,7 @@ overflow_add-last-2 c = let p = c.requires in
 pub returns-then-last-gt-MOST_AXIOMS : goal.returns-then-last-gt-MOST_AXIOMS
 returns-then-last-gt-MOST_AXIOMS c = let p = c.requires in
     let all = last_record p.ready.0 p.text_value.1 (c.place.ensures ∙ c.count.ensures) (c.place-2.ensures ∙ c.count-2.ensures) in
-    refused _ _ _ (too_many_lem p.ready.0 p.ready.2 p.text_value.0 all (omega (arith, c.if-last-gt-MOST_AXIOMS.true)))
+    refused _ _ _ refl (too_many_lem p.ready.0 p.ready.2 p.text_value.0 all (omega (arith, c.if-last-gt-MOST_AXIOMS.true)))
 
 pub overflow_add-size : goal.overflow_add-size
 overflow_add-size c = omega (arith, c.if-last-gt-MOST_AXIOMS.false)
