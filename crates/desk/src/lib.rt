@@ -11,15 +11,21 @@ ghost use Rattle.text.specs.Text.{Shows, text_size};
 use containment::compliance;
 use input::{decode, is_exact, is_short, next_part, part};
 use meaning::Verdict;
+use meaning::refusals::Refusal;
 use text::put_verdict;
 
 // The verdict on the words of an input of so many bytes.
-fn decide_words(bytes: usize, words: &[u32], work: &mut [u32], out: &mut [u32]) -> Verdict
+fn decide_words(
+    bytes: usize,
+    words: &[u32],
+    work: &mut [u32],
+    out: &mut [u32],
+) -> Result<Verdict, Refusal>
     requires { (length words.now ≡ bytes / 4) × (length work.old ≡ work_size) × (length out.old ≡ output_size) }
     ensures { Shows result out.new (decided_words bytes words.now) }
 {
     if !is_exact(bytes, words) {
-        return Verdict::Refused(40);
+        return Err(Refusal::Input);
     }
     let p = next_part(words, 0);
     let q = next_part(words, p);
@@ -27,12 +33,17 @@ fn decide_words(bytes: usize, words: &[u32], work: &mut [u32], out: &mut [u32]) 
 }
 
 // The verdict on an input; one that is too long is not read.
-fn decide_input(input: &[u8], words: &mut [u32], work: &mut [u32], out: &mut [u32]) -> Verdict
+fn decide_input(
+    input: &[u8],
+    words: &mut [u32],
+    work: &mut [u32],
+    out: &mut [u32],
+) -> Result<Verdict, Refusal>
     requires { Buffers words.old work.old out.old }
     ensures { Shows result out.new (decided input.now) }
 {
     if !is_short(input.len()) {
-        return Verdict::Refused(40);
+        return Err(Refusal::Input);
     }
     decode(input, words);
     let n = input.len() / 4;

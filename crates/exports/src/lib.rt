@@ -9,7 +9,8 @@ ghost use Rattle.meaning.specs.Operations.{read_policy, read_second_policy, read
 
 use containment::{compliance, possible};
 use equality::equality;
-use meaning::{Checked, Comparison, Filling, Possibility, Reading, Verdict};
+use meaning::refusals::Refusal;
+use meaning::{Comparison, Verdict};
 use model_check::model_check;
 use owl::read_owl;
 use policy::{read_policy, read_second_policy};
@@ -17,67 +18,68 @@ use rehearsal::rehearse;
 use spell::spell;
 use vocabulary::read_vocabulary;
 
-fn reading(r: Reading, number: &mut u32) -> u32
+fn reading(r: Result<(), Refusal>, number: &mut u32) -> u32
     ensures { Coded (reading_code (reading_answer r)) result number.new }
 {
     match r {
-        Reading::Accepted => {
+        Ok(()) => {
             *number = 0;
             1
         }
-        Reading::Refused(n) => {
-            *number = n;
+        Err(e) => {
+            *number = e.number();
             0
         }
     }
 }
 
-fn possibility(r: Possibility, number: &mut u32) -> u32
+fn possibility(r: Result<Option<u32>, Refusal>, number: &mut u32) -> u32
     ensures { Coded (possibility_code (possibility_answer r)) result number.new }
 {
     match r {
-        Possibility::Possible(s) => {
+        Ok(Some(s)) => {
             *number = s;
             1
         }
-        Possibility::Impossible => {
+        Ok(None) => {
             *number = 0;
             2
         }
-        Possibility::Refused(n) => {
-            *number = n;
+        Err(e) => {
+            *number = e.number();
             0
         }
     }
 }
 
-fn verdict(r: Verdict, number: &mut u32, combination: &mut u32, words: &mut usize) -> u32
+fn verdict(
+    r: Result<Verdict, Refusal>,
+    number: &mut u32,
+    combination: &mut u32,
+    words: &mut usize,
+) -> u32
     ensures { CodedVerdict (verdict_answer r) result number.new combination.new words.new }
 {
+    *number = 0;
+    *combination = 0;
+    *words = 0;
     match r {
-        Verdict::Compliant => {
-            *number = 0;
-            *combination = 0;
-            *words = 0;
-            1
-        }
-        Verdict::Outside(s, q, n) => {
+        Ok(Verdict::Compliant) => 1,
+        Ok(Verdict::Outside(s, q, n)) => {
             *number = s;
             *combination = q;
             *words = n;
             2
         }
-        Verdict::Refused(n) => {
-            *number = n;
-            *combination = 0;
-            *words = 0;
+        Err(e) => {
+            *number = e.number();
             0
         }
     }
 }
 
 fn comparison(
-    r: Comparison,
+    r: Result<Comparison, Refusal>,
     number: &mut u32,
     term: &mut u32,
     combination: &mut u32,
@@ -86,61 +88,51 @@ fn comparison(
     ensures { CodedComparison (comparison_answer r) result number.new term.new
         combination.new words.new }
 {
+    *number = 0;
+    *term = 0;
+    *combination = 0;
+    *words = 0;
     match r {
-        Comparison::Equal => {
-            *number = 0;
-            *term = 0;
-            *combination = 0;
-            *words = 0;
-            1
-        }
-        Comparison::Differs(side, s, q, n) => {
+        Ok(Comparison::Equal) => 1,
+        Ok(Comparison::Differs(side, s, q, n)) => {
             *number = side;
             *term = s;
             *combination = q;
             *words = n;
             2
         }
-        Comparison::Refused(n) => {
-            *number = n;
-            *term = 0;
-            *combination = 0;
-            *words = 0;
+        Err(e) => {
+            *number = e.number();
             0
         }
     }
 }
 
-fn checked(r: Checked, number: &mut u32) -> u32
+fn checked(r: Result<bool, Refusal>, number: &mut u32) -> u32
     ensures { Coded (check_code (checked_answer r)) result number.new }
 {
+    *number = 0;
     match r {
-        Checked::Yes => {
-            *number = 0;
-            1
-        }
-        Checked::No => {
-            *number = 0;
-            2
-        }
-        Checked::Refused(n) => {
-            *number = n;
+        Ok(true) => 1,
+        Ok(false) => 2,
+        Err(e) => {
+            *number = e.number();
             0
         }
     }
 }
 
-fn filling(r: Filling, number: &mut u32, words: &mut usize) -> u32
+fn filling(r: Result<usize, Refusal>, number: &mut u32, words: &mut usize) -> u32
     ensures { CodedFilling (filling_answer r) result number.new words.new }
 {
     match r {
-        Filling::Written(n) => {
+        Ok(n) => {
             *number = 0;
             *words = n;
             1
         }
-        Filling::Refused(n) => {
-            *number = n;
+        Err(e) => {
+            *number = e.number();
             *words = 0;
             0
         }

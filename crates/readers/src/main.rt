@@ -4,7 +4,7 @@
 
 ghost use Rattle.std.specs.Prelude.{◌<◌};
 
-use meaning::Reading;
+use meaning::refusals::Refusal;
 
 // A record of each kind; damage makes names that stand both ways, too.
 const VOCABULARY: [u32; 44] = [
@@ -25,10 +25,10 @@ fn print(rt: &impl Print, n: u32) {
     let _ = println!(rt; "{n}");
 }
 
-fn say(rt: &impl Print, r: Reading) {
+fn say(rt: &impl Print, r: Result<(), Refusal>) {
     match r {
-        Reading::Accepted => print(rt, 0),
-        Reading::Refused(n) => print(rt, n),
+        Ok(()) => print(rt, 0),
+        Err(e) => print(rt, e.number()),
     }
 }
 

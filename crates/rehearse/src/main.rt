@@ -7,7 +7,6 @@ ghost use Rattle.rehearse.specs.Arguments.{is_digit, load_bytes, most_load, numb
 ghost use Rattle.rehearse.specs.Delivery.{WasWritten};
 
 use input::encode;
-use meaning::Filling;
 use meaning::limits::MOST_CLASSES;
 use rehearsal::{MOST_TERMS, rehearse};
 use std::env::{Env, FillError};
@@ -60,7 +59,7 @@ fn put_load(seed: &[u8], classes: &[u8], terms: &[u8], words: &mut [u32], bytes:
     ensures { (result ≤ length bytes.new)
         × (take result bytes.new ≡ load_bytes seed.now classes.now terms.now) }
 {
-    let Filling::Written(n) = rehearse(number(seed), number(classes), number(terms), words) else {
+    let Ok(n) = rehearse(number(seed), number(classes), number(terms), words) else {
         return 0;
     };
     encode(&words[..n], bytes)

@@ -1,4 +1,5 @@
 -- The records of a model's words, one after the other, and the lines printed for them. Assumes nothing.
+use Rattle.std.specs.Prelude.{Ok}
 use Prim.Native.Nat.{◌*◌, ◌+◌, ◌-◌, ◌/◌, suc, ℕ}
 use borrow.Author.Tests.{eq-eqb, ne_eqb}
 use lib.ListN.{drop, length, take-append-drop}
@@ -69,7 +70,7 @@ module _ (out : List ℕ) (n : ℕ) (m : Model out n) where
       rw few (records_read out (drop n out) 0 m.facts (ap (drop 5) all))
 
   -- the answer's line and the records' lines
-  pub model_printed : (s q : ℕ) → line (bytes "outside") (s ∷ (q ∷ [])) ++ flat_map fact_line (records_to out (n / 5 - 1)) ≡ printed (shown (Outside s q n) out)
+  pub model_printed : (s q : ℕ) → line (bytes "outside") (s ∷ (q ∷ [])) ++ flat_map fact_line (records_to out (n / 5 - 1)) ≡ printed (shown (Ok (Outside s q n)) out)
   unfolding printed
   model_printed s q = rw (model_records, m.words, model_facts m.individuals m.facts)
 

@@ -9,6 +9,7 @@ ghost use Rattle.frames.specs.Rows.{Put};
 ghost use Rattle.text.specs.Text.{Reported, most_line, records_to, shown, text_size};
 
 use meaning::Verdict;
+use meaning::refusals::Refusal;
 use printing::{put_byte, put_decimal, put_name};
 use records::word;
 
@@ -97,8 +98,8 @@ fn put_refused(text: &mut [u8], n: u32) -> usize
 }
 
 fn put_outside(text: &mut [u8], out: &[u32], s: u32, q: u32, n: usize) -> usize
-    requires { (text_size ≤ length text.old) × Reported (Verdict.Outside s q n) out.now }
-    ensures { Put text.old 0 (printed (shown (Verdict.Outside s q n) out.now))
+    requires { (text_size ≤ length text.old) × Reported (Ok (Verdict.Outside s q n)) out.now }
+    ensures { Put text.old 0 (printed (shown (Ok (Verdict.Outside s q n)) out.now))
         text.new result }
 {
     let next = put_pair(text, 0, b"outside", s, q);
@@ -106,13 +107,13 @@ fn put_outside(text: &mut [u8], out: &[u32], s: u32, q: u32, n: usize) -> usize
 }
 
 // The answer's line and, where it reports a countermodel, a line for each of its records.
-pub fn put_verdict(text: &mut [u8], out: &[u32], verdict: Verdict) -> usize
+pub fn put_verdict(text: &mut [u8], out: &[u32], verdict: Result<Verdict, Refusal>) -> usize
     requires { (text_size ≤ length text.old) × Reported verdict out.now }
     ensures { Put text.old 0 (printed (shown verdict out.now)) text.new result }
 {
     match verdict {
-        Verdict::Compliant => put_compliant(text),
-        Verdict::Outside(s, q, n) => put_outside(text, out, s, q, n),
-        Verdict::Refused(n) => put_refused(text, n),
+        Ok(Verdict::Compliant) => put_compliant(text),
+        Ok(Verdict::Outside(s, q, n)) => put_outside(text, out, s, q, n),
+        Err(e) => put_refused(text, e.number()),
     }
 }

@@ -8,13 +8,13 @@ pub returns-in_default : goal.returns-in_default
 returns-in_default c = no_bytes c.args.seed.now c.args.classes.now c.args.terms.now c.number.ensures c.number-2.ensures c.number-3.ensures c.requires.0 c.rehearse.ensures c.in_default.is c.args.bytes.now
 
 pub slice_bounds-encode-end : goal.slice_bounds-encode-end
-slice_bounds-encode-end c = words_within c.rehearse.ensures c.in-Written.is
+slice_bounds-encode-end c = words_within c.rehearse.ensures c.in-Ok.is
 
 pub slice_bounds-encode-end-2 : goal.slice_bounds-encode-end-2
-slice_bounds-encode-end-2 c = sym (length-take-le _ _ (words_within c.rehearse.ensures c.in-Written.is))
+slice_bounds-encode-end-2 c = sym (length-take-le _ _ (words_within c.rehearse.ensures c.in-Ok.is))
 
 pub encode-requires : goal.encode-requires
-encode-requires c = bytes_room c.rehearse.ensures c.in-Written.is c.requires.0 c.requires.1
+encode-requires c = bytes_room c.rehearse.ensures c.in-Ok.is c.requires.0 c.requires.1
 
 pub returns : goal.returns
-returns c = load_bytes_lem c.args.seed.now c.args.classes.now c.args.terms.now c.number.ensures c.number-2.ensures c.number-3.ensures c.requires.0 c.rehearse.ensures c.in-Written.is c.encode.ensures
+returns c = load_bytes_lem c.args.seed.now c.args.classes.now c.args.terms.now c.number.ensures c.number-2.ensures c.number-3.ensures c.requires.0 c.rehearse.ensures c.in-Ok.is c.encode.ensures
