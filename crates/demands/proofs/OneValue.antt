@@ -1,7 +1,9 @@
 -- One value unless said otherwise, as theorems about the contracts: 44 in every operation that reads a vocabulary and in the program, what the
 -- model check asks of a model, and the words that Read OWL writes.
+use Rattle.meaning.specs.declared.refusals.Refusal.{Refusal}
+use Rattle.std.specs.Prelude.{Ok, Option, Result}
 use Prim.Native.Nat.{◌*◌, ℕ}
-use mathlib.Core.Bool.{◌&&◌, false, true}
+use mathlib.Core.Bool.{◌&&◌, false, true, Bool}
 use mathlib.Core.List.{List, [], ◌++◌, ◌∷◌}
 use mathlib.Core.Path.{◌≡◌, refl}
 use lib.Dec.{eqb, leb}
@@ -13,7 +15,7 @@ use Rattle.demands.proofs.Owl.{owl_written_accepted}
 use Rattle.demands.proofs.Refusals.{compliance_refused_iff, equality_refused_iff, model_check_refused_iff, possible_refused_iff}
 use Rattle.demands.proofs.Refusals.{read_policy_refused_iff, read_second_policy_refused_iff, read_vocabulary_refused_iff}
 use Rattle.demands.proofs.Spell.{spell_refused_iff}
-use Rattle.demands.specs.Refusals.{FirstRefusal, NamedBothWays, here}
+use Rattle.demands.specs.Refusals.{FirstRefusal, NamedBothWays, here, RefusedWith}
 use Rattle.equality.specs.Comparisons.{EqualityPost}
 use Rattle.meaning.specs.Answers.{reading_answer, refused}
 use Rattle.meaning.specs.Limits.{most_bytes, output_size, work_size}
@@ -24,22 +26,12 @@ use Rattle.meaning.specs.Program.{bytes, decimal, next_part, part_at, printed, p
 use Rattle.meaning.specs.Records.{Name}
 use Rattle.meaning.specs.Stated.{is_many_feature, is_many_role}
 use Rattle.meaning.specs.Vocabulary.{feature_count, role_count, vocabulary_of, vocabulary_refusal}
-use Rattle.meaning.specs.declared.Checked.{Checked}
 use Rattle.meaning.specs.declared.Comparison.{Comparison}
-use Rattle.meaning.specs.declared.Filling.{Filling}
-use Rattle.meaning.specs.declared.Possibility.{Possibility}
-use Rattle.meaning.specs.declared.Reading.{Reading}
 use Rattle.meaning.specs.declared.Verdict.{Verdict}
 use Rattle.model_check.specs.Judging.{ModelCheckPost}
 use Rattle.owl.specs.Owl.{OwlPost}
 use Rattle.spelling.specs.Operation.{SpellPost}
 use Rattle.theory.proofs.Defaults.{feature_single, role_single}
-use Rattle.meaning.specs.declared.Checked.TheVariants as checked
-use Rattle.meaning.specs.declared.Comparison.TheVariants as comparison
-use Rattle.meaning.specs.declared.Filling.TheVariants as filling
-use Rattle.meaning.specs.declared.Possibility.TheVariants as possibility
-use Rattle.meaning.specs.declared.Reading.TheVariants as reading
-use Rattle.meaning.specs.declared.Verdict.TheVariants as verdict
 
 -- ---- 44, whatever the policies, the model, the work slice and the output are
 
@@ -51,28 +43,28 @@ module _ {v : List ℕ} (h : NamedBothWays v) where
   first_44 : {l : List ℕ} → FirstRefusal 44 (vocabulary_refusal v ∷ l)
   first_44 = rw refusal_44 (here (λ e. omega arith))
 
-  pub read_vocabulary_44 : {r : Reading} → reading_answer r ≡ read_vocabulary v → r ≡ reading.Refused 44
+  pub read_vocabulary_44 : {r : Result Unit Refusal} → reading_answer r ≡ read_vocabulary v → RefusedWith r 44
   read_vocabulary_44 a = (read_vocabulary_refused_iff v a).1 first_44
 
-  pub read_policy_44 : (p : List ℕ) {r : Reading} → reading_answer r ≡ read_policy v p → r ≡ reading.Refused 44
+  pub read_policy_44 : (p : List ℕ) {r : Result Unit Refusal} → reading_answer r ≡ read_policy v p → RefusedWith r 44
   read_policy_44 p a = (read_policy_refused_iff v p a).1 first_44
 
-  pub read_second_policy_44 : (q : List ℕ) {r : Reading} → reading_answer r ≡ read_second_policy v q → r ≡ reading.Refused 44
+  pub read_second_policy_44 : (q : List ℕ) {r : Result Unit Refusal} → reading_answer r ≡ read_second_policy v q → RefusedWith r 44
   read_second_policy_44 q a = (read_second_policy_refused_iff v q a).1 first_44
 
-  pub possible_44 : {p w w' : List ℕ} {r : Possibility} → PossiblePost v p w w' r → r ≡ possibility.Refused 44
+  pub possible_44 : {p w w' : List ℕ} {r : Result (Option ℕ) Refusal} → PossiblePost v p w w' r → RefusedWith r 44
   possible_44 c = (possible_refused_iff c).1 first_44
 
-  pub compliance_44 : {p q w w' o o' : List ℕ} {r : Verdict} → CompliancePost v p q w w' o o' r → r ≡ verdict.Refused 44
+  pub compliance_44 : {p q w w' o o' : List ℕ} {r : Result Verdict Refusal} → CompliancePost v p q w w' o o' r → RefusedWith r 44
   compliance_44 c = (compliance_refused_iff c).1 first_44
 
-  pub equality_44 : {p q w w' o o' : List ℕ} {r : Comparison} → EqualityPost v p q w w' o o' r → r ≡ comparison.Refused 44
+  pub equality_44 : {p q w w' o o' : List ℕ} {r : Result Comparison Refusal} → EqualityPost v p q w w' o o' r → RefusedWith r 44
   equality_44 c = (equality_refused_iff c).1 first_44
 
-  pub model_check_44 : {p q m w w' : List ℕ} {r : Checked} → ModelCheckPost v p q m w w' r → r ≡ checked.Refused 44
+  pub model_check_44 : {p q m w w' : List ℕ} {r : Result Bool Refusal} → ModelCheckPost v p q m w w' r → RefusedWith r 44
   model_check_44 c = (model_check_refused_iff c).1 first_44
 
-  pub spell_44 : {p w w' o o' : List ℕ} {r : Filling} → SpellPost v p w w' o o' r → r ≡ filling.Refused 44
+  pub spell_44 : {p w w' o o' : List ℕ} {r : Result ℕ Refusal} → SpellPost v p w w' o o' r → RefusedWith r 44
   spell_44 c = (spell_refused_iff c).1 first_44
 
   compliance_silent : (p q : List ℕ) → compliance v p q work_size output_size ≡ refuses 44
@@ -88,7 +80,7 @@ program_44 b h whole = rw (whole, compliance_silent h _ _)
 
 -- ---- a model that passes the check keeps the default
 
-module _ {v p q m w w' : List ℕ} (j : ModelCheckPost v p q m w w' checked.Yes) where
+module _ {v p q m w w' : List ℕ} (j : ModelCheckPost v p q m w w' (Ok true)) where
   satisfied : Satisfies (stands (individual_count m) (facts_of m)) (vocabulary_of v)
   satisfied = ((yes_where j (λ x. let z : ◌≡◌ {A = ℕ} 0 1 = cc in omega arith)).0 refl).0
 
@@ -102,5 +94,5 @@ module _ {v p q m w w' : List ℕ} (j : ModelCheckPost v p q m w w' checked.Yes)
 
 -- ---- the words that Read OWL writes
 
-pub owl_written_never_44 : {text o o' : List ℕ} {n : ℕ} → OwlPost text o o' (filling.Written n) → read_vocabulary (take n o') ≡ refused 44 → ⊥
+pub owl_written_never_44 : {text o o' : List ℕ} {n : ℕ} → OwlPost text o o' (Ok n) → read_vocabulary (take n o') ≡ refused 44 → ⊥
 owl_written_never_44 c e = let a = owl_written_accepted c refl in let z : ◌≡◌ {A = ℕ} 0 1 = cc in omega arith

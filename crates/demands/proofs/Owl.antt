@@ -1,4 +1,7 @@
 -- Demand 1 of Read OWL, and what it promises, as theorems about its contract.
+use Rattle.demands.proofs.Refusals.{refused_answer, answer_refused}
+use Rattle.meaning.specs.declared.refusals.Refusal.{Refusal}
+use Rattle.std.specs.Prelude.{Ok, Result}
 use Prim.Native.Nat.{ℕ}
 use mathlib.Core.Bool.{Bool, cond, false, true}
 use mathlib.Core.List.{List, [], ◌∷◌}
@@ -7,22 +10,19 @@ use mathlib.Core.Path.{◌∙◌, ◌≡◌, ap, refl, sym}
 use lib.Dec.{leb}
 use lib.ListN.{length, take}
 use lib.Seq.{take_at}
-use native.Mathlib.Omega.{arith}
 use Rattle.declarations.specs.Names.{declared_well}
 use Rattle.declarations.specs.Passes.{list_of}
 use Rattle.demands.proofs.Afterwards.{writes_first}
 use Rattle.demands.proofs.Orders.{Follows, answering, follows_here, follows_on, refused_iff}
-use Rattle.demands.specs.Refusals.{FirstRefusal, forms_refusal, owl_order}
+use Rattle.demands.specs.Refusals.{FirstRefusal, forms_refusal, owl_order, RefusedWith}
 use Rattle.demands.specs.Slices.{WritesFirst}
-use Rattle.meaning.specs.Answers.{accepted, filling_answer, refused, result, wrote}
+use Rattle.meaning.specs.Answers.{accepted, filling_answer, result, wrote}
 use Rattle.meaning.specs.Limits.{most_axioms}
 use Rattle.meaning.specs.Lists.{cons, nil}
 use Rattle.meaning.specs.Operations.{output_after, read_vocabulary, refuses, unless, written}
 use Rattle.meaning.specs.Records.{or_else}
 use Rattle.meaning.specs.Stated.{is_functional_feature, is_functional_role}
 use Rattle.meaning.specs.Vocabulary.{is_named, vocabulary_of}
-use Rattle.meaning.specs.declared.Filling.{Filling}
-use Rattle.meaning.specs.declared.Filling.TheVariants as filling
 use Rattle.owl.proofs.Promises.{owl_accepted, owl_functional_feature, owl_functional_role, owl_states}
 use Rattle.owl.specs.Owl.{OwlPost, axioms_in, owl_refusal, owl_words, parsed_of, parsed_refusal, read_owl, vocabulary_in}
 use Rattle.owl.specs.Passes.{statements_of}
@@ -51,10 +51,6 @@ owl_follows : (text : List ℕ) (o : ℕ) → Follows (owl_order text o) (read_o
 unfolding read_owl owl_refusal
 owl_follows text o = parsed_follows o (owl_words text) (parsed_of text)
 
-pub filling_refused : (r : Filling) {n : ℕ} → filling_answer r ≡ refused n → r ≡ filling.Refused n
-filling_refused (filling.Written m) e = absurd (let z : ◌≡◌ {A = ℕ} 0 1 = cc in omega arith)
-filling_refused (filling.Refused m) e = cc
-
 -- ---- the words
 
 owl_fits : (text : List ℕ) (o : ℕ) → FillingFits o (read_owl text o)
@@ -63,19 +59,19 @@ owl_fits text o = filling_fits (owl_refusal text) o (owl_words text)
 
 -- ---- of the contract
 
-module _ {text o o' : List ℕ} {r : Filling} (c : OwlPost text o o' r) where
+module _ {text o o' : List ℕ} {r : Result ℕ Refusal} (c : OwlPost text o o' r) where
   -- it refuses n exactly when n is the first refusal in its order
-  pub owl_refused_iff : {n : ℕ} → (r ≡ filling.Refused n) ↔ FirstRefusal n (owl_order text (length o))
+  pub owl_refused_iff : {n : ℕ} → (RefusedWith r n) ↔ FirstRefusal n (owl_order text (length o))
   owl_refused_iff =
       let h = refused_iff (owl_follows text (length o)) in
-      (λ e. h.0 (sym c.answer ∙ ap filling_answer e), λ f. filling_refused r (c.answer ∙ h.1 f))
+      (λ e. h.0 (sym c.answer ∙ refused_answer wrote r e), λ f. answer_refused wrote r (c.answer ∙ h.1 f))
 
   -- a refusal leaves the output
-  pub owl_refused_silent : {n : ℕ} → r ≡ filling.Refused n → o' ≡ o
+  pub owl_refused_silent : {n : ℕ} → RefusedWith r n → o' ≡ o
   unfolding output_after
-  owl_refused_silent e = c.output ∙ rw ((owl_fits text (length o)).none _ (sym c.answer ∙ ap filling_answer e))
+  owl_refused_silent e = c.output ∙ rw ((owl_fits text (length o)).none _ (sym c.answer ∙ refused_answer wrote r e))
 
-  module _ {n : ℕ} (e : r ≡ filling.Written n) where
+  module _ {n : ℕ} (e : r ≡ Ok n) where
     told : (read_owl text (length o)).answer ≡ result (wrote n)
     told = sym c.answer ∙ ap filling_answer e
 

@@ -1,4 +1,7 @@
 -- Demand 1 of Rehearse, and what it promises, as theorems about its contract.
+use Rattle.demands.proofs.Refusals.{refused_answer, answer_refused}
+use Rattle.meaning.specs.declared.refusals.Refusal.{Refusal}
+use Rattle.std.specs.Prelude.{Ok, Result}
 use Prim.Native.Nat.{suc, zero, ℕ}
 use mathlib.Core.Bool.{Bool, cond, false, true}
 use mathlib.Core.List.{List, [], ◌∷◌}
@@ -10,10 +13,9 @@ use lib.Seq.{take_at}
 use native.Mathlib.Omega.{arith}
 use Rattle.demands.proofs.Afterwards.{writes_first}
 use Rattle.demands.proofs.Orders.{Follows, answering, follows_here, follows_on, refused_iff}
-use Rattle.demands.proofs.Owl.{filling_refused}
 use Rattle.demands.proofs.Verdicts.{answered}
 use Rattle.demands.specs.Enough.{Long}
-use Rattle.demands.specs.Refusals.{FirstRefusal, rehearse_order}
+use Rattle.demands.specs.Refusals.{FirstRefusal, rehearse_order, RefusedWith}
 use Rattle.demands.specs.Slices.{WritesFirst}
 use Rattle.meaning.specs.Answers.{accepted, filling_answer, result, wrote}
 use Rattle.meaning.specs.Containment.{Decision, contained, escapes, resolve}
@@ -22,8 +24,6 @@ use Rattle.meaning.specs.Lists.{cons, nil}
 use Rattle.meaning.specs.Operations.{AcceptedInput, compliance, input_refusal, output_after, read_policy, read_second_policy, read_vocabulary, refuses, unless}
 use Rattle.meaning.specs.Program.{bytes_of, next_part, part_at, printed, program}
 use Rattle.meaning.specs.Promises.{IsRefusal}
-use Rattle.meaning.specs.declared.Filling.{Filling}
-use Rattle.meaning.specs.declared.Filling.TheVariants as filling
 use Rattle.rehearsal.proofs.Decided.{HasRoom}
 use Rattle.rehearsal.proofs.Promises.{load_read, rehearse_accepted, rehearse_parts, rehearse_piped, rehearse_short, rehearse_uncrowded}
 use Rattle.rehearsal.proofs.Promises.{rehearse_unrefused}
@@ -53,19 +53,19 @@ rehearse_fits s N m o = filling_fits (load_refusal s N m) o (load s N m)
 
 -- ---- of the contract
 
-module _ {s N m : ℕ} {o o' : List ℕ} {r : Filling} (c : RehearsePost s N m o o' r) where
+module _ {s N m : ℕ} {o o' : List ℕ} {r : Result ℕ Refusal} (c : RehearsePost s N m o o' r) where
   -- it refuses n exactly when n is the first refusal in its order
-  pub rehearse_refused_iff : {n : ℕ} → (r ≡ filling.Refused n) ↔ FirstRefusal n (rehearse_order s N m (length o))
+  pub rehearse_refused_iff : {n : ℕ} → (RefusedWith r n) ↔ FirstRefusal n (rehearse_order s N m (length o))
   rehearse_refused_iff =
       let h = refused_iff (rehearse_follows s N m (length o)) in
-      (λ e. h.0 (sym c.answer ∙ ap filling_answer e), λ f. filling_refused r (c.answer ∙ h.1 f))
+      (λ e. h.0 (sym c.answer ∙ refused_answer wrote r e), λ f. answer_refused wrote r (c.answer ∙ h.1 f))
 
   -- a refusal leaves the output
-  pub rehearse_refused_silent : {n : ℕ} → r ≡ filling.Refused n → o' ≡ o
+  pub rehearse_refused_silent : {n : ℕ} → RefusedWith r n → o' ≡ o
   unfolding output_after
-  rehearse_refused_silent e = c.output ∙ rw ((rehearse_fits s N m (length o)).none _ (sym c.answer ∙ ap filling_answer e))
+  rehearse_refused_silent e = c.output ∙ rw ((rehearse_fits s N m (length o)).none _ (sym c.answer ∙ refused_answer wrote r e))
 
-  module _ {n : ℕ} (e : r ≡ filling.Written n) where
+  module _ {n : ℕ} (e : r ≡ Ok n) where
     told : (rehearse s N m (length o)).answer ≡ result (wrote n)
     told = sym c.answer ∙ ap filling_answer e
 

@@ -1,4 +1,7 @@
 -- The short way, SPECIFICATION 9.10: a pair that passes unsplit is answered, and no answer but 22 is other than by combinations alone.
+use Rattle.demands.specs.Refusals.{RefusedWith}
+use Rattle.meaning.specs.declared.refusals.Refusal.{Refusal}
+use Rattle.std.specs.Prelude.{Ok, Result}
 use Prim.Native.Nat.{◌≤◌, suc, zero, ℕ}
 use mathlib.Core.Bool.{Bool, ◌&&◌, ◌||◌, cond, false, not, true}
 use mathlib.Core.List.{List}
@@ -8,11 +11,11 @@ use lib.ListN.{length}
 use borrow.Author.Tests.{le-ltb}
 use Rattle.containment.specs.Verdicts.{CompliancePost}
 use Rattle.demands.proofs.Comparisons.{equal_iff_uncrowded}
-use Rattle.demands.proofs.Refusals.{verdict_refused}
+use Rattle.demands.proofs.Refusals.{answer_refused}
 use Rattle.demands.proofs.Verdicts.{compliant_iff_uncrowded, is_compliant}
 use Rattle.demands.specs.Splitting.{split_compliance, split_equality}
 use Rattle.equality.specs.Comparisons.{EqualityPost}
-use Rattle.meaning.specs.Answers.{ComparisonResult, VerdictResult, comparison_answer, compliant, refused, result, verdict_answer}
+use Rattle.meaning.specs.Answers.{ComparisonResult, VerdictResult, comparison_answer, compliant, refused, result, verdict_answer, verdict_of}
 use Rattle.meaning.specs.Containment.{crowded, short_way, too_many}
 use Rattle.meaning.specs.Limits.{work_size}
 use Rattle.meaning.specs.Operations.{Outcome, compliance, compliance_of, equality, equality_of, input_refusal, output_after, refuses, unless}
@@ -31,16 +34,16 @@ use Rattle.theory.proofs.ShortWay.{resolve_decide, short_agrees, short_contained
 
 module _ {v p q w w' o o' : List ℕ} where
   -- a pair that passes unsplit is answered "compliant", whatever its number of combinations
-  pub short_compliant : {r : Verdict} → CompliancePost v p q w w' o o' r → input_refusal v p q ≡ 0 → work_size ≤ length w →
-      short_way (vocabulary_of v) (policy_of p) (policy_of q) ≡ true → r ≡ verdict.Compliant
+  pub short_compliant : {r : Result Verdict Refusal} → CompliancePost v p q w w' o o' r → input_refusal v p q ≡ 0 → work_size ≤ length w →
+      short_way (vocabulary_of v) (policy_of p) (policy_of q) ≡ true → r ≡ Ok verdict.Compliant
   short_compliant c a full e =
       let K = vocabulary_of v in
       let free = short_uncrowded K (policy_of p) (policy_of q) e in
       (compliant_iff_uncrowded c (record { accepted = a; full = full; free = free })).1 (λ x. contained_not_apart (short_contained K (policy_of p) (policy_of q) e) x)
 
   -- one that passes so in both directions is answered "equal"
-  pub short_equal : {r : Comparison} → EqualityPost v p q w w' o o' r → input_refusal v p q ≡ 0 → work_size ≤ length w →
-      short_way (vocabulary_of v) (policy_of p) (policy_of q) ≡ true → short_way (vocabulary_of v) (policy_of q) (policy_of p) ≡ true → r ≡ comparison.Equal
+  pub short_equal : {r : Result Comparison Refusal} → EqualityPost v p q w w' o o' r → input_refusal v p q ≡ 0 → work_size ≤ length w →
+      short_way (vocabulary_of v) (policy_of p) (policy_of q) ≡ true → short_way (vocabulary_of v) (policy_of q) (policy_of p) ≡ true → r ≡ Ok comparison.Equal
   short_equal c a full e f =
       let K = vocabulary_of v in
       let P = policy_of p in
@@ -49,11 +52,11 @@ module _ {v p q w w' o o' : List ℕ} where
       (⊎_elim (λ x. contained_not_apart (short_contained K P Q e) x) (λ x. contained_not_apart (short_contained K Q P f) x))
 
   -- 22 is considered where the short way fails: then a possible term with too many combinations is answered 22
-  pub crowded_refused : {r : Verdict} → CompliancePost v p q w w' o o' r → input_refusal v p q ≡ 0 → work_size ≤ length w →
-      short_way (vocabulary_of v) (policy_of p) (policy_of q) ≡ false → too_many (vocabulary_of v) (policy_of p) (policy_of q) ≡ true → r ≡ verdict.Refused 22
+  pub crowded_refused : {r : Result Verdict Refusal} → CompliancePost v p q w w' o o' r → input_refusal v p q ≡ 0 → work_size ≤ length w →
+      short_way (vocabulary_of v) (policy_of p) (policy_of q) ≡ false → too_many (vocabulary_of v) (policy_of p) (policy_of q) ≡ true → RefusedWith r 22
   unfolding compliance compliance_of
   crowded_refused {r = r} c a full e many =
-      verdict_refused r (c.answer ∙ rw (a, le-ltb (length w) work_size full, split_crowded (vocabulary_of v) (policy_of p) (policy_of q) e, many))
+      answer_refused verdict_of r (c.answer ∙ rw (a, le-ltb (length w) work_size full, split_crowded (vocabulary_of v) (policy_of p) (policy_of q) e, many))
 
 -- ---- the definitions: the outcome is that of combinations alone, or that is 22 and the short way succeeds
 
@@ -126,7 +129,7 @@ module _ (v p q : List ℕ) (w o : ℕ) where
 
 -- ---- the contracts
 
-module _ {v p q w w' o o' : List ℕ} {r : Verdict} (c : CompliancePost v p q w w' o o' r) where
+module _ {v p q w w' o o' : List ℕ} {r : Result Verdict Refusal} (c : CompliancePost v p q w w' o o' r) where
   -- wherever the combinations alone do not give 22 the two agree: the answer, with its s and q, and the words written
   pub split_agrees : ((split_compliance v p q (length w) (length o)).answer ≡ refused 22 → ⊥) →
       (verdict_answer r ≡ (split_compliance v p q (length w) (length o)).answer) × (o' ≡ output_after (split_compliance v p q (length w) (length o)).words o)
@@ -134,12 +137,12 @@ module _ {v p q w w' o o' : List ℕ} {r : Verdict} (c : CompliancePost v p q w 
 
   -- the answer is another only where the combinations alone give 22 and the short way succeeds, and then it is "compliant"
   pub only_22_changed : (verdict_answer r ≡ (split_compliance v p q (length w) (length o)).answer → ⊥) →
-      ((split_compliance v p q (length w) (length o)).answer ≡ refused 22) × (short_way (vocabulary_of v) (policy_of p) (policy_of q) ≡ true) × (r ≡ verdict.Compliant)
+      ((split_compliance v p q (length w) (length o)).answer ≡ refused 22) × (short_way (vocabulary_of v) (policy_of p) (policy_of q) ≡ true) × (r ≡ Ok verdict.Compliant)
   only_22_changed h =
       ⊎_elim (λ e. absurd (h (c.answer ∙ ap (λ (x : Outcome VerdictResult). x.answer) e))) (λ x. (x.0, x.1, is_compliant r (c.answer ∙ x.2)))
       (compliance_22 v p q (length w) (length o))
 
-module _ {v p q w w' o o' : List ℕ} {r : Comparison} (c : EqualityPost v p q w w' o o' r) where
+module _ {v p q w w' o o' : List ℕ} {r : Result Comparison Refusal} (c : EqualityPost v p q w w' o o' r) where
   -- wherever the combinations alone do not give 22 the two agree
   pub split_equality_agrees : ((split_equality v p q (length w) (length o)).answer ≡ refused 22 → ⊥) →
       (comparison_answer r ≡ (split_equality v p q (length w) (length o)).answer) × (o' ≡ output_after (split_equality v p q (length w) (length o)).words o)

@@ -1,4 +1,7 @@
 -- Demand 1 of Spell, and what it promises, as theorems about its contract.
+use Rattle.demands.proofs.Refusals.{refused_answer, answer_refused}
+use Rattle.meaning.specs.declared.refusals.Refusal.{Refusal}
+use Rattle.std.specs.Prelude.{Err, Ok, Result}
 use Prim.Native.Nat.{suc, zero, ℕ}
 use mathlib.Core.Bool.{Bool, cond, false, true}
 use mathlib.Core.List.{List, [], ◌∷◌}
@@ -10,22 +13,19 @@ use lib.Seq.{take_at}
 use native.Mathlib.Omega.{arith}
 use Rattle.demands.proofs.Afterwards.{past, result_full, work_cleared, work_full, work_kept, writes_first}
 use Rattle.demands.proofs.Orders.{Follows, answering, follows_here, follows_on, follows_unless, refused_iff, unless_or}
-use Rattle.demands.proofs.Owl.{filling_refused}
-use Rattle.demands.specs.Refusals.{FirstRefusal, spell_order}
+use Rattle.demands.specs.Refusals.{FirstRefusal, spell_order, RefusedWith}
 use Rattle.demands.specs.Slices.{WorkCleared, WritesFirst}
 use Rattle.meaning.specs.Answers.{FillingResult, accepted, equal, filling_answer, refused, result, wrote}
 use Rattle.meaning.specs.Containment.{Indistinct}
 use Rattle.meaning.specs.Lists.{cons, nil}
 use Rattle.meaning.specs.Lists as lists
-use Rattle.meaning.specs.Operations.{Early, Outcome, equality, is_late, output_after, read_policy, refuses, unless, work_refusal}
+use Rattle.meaning.specs.Operations.{Early, Outcome, equality, is_late, output_after, read_policy, refuses, unless, work_refusal, work_after}
 use Rattle.meaning.specs.Policy.{Policy, policy_of, policy_refusal}
 use Rattle.meaning.specs.PolicyWords.{policy_words}
 use Rattle.meaning.specs.Promises.{IsRefusal}
 use Rattle.meaning.specs.Reached.{SamePolicy, SameVocabulary}
 use Rattle.meaning.specs.Records.{or_else}
 use Rattle.meaning.specs.Vocabulary.{vocabulary_of, vocabulary_refusal}
-use Rattle.meaning.specs.declared.Filling.{Filling}
-use Rattle.meaning.specs.declared.Filling.TheVariants as filling
 use Rattle.spelling.proofs.Promises.{Told, one_spelling_equal, refuses_it, spell_accepted, spell_again, spell_equal, spell_fits, spell_found_equal, spell_reordered, spell_read, spell_told, writes_it}
 use Rattle.spelling.specs.Operation.{SpellPost, filed, spell, spell_of}
 use Rattle.spelling.specs.Reordered.{ReorderedTerms}
@@ -64,38 +64,38 @@ silent : {v p : List ℕ} {w o n : ℕ} (r : Outcome FillingResult) → Told v p
 silent r (refuses_it k) e = refl
 silent r (writes_it a b c t l) e = absurd (let z : ◌≡◌ {A = ℕ} 0 1 = cc in omega arith)
 
-filling_written : (r : Filling) {n : ℕ} → filling_answer r ≡ result (wrote n) → r ≡ filling.Written n
-filling_written (filling.Written m) e = cc
-filling_written (filling.Refused m) e = absurd (let z : ◌≡◌ {A = ℕ} 0 1 = cc in omega arith)
+filling_written : (r : Result ℕ Refusal) {n : ℕ} → filling_answer r ≡ result (wrote n) → r ≡ Ok n
+filling_written (Ok m) e = cc
+filling_written (Err x) e = absurd (let z : ◌≡◌ {A = ℕ} 0 1 = cc in omega arith)
 
 -- ---- of the contract
 
-module _ {v p w w' o o' : List ℕ} {r : Filling} (c : SpellPost v p w w' o o' r) where
+module _ {v p w w' o o' : List ℕ} {r : Result ℕ Refusal} (c : SpellPost v p w w' o o' r) where
   -- it refuses n exactly when n is the first refusal in its order
-  pub spell_refused_iff : {n : ℕ} → (r ≡ filling.Refused n) ↔ FirstRefusal n (spell_order v p (length w) (length o))
+  pub spell_refused_iff : {n : ℕ} → (RefusedWith r n) ↔ FirstRefusal n (spell_order v p (length w) (length o))
   spell_refused_iff =
       let h = refused_iff (spell_follows v p (length w) (length o)) in
-      (λ e. h.0 (sym c.answer ∙ ap filling_answer e), λ f. filling_refused r (c.answer ∙ h.1 f))
+      (λ e. h.0 (sym c.answer ∙ refused_answer wrote r e), λ f. answer_refused wrote r (c.answer ∙ h.1 f))
 
   -- a refusal leaves the output
-  pub spell_refused_silent : {n : ℕ} → r ≡ filling.Refused n → o' ≡ o
+  pub spell_refused_silent : {n : ℕ} → RefusedWith r n → o' ≡ o
   unfolding output_after
   spell_refused_silent e =
-      c.output ∙ rw (silent (spell v p (length w) (length o)) (spell_told v p (length w) (length o)) (sym c.answer ∙ ap filling_answer e))
+      c.output ∙ rw (silent (spell v p (length w) (length o)) (spell_told v p (length w) (length o)) (sym c.answer ∙ refused_answer wrote r e))
 
   -- an early one leaves the work slice
-  pub spell_refused_early_work : {n : ℕ} → r ≡ filling.Refused n → Early n → w' ≡ w
-  spell_refused_early_work {n} e l = work_kept (refused n) l (rw e at c.work)
+  pub spell_refused_early_work : {n : ℕ} → RefusedWith r n → Early n → w' ≡ w
+  spell_refused_early_work {n} e l = work_kept (refused n) l (c.work ∙ ap (λ a. work_after a w) (refused_answer wrote r e))
 
   -- 43 and 23 leave the first 16,384 words of the work slice 0, and later ones as they were
-  pub spell_refused_late_work : {n : ℕ} → r ≡ filling.Refused n → is_late n ≡ true → WorkCleared w w'
+  pub spell_refused_late_work : {n : ℕ} → RefusedWith r n → is_late n ≡ true → WorkCleared w w'
   spell_refused_late_work {n} e l =
       let a = past (spell_refused_iff.0 e) (vocabulary_early v) l in
       let b = past a.1 (policy_early v p) l in
       let d = past b.1 (work_early (length w)) l in
-      work_cleared (refused n) l (work_full (length w) d.0) (rw e at c.work)
+      work_cleared (refused n) l (work_full (length w) d.0) (c.work ∙ ap (λ a. work_after a w) (refused_answer wrote r e))
 
-  module _ {n : ℕ} (e : r ≡ filling.Written n) where
+  module _ {n : ℕ} (e : r ≡ Ok n) where
     told : (spell v p (length w) (length o)).answer ≡ result (wrote n)
     told = sym c.answer ∙ ap filling_answer e
 
@@ -129,8 +129,8 @@ module _ {v p w w' o o' : List ℕ} {r : Filling} (c : SpellPost v p w w' o o' r
     spell_written_found_equal = rw first_words (spell_found_equal v p (length w) (length o) n told)
 
     -- the same words are written by every call that the definition answers so
-    same_words : {q w₁ w₂ o₁ o₂ : List ℕ} {s : Filling} → SpellPost v q w₁ w₂ o₁ o₂ s → spell v q (length w₁) (length o₁) ≡ spell v p (length w) (length o) →
-        (s ≡ filling.Written n) × (take n o₂ ≡ take n o')
+    same_words : {q w₁ w₂ o₁ o₂ : List ℕ} {s : Result ℕ Refusal} → SpellPost v q w₁ w₂ o₁ o₂ s → spell v q (length w₁) (length o₁) ≡ spell v p (length w) (length o) →
+        (s ≡ Ok n) × (take n o₂ ≡ take n o')
     unfolding output_after
     same_words {q} {w₁} {o₁ = o₁} {o₂ = o₂} {s = s} d h =
         let a : (spell v q (length w₁) (length o₁)).answer ≡ result (wrote n) = ap (λ (x : Outcome FillingResult). x.answer) h ∙ told in
@@ -140,18 +140,18 @@ module _ {v p w w' o o' : List ℕ} {r : Filling} (c : SpellPost v p w w' o o' r
         )
 
     -- writing it again, with slices of the same lengths, is not refused and writes the same words
-    pub spell_written_again : {w₁ w₂ o₁ o₂ : List ℕ} {s : Filling} → SpellPost v (take n o') w₁ w₂ o₁ o₂ s → length w₁ ≡ length w → length o₁ ≡ length o →
-        (s ≡ filling.Written n) × (take n o₂ ≡ take n o')
+    pub spell_written_again : {w₁ w₂ o₁ o₂ : List ℕ} {s : Result ℕ Refusal} → SpellPost v (take n o') w₁ w₂ o₁ o₂ s → length w₁ ≡ length w → length o₁ ≡ length o →
+        (s ≡ Ok n) × (take n o₂ ≡ take n o')
     spell_written_again d e f = same_words d (rw (e, f, first_words) (spell_again v p (length w) (length o) n told))
 
     -- so does writing a policy with its conjuncts or terms in another order
-    pub spell_written_reordered : {q w₁ w₂ o₁ o₂ : List ℕ} {s : Filling} → SpellPost v q w₁ w₂ o₁ o₂ s → length w₁ ≡ length w → length o₁ ≡ length o →
-        policy_refusal v q ≡ 0 → ReorderedTerms (policy_of p) (policy_of q) → (s ≡ filling.Written n) × (take n o₂ ≡ take n o')
+    pub spell_written_reordered : {q w₁ w₂ o₁ o₂ : List ℕ} {s : Result ℕ Refusal} → SpellPost v q w₁ w₂ o₁ o₂ s → length w₁ ≡ length w → length o₁ ≡ length o →
+        policy_refusal v q ≡ 0 → ReorderedTerms (policy_of p) (policy_of q) → (s ≡ Ok n) × (take n o₂ ≡ take n o')
     spell_written_reordered {q} d e f a m =
         same_words d (rw (e, f) (sym (spell_reordered v p q (length w) (length o) (spell_read v p (length w) (length o) n told) a m)))
 
     -- and two policies with one spelling are equal
-    pub spell_written_one : {q w₁ w₂ o₁ o₂ : List ℕ} {s : Filling} {m : ℕ} (d : SpellPost v q w₁ w₂ o₁ o₂ s) → s ≡ filling.Written m → take m o₂ ≡ take n o' →
+    pub spell_written_one : {q w₁ w₂ o₁ o₂ : List ℕ} {s : Result ℕ Refusal} {m : ℕ} (d : SpellPost v q w₁ w₂ o₁ o₂ s) → s ≡ Ok m → take m o₂ ≡ take n o' →
         Indistinct (vocabulary_of v) (policy_of p) (policy_of q)
     unfolding output_after
     spell_written_one {q} {w₁} {o₁ = o₁} {m = m} d f h =

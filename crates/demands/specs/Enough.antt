@@ -1,5 +1,6 @@
 -- When Compliance and Equality answer: what is within the limits, where 22 is not given, and what is long enough.
-use Rattle.std.specs.Prelude.{◌≤◌, ℕ, false, List, ◌≡◌, length}
+use Rattle.meaning.specs.declared.refusals.Refusal.{Refusal}
+use Rattle.std.specs.Prelude.{◌≤◌, ℕ, false, List, ◌≡◌, length, Result}
 use Rattle.meaning.specs.Answers.{comparison_answer, verdict_answer}
 use Rattle.meaning.specs.Containment.{Decision, contained, crowded, escapes, resolve, too_many}
 use Rattle.meaning.specs.Countermodel.{countermodel}
@@ -12,11 +13,11 @@ use Rattle.meaning.specs.declared.Comparison.{Comparison}
 use Rattle.meaning.specs.declared.Verdict.{Verdict}
 
 -- a verdict that is no refusal
-abbrev pub Answers : Verdict → Type 0
+abbrev pub Answers : Result Verdict Refusal → Type 0
 Answers r = IsRefusal (verdict_answer r) → ⊥
 
 -- a comparison that is no refusal
-abbrev pub Compares : Comparison → Type 0
+abbrev pub Compares : Result Comparison Refusal → Type 0
 Compares r = IsRefusal (comparison_answer r) → ⊥
 
 -- the output has as many words as the countermodel to be reported takes; where there is none, what follows has to be

@@ -1,6 +1,8 @@
 -- The order of refusals, operation by operation (SPECIFICATION 9.2 to 9.8 and 9.12 to 9.14): a list of numbers, each 0 where its condition does
 -- not hold.
-use Rattle.std.specs.Prelude.{ℕ, Bool, ◌||◌, cond, true, List, [], ◌∷◌, ◌≡◌, leb, length}
+use Rattle.meaning.specs.Refusals.{refusal_number}
+use Rattle.meaning.specs.declared.refusals.Refusal.{Refusal}
+use Rattle.std.specs.Prelude.{ℕ, Bool, ◌||◌, cond, true, List, [], ◌∷◌, ◌≡◌, leb, length, Err, Result}
 use Rattle.declarations.specs.Names.{declared_well}
 use Rattle.declarations.specs.Passes.{list_of}
 use Rattle.meaning.specs.Containment.{Decision, contained, crowded, escapes, resolve}
@@ -16,6 +18,12 @@ use Rattle.owl.specs.Owl.{owl_words, parsed_of, vocabulary_in}
 use Rattle.rehearsal.specs.Load.{load, load_refusal}
 use Rattle.spelling.specs.Spelling.{spelled, too_long}
 use Rattle.statements.specs.Forms.{Parsed, parsed, wrong}
+
+-- the answer is the refusal with this number
+pub record RefusedWith {A : Type 0} (r : Result A Refusal) (n : ℕ) : Type 0 where
+  pub refusal : Refusal
+  pub given : r ≡ Err refusal
+  pub number : refusal_number refusal ≡ n
 
 -- n is the first of the numbers that is not 0
 pub data FirstRefusal (n : ℕ) : List ℕ → Type 0 where
