@@ -70,37 +70,37 @@ module _ {words others : List ℕ} {x : ℕ} (m : Meeting words others x) where
       pub meeting_falls : length (members_from words y) < length (members_from words x)
       meeting_falls = rw (from_more words x n, p) (omega arith)
 
--- ---- a loop that puts the others in has come to i
+-- ---- a loop that puts the others in has come to number i
 
 pub record Filling (named : List ℕ) (n : ℕ) (w₀ : List ℕ) (i : ℕ) (w : List ℕ) : Type 0 where
-  pub within : i ≤ n
-  pub same : including_all w (filter (λ x. not (in_set named x)) (counting (i + 1) (n - i))) ≡ including_all w₀ (others_of named n)
+  pub within : i ≤ n + 1
+  pub same : including_all w (filter (λ x. not (in_set named x)) (counting i (n + 1 - i))) ≡ including_all w₀ (others_of named n)
 
-pub filling_starts : (named : List ℕ) (n : ℕ) (w : List ℕ) → Filling named n w 0 w
+pub filling_starts : (named : List ℕ) (n : ℕ) (w : List ℕ) → Filling named n w 1 w
 unfolding others_of
-filling_starts named n w = let e : n - 0 ≡ n = omega arith in record { within = omega arith; same = rw e }
+filling_starts named n w = let e : n + 1 - 1 ≡ n = omega arith in record { within = omega arith; same = rw e }
 
 module _ {named w₀ w : List ℕ} {n i : ℕ} (f : Filling named n w₀ i w) where
-  pub filling_ends : n ≤ i → w ≡ including_all w₀ (others_of named n)
+  pub filling_ends : n < i → w ≡ including_all w₀ (others_of named n)
   unfolding including_all
-  filling_ends h = let e : n - i ≡ 0 = omega arith in rw e at f.same
+  filling_ends h = let e : n + 1 - i ≡ 0 = omega arith in rw e at f.same
 
-  module _ (h : i < n) {t : Bool} (e : t ≡ in_set named (i + 1)) where
+  module _ (h : i ≤ n) {t : Bool} (e : t ≡ in_set named i) where
     rest : List ℕ
-    rest = filter (λ x. not (in_set named x)) (counting (i + 1 + 1) (n - (i + 1)))
+    rest = filter (λ x. not (in_set named x)) (counting (i + 1) (n + 1 - (i + 1)))
 
-    next : including_all w (cond (not t) ((i + 1) ∷ rest) rest) ≡ including_all w₀ (others_of named n)
+    next : including_all w (cond (not t) (i ∷ rest) rest) ≡ including_all w₀ (others_of named n)
     unfolding rest
     next =
-        let z : n - i ≡ suc (n - (i + 1)) = omega arith in
-        let y : i + 1 + 1 ≡ suc (i + 1) = omega arith in
-        rw (e, y) (rw z at f.same)
+        let z : n + 1 - i ≡ suc (n + 1 - (i + 1)) = omega arith in
+        let y : i + 1 ≡ suc i = omega arith in
+        rw (e, y) (rw (z, y) at f.same)
 
     pub filling_has : t ≡ true → Filling named n w₀ (i + 1) w
     unfolding rest
     filling_has g = record { within = omega arith; same = rw g at next }
 
-    pub filling_more : t ≡ false → {x : List ℕ} → x ≡ including w (i + 1) → Filling named n w₀ (i + 1) x
+    pub filling_more : t ≡ false → {x : List ℕ} → x ≡ including w i → Filling named n w₀ (i + 1) x
     unfolding rest including_all
     filling_more g p = record { within = omega arith; same = rw p (rw g at next) }
 

@@ -44,18 +44,17 @@ pub fn insert(words: &mut [u32], x: u32)
     if words.len() <= at {
         return;
     }
-    words[at] = words[at] | 1 << (x - 1) % 32;
+    words[at] |= 1 << (x - 1) % 32;
 }
 
 // Puts those of the numbers 1 to n into the set that another set lacks.
 pub fn insert_others(words: &mut [u32], named: &[u32], n: u32)
     ensures { words.new ≡ including_all words.old (others_of named.now n) }
 {
-    for i in 0..n {
-        if has(named, i + 1) {
-            continue;
+    for x in 1..=n {
+        if !has(named, x) {
+            insert(words, x);
         }
-        insert(words, i + 1);
     }
 }
 
@@ -65,8 +64,8 @@ pub fn count(words: &[u32]) -> u32
     ensures { result ≡ length (members words.now) }
 {
     let mut n: u32 = 0;
-    for i in 0..words.len() {
-        n += u32::count_ones(words[i]);
+    for word in words {
+        n += word.count_ones();
     }
     n
 }
@@ -149,6 +148,7 @@ impl ClassSet {
         ensures words_value { result.words ≡ union_of self.words other.words }
         ensures by_index { (d : ℕ) → in_set result.words d ≡ in_set self.words d || in_set other.words d }
     {
+        // By index: the words of both sets stand side by side, and the proof of a zip is longer.
         let mut words = [0; ClassSet::WORDS];
         for i in 0..ClassSet::WORDS {
             words[i] = self.words[i] | other.words[i];
@@ -160,6 +160,7 @@ impl ClassSet {
     pub fn covers(self, other: ClassSet) -> bool
         ensures { (result ≡ true) ↔ (union_of self.words other.words ≡ self.words) }
     {
+        // By index, as in union.
         let mut same = true;
         for i in 0..ClassSet::WORDS {
             same = same & (self.words[i] | other.words[i] == self.words[i]);
@@ -186,10 +187,9 @@ impl ClassSet {
         requires { at + class_words ≤ length words.now }
         ensures { result.words ≡ row_at class_words words.now at }
     {
+        let end = at + ClassSet::WORDS;
         let mut row = [0; ClassSet::WORDS];
-        for i in 0..ClassSet::WORDS {
-            row[i] = words[at + i];
-        }
+        row.copy_from_slice(&words[at..end]);
         ClassSet { words: row }
     }
 
@@ -198,9 +198,8 @@ impl ClassSet {
         requires { at + class_words ≤ length words.old }
         ensures { words.new ≡ put_at words.old at self.words }
     {
-        for i in 0..ClassSet::WORDS {
-            words[at + i] = self.words[i];
-        }
+        let end = at + ClassSet::WORDS;
+        words[at..end].copy_from_slice(&self.words);
     }
 
     // Whether class c is in the set at a place of a slice.
