@@ -1,9 +1,10 @@
 -- Laws of what the records of a vocabulary ask: tests of one after another, and what the facts obey.
 use Prim.Native.Nat.{◌+◌, ◌-◌, ◌<◌, ◌≤◌, suc, zero, ℕ}
-use mathlib.Core.Bool.{Bool, cond, false, not, true}
+use mathlib.Core.Bool.{Bool, ◌&&◌, cond, false, not, true}
 use mathlib.Core.List.{List, [], ◌∷◌}
 use mathlib.Core.Logic.{◌↔◌}
-use mathlib.Core.Path.{◌∙◌, ◌≡◌, refl, sym}
+use mathlib.Core.Path.{◌∙◌, ◌≡◌, ap, refl, sym}
+use Rattle.std.specs.List.{list_all, range_with_len}
 use lib.Dec.{T, T_not, eqb, not_T}
 use native.Mathlib.Numerals.{add-one}
 use native.Mathlib.Omega.{arith}
@@ -39,6 +40,11 @@ module _ {A : Type 0} (p : A → Bool) (x : A) {b c : Bool} (e : c ≡ p x) (l :
 
   pub all_on : not c ≡ false → b ≡ all p l
   all_on n = h ∙ rw (← e, not-false c n)
+
+-- numbers from 1 on, each one behind those of a range
+pub all_counted : (f : ℕ → Bool) (k n : ℕ) → list_all (λ i. f (i + 1)) (range_with_len k n) ≡ all f (counting (suc k) n)
+all_counted f k zero = refl
+all_counted f k (suc n) = rw add-one (ap (λ (b : Bool). f (suc k) && b) (all_counted f (suc k) n))
 
 -- a loop over 1 to n that has come past i: what holds of those that are left
 pub record Counting (T : List ℕ → Type 0) (n i : ℕ) : Type 0 where
