@@ -46,10 +46,8 @@ fn begin(work: &mut [u32], n: u32)
     requires { n * class_words ≤ length work.old }
     ensures { work.new ≡ begun n work.old }
 {
-    for i in 0..n {
-        ClassSet::new()
-            .with(ClassNo(i + 1))
-            .store(work, row_at(i + 1));
+    for c in 1..=n {
+        ClassSet::new().with(ClassNo(c)).store(work, row_at(c));
     }
 }
 
@@ -75,6 +73,7 @@ fn pass(v: &[u32], work: &mut [u32]) -> bool
 {
     let mut grown = false;
     let mut k = first_axiom(v);
+    // The chain of records ends at 0, which a record's own word says.
     while k != 0 {
         if lift(v, work, k) {
             grown = true;
@@ -85,6 +84,7 @@ fn pass(v: &[u32], work: &mut [u32]) -> bool
 }
 
 // A head for each class, and a next for each record that a vocabulary may have: both count from 1.
+// 0 is none, as it ends the records' chain: an Option would take twice the stack.
 const HEADS: usize = MOST_CLASSES as usize + 1;
 
 const NEXTS: usize = MOST_AXIOMS + 1;
@@ -144,8 +144,8 @@ fn raise_all(v: &[u32], work: &mut [u32])
     let mut heads = [0; HEADS];
     let mut next = [0; NEXTS];
     index(v, &mut heads, &mut next);
-    for i in 0..class_count(v) {
-        raise(v, work, &mut heads, &next, i + 1);
+    for c in 1..=class_count(v) {
+        raise(v, work, &mut heads, &next, c);
     }
 }
 
@@ -174,8 +174,8 @@ fn empty_ranges(work: &mut [u32], n: u32)
     requires { (n ≤ most_roles) × (role_row n * class_words ≤ length work.old) }
     ensures { work.new ≡ emptied n work.old }
 {
-    for i in 0..n {
-        ClassSet::new().store(work, row_at(ROLE_ROWS + (i + 1)));
+    for r in 1..=n {
+        ClassSet::new().store(work, row_at(ROLE_ROWS + r));
     }
 }
 

@@ -5,14 +5,14 @@ use mathlib.Core.List.{List, []}
 use mathlib.Core.Logic.{inl, inr}
 use mathlib.Core.Path.{◌∙◌, ◌≡◌, ap, refl, sym}
 use lib.Dec.{eqb, ltb}
-use lib.ListN.{get_or, length, length-set, set}
+use lib.ListN.{length, length-set, set}
 use lib.Seq.{get_or-set_other, get_or-set_same}
 use native.Mathlib.Omega.{arith}
-use borrow.Author.Tests.{eqb-false, eqb-true, le-ltb, lt-ltb, ne_eqb}
+use borrow.Author.Tests.{eqb-false, eqb-true, lt-ltb}
 use Rattle.extension.proofs.Conjuncts.{Cut, cut, inside, no_more, own_depth}
 use Rattle.extension.proofs.Links.{link_same}
-use Rattle.extension.specs.Depths.{AllMeasured, MeasuredFrom, ToppedFrom, height_at, height_of, is_due, own_height}
-use Rattle.extension.specs.Sets.{Charted, Linked, Sized, onward}
+use Rattle.extension.specs.Depths.{AllMeasured, MeasuredFrom, ToppedFrom, height_at, height_of, own_height}
+use Rattle.extension.specs.Sets.{Charted, Sized, onward}
 use Rattle.frames.proofs.Frames.{only_none, only_set, only_then}
 use Rattle.frames.specs.Frames.{Only, Span}
 use Rattle.meaning.specs.Accepted.{depth}
@@ -21,33 +21,6 @@ use Rattle.meaning.specs.Policy.{child_of, kind_of, next_of}
 use Rattle.meaning.specs.Records.{Onward, last_of}
 use Rattle.policy.specs.Terms.{conjuncts_at}
 use Rattle.satisfaction.specs.Places.{height_place, heights_at, sets_end}
-
--- ---- by the words of record k
-
-module _ (p w : List ℕ) (k : ℕ) {kind : ℕ} (ek : kind ≡ kind_of p k) where
-  pub height_none : (kind ≡ 3 → ⊥) → 1 ≡ own_height p w k
-  height_none n = rw (← ek, ne_eqb kind 3 n)
-
-  module _ {x l q : ℕ} (e : kind ≡ 3) (ex : x ≡ child_of p k) (el : Linked p k x l) (eq : q ≡ l) where
-    place_is : get_or w (heights_at + q) 0 ≡ height_of w (onward p k (child_of p k))
-    place_is = rw (eq, el.link, ex)
-
-    pub height_more : get_or w (heights_at + q) 0 < most_depth → get_or w (heights_at + q) 0 + 1 ≡ own_height p w k
-    height_more h = rw (← ek, e, ← place_is, lt-ltb (get_or w (heights_at + q) 0) most_depth h)
-
-    pub height_most : most_depth ≤ get_or w (heights_at + q) 0 → most_depth ≡ own_height p w k
-    height_most h = rw (← ek, e, ← place_is, le-ltb (get_or w (heights_at + q) 0) most_depth h)
-
--- whether its turn has come
-module _ (p w : List ℕ) (k n : ℕ) {kind : ℕ} (ek : kind ≡ kind_of p k) where
-  pub due_none : (kind ≡ 3 → ⊥) → false ≡ is_due p w k n
-  due_none z = rw (← ek, ne_eqb kind 3 z)
-
-  pub due_told : {x l q : ℕ} → kind ≡ 3 → x ≡ child_of p k → Linked p k x l → q ≡ l → eqb (get_or w (heights_at + q) 0) n ≡ is_due p w k n
-  due_told e ex el eq = rw (eq, el.link, ex, ← ek, e)
-
-pub height_whole : (p w : List ℕ) (k : ℕ) {o x l q r : ℕ} → o ≡ own_height p w k → x ≡ next_of p k → Linked p k x l → q ≡ l → r ≡ max o (get_or w (heights_at + q) 0) → r ≡ height_at p w k
-height_whole p w k eo ex el eq e = e ∙ rw (eo, eq, el.link, ex)
 
 -- ---- what is reached
 

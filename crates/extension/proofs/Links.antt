@@ -7,7 +7,7 @@ use mathlib.Core.Path.{◌∙◌, ◌≡◌, subst, sym}
 use lib.Dec.{ltb}
 use native.Mathlib.Omega.{arith}
 use borrow.Author.Tests.{le-leb, le-ltb, lt-leb, lt-ltb}
-use Rattle.extension.specs.Sets.{Linked, Sized, onward}
+use Rattle.extension.specs.Sets.{onward}
 use Rattle.meaning.specs.Records.{Onward, last_of}
 use Rattle.theory.proofs.Rules.{order}
 
@@ -20,16 +20,6 @@ module _ (p : List ℕ) (k x : ℕ) where
 
   on : k < x → x ≤ last_of 6 p → x ≡ onward p k x
   on h l = rw (lt-ltb k x h, le-leb x (last_of 6 p) l)
-
-  pub link_back : x ≤ k → Linked p k x 0
-  link_back h = record { link = back h; few = omega arith }
-
-  module _ {n : ℕ} (e : n ≡ last_of 6 p) where
-    pub link_past : n < x → Linked p k x 0
-    link_past h = record { link = past (omega arith); few = omega arith }
-
-    pub link_on : Sized p → k < x → x ≤ n → Linked p k x x
-    link_on s h l = record { link = on h (omega arith); few = let f = s.few in omega arith }
 
   -- a link of a record that is reached
   pub link_same : Onward (last_of 6 p) k x → onward p k x ≡ x

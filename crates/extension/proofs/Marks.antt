@@ -1,5 +1,5 @@
 -- Laws of the records that are put into the individuals' sets first: those of classes, one individual after another.
-use Prim.Native.Nat.{◌*◌, ◌+◌, ◌<◌, ◌≤◌, ℕ}
+use Prim.Native.Nat.{◌*◌, ◌+◌, ◌-◌, ◌<◌, ◌≤◌, suc, ℕ}
 use mathlib.Core.Bool.{Bool, ◌&&◌, ◌||◌, and-false, cond, false, or-false, true}
 use mathlib.Core.List.{List, [], ◌∷◌}
 use mathlib.Core.Path.{◌∙◌, ◌≡◌, refl, subst, sym}
@@ -18,7 +18,7 @@ use Rattle.meaning.specs.Records.{Name, last_of}
 use Rattle.model.specs.Chain.{Readable}
 use Rattle.satisfaction.proofs.Rows.{none_in}
 use Rattle.satisfaction.specs.Classes.{Interpreted}
-use Rattle.satisfaction.specs.Places.{classes_of, heights_at, put_in, record_words, records_of, set_place, sets_at}
+use Rattle.satisfaction.specs.Places.{heights_at, record_words, records_of, set_place, sets_at}
 use Rattle.spans.proofs.Joining.{at_set}
 use Rattle.spans.proofs.Rows.{row_inside, row_put, shuffle}
 use Rattle.spans.specs.Values.{ValuesMarked, valued}
@@ -27,14 +27,26 @@ use Rattle.theory.proofs.Refusals.{cond_all}
 use Rattle.theory.proofs.Rules.{T_and, and_T, any_at, any_in, any_out, at_any, same_test}
 use Rattle.words.specs.Sets.{in_set}
 
--- ---- put in or not, by the test b
+-- ---- one number after another
 
-module _ (p w : List ℕ) (k i : ℕ) {a : ℕ} {b : Bool} (ea : a ≡ name_of p k) (e : b ≡ in_set (classes_of w i) a) where
-  pub not_member : b ≡ false → w ≡ marked_member p k w i
-  not_member h = rw (← ea, ← e, h)
+-- a loop over 1 to n that comes to i: what holds of those that are left
+pub record Counting (T : List ℕ → Type 0) (n i : ℕ) : Type 0 where
+  pub bound : i ≤ n + 1
+  pub holds : T (counting i (n + 1 - i))
 
-  pub member_one : {at : ℕ} {w' : List ℕ} → b ≡ true → at ≡ set_place i → w' ≡ put_in record_words w at k → w' ≡ marked_member p k w i
-  member_one h ep d = d ∙ rw (← ea, ← e, h, ep)
+module _ {T : List ℕ → Type 0} {n : ℕ} where
+  pub counting_starts : T (counting 1 n) → Counting T n 1
+  counting_starts h = let e : n + 1 - 1 ≡ n = omega arith in record { bound = omega arith; holds = rw e h }
+
+  module _ {i : ℕ} (t : Counting T n i) where
+    pub counting_ends : n < i → T []
+    counting_ends h = let e : n + 1 - i ≡ 0 = omega arith in rw e at t.holds
+
+    pub counting_on : {U : List ℕ → Type 0} → i ≤ n → ((l : List ℕ) → T (i ∷ l) → U l) → Counting U n (i + 1)
+    counting_on h f =
+        let e : n + 1 - i ≡ suc (n + 1 - suc i) = omega arith in
+        let z : i + 1 ≡ suc i = omega arith in
+        rw z (record { bound = omega arith; holds = f (counting (suc i) (n + 1 - suc i)) (rw e at t.holds) })
 
 -- ---- the individuals, one after another
 
@@ -93,15 +105,6 @@ module _ (p m : List ℕ) (k : ℕ) where
       off : (d j : ℕ) → Name most_individuals d → (j ≡ k → ⊥) → (b : Bool) → in_set (records_of (cond b (marked w k i) w) d) j ≡ in_set (records_of w d) j
       off d j nd h true = put d j nd ∙ rw (ne_eqb j k h, and-false (eqb d i))
       off d j nd h false = refl
-
--- ---- by the kind of the record
-
-module _ (p m : List ℕ) {k kind : ℕ} (ek : kind ≡ kind_of p k) where
-  pub class_marked : {w w' : List ℕ} → kind ≡ 1 → MembersMarked p m k w w' → ClassMarked p m k w w'
-  class_marked e t = record { only = t.only; marks = λ i n. t.marks i n ∙ rw (← ek, e); others = t.others }
-
-  pub class_none : (w : List ℕ) → (kind ≡ 1 → ⊥) → ClassMarked p m k w w
-  class_none w h = record { only = only_none; marks = λ i n. rw (← ek, ne_eqb kind 1 h) (sym (or-false (in_set (records_of w i) k))); others = λ i j n z. refl }
 
 -- ---- all records
 

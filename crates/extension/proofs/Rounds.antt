@@ -1,5 +1,5 @@
 -- Laws of the rounds: after each the records that wait no longer are right.
-use Prim.Native.Nat.{◌+◌, ◌<◌, ◌≤◌, suc, ℕ}
+use Prim.Native.Nat.{◌+◌, ◌<◌, ◌≤◌, suc, zero, ℕ}
 use mathlib.Core.Bool.{Bool, ◌&&◌, ◌||◌, and_comm, and-false, cond, false, or-false, true}
 use mathlib.Core.List.{List, []}
 use mathlib.Core.Logic.{inl, inr, ⊎_elim}
@@ -28,6 +28,7 @@ use Rattle.satisfaction.proofs.Facts.{by_kind}
 use Rattle.satisfaction.specs.Classes.{Interpreted, owner_of}
 use Rattle.satisfaction.specs.Places.{height_place, record_words, records_of, set_place}
 use Rattle.spans.proofs.Joining.{any_stated, never}
+use Rattle.std.specs.List.{list_any, range_with_len}
 use Rattle.theory.proofs.Links.{tests}
 use Rattle.theory.proofs.Rules.{order}
 use Rattle.words.proofs.Laws.{named_within}
@@ -101,15 +102,19 @@ module _ {p m w c : List ℕ} {n : ℕ} (s : Settled p m n w) (x : AllFilled p m
 
 -- ---- one round
 
-pub undue_starts : {p w : List ℕ} {n : ℕ} → NoneDueTo p w n 0
-undue_starts = record { undue = λ k q. absurd (omega arith) }
-
-pub undue_on : {p w : List ℕ} {n l : ℕ} {b : Bool} → NoneDueTo p w n l → b ≡ is_due p w (l + 1) n → b ≡ false → NoneDueTo p w n (l + 1)
-undue_on {p} {w} {n} {l} t e h = record { undue = λ k q. go k q (eqb k (l + 1)) refl }
+-- records from 1 on, each one behind a number of a range, of which none passes
+none_passes : (f : ℕ → Bool) (k n : ℕ) → list_any (λ i. f (i + 1)) (range_with_len k n) ≡ false → (i : ℕ) → k < i → i ≤ k + n → f i ≡ false
+none_passes f k zero h i a b = absurd (omega arith)
+none_passes f k (suc n) h i a b = go (λ g c. none_passes f (k + 1) n g i c (omega arith)) (f (k + 1)) refl h (eqb i (k + 1)) refl
   where
-    go : (k : ℕ) → Name (l + 1) k → (b : Bool) → eqb k (l + 1) ≡ b → is_due p w k n ≡ false
-    go k q true g = let s = eqb-true k (l + 1) g in rw s (sym e ∙ h)
-    go k q false g = let s = eqb-false k (l + 1) g in t.undue k (omega arith)
+    go : (list_any (λ i. f (i + 1)) (range_with_len (k + 1) n) ≡ false → k + 1 < i → f i ≡ false) → (t : Bool) → f (k + 1) ≡ t →
+        t || list_any (λ i. f (i + 1)) (range_with_len (k + 1) n) ≡ false → (e : Bool) → eqb i (k + 1) ≡ e → f i ≡ false
+    go rest true d g e z = absurd (let y : ◌≡◌ {A = ℕ} 0 1 = cc in omega arith)
+    go rest false d g true z = let s = eqb-true i (k + 1) z in rw s d
+    go rest false d g false z = let s = eqb-false i (k + 1) z in rest g (omega arith)
+
+pub undue_all : {p w : List ℕ} {n last : ℕ} {b : Bool} → b ≡ list_any (λ k. is_due p w (k + 1) n) (range_with_len 0 last) → b ≡ false → NoneDueTo p w n last
+undue_all {p} {w} {n} {last} e h = record { undue = λ k q. none_passes (λ k. is_due p w k n) 0 last (sym e ∙ h) k q.0 (omega arith) }
 
 module _ {p m w : List ℕ} {n : ℕ} (s : Settled p m n w) where
   pub settled_none : NoneDueTo p w n (last_of 6 p) → Settled p m (n + 1) w

@@ -65,17 +65,12 @@ fn last_record(p: &[u32]) -> u32
 }
 
 // Record k's link x where it goes onward, else 0. Links of records that nothing reaches may lead anywhere.
+// 0 stands for none as in the words, and the table of depths has an entry for it, so that no test comes before a look.
 fn link_of(p: &[u32], k: u32, x: u32) -> u32
     requires { Sized p.now }
     ensures { Linked p.now k x result }
 {
-    if x <= k {
-        return 0;
-    }
-    if last_record(p) < x {
-        return 0;
-    }
-    x
+    if k < x && x <= last_record(p) { x } else { 0 }
 }
 
 // Puts record k into the set of individual i, where i is in the record's class.
@@ -93,9 +88,8 @@ fn mark_all_members(p: &[u32], m: &[u32], work: &mut [u32], k: u32)
     requires { Name most_records k × Interpreted m.now work.old }
     ensures { MembersMarked p.now m.now k work.old work.new }
 {
-    let n = individual_count(m);
-    for i in 0..n {
-        mark_member(p, work, k, i + 1);
+    for i in 1..=individual_count(m) {
+        mark_member(p, work, k, i);
     }
 }
 
@@ -117,15 +111,9 @@ fn mark_all(p: &[u32], m: &[u32], work: &mut [u32], columns: &mut [u32])
     clear(work, SETS, place(individual_count(m)) * SET_WORDS);
     let last = last_record(p);
     mark_values(p, m, work, columns, last);
-    for k in 0..last {
-        mark_class(p, m, work, k + 1);
+    for k in 1..=last {
+        mark_class(p, m, work, k);
     }
-}
-
-fn greater(a: u32, b: u32) -> u32
-    ensures { result ≡ max a b }
-{
-    if a < b { b } else { a }
 }
 
 // How deep the conjunct at record k is: one deeper than the chain below it, where it is a role's. What is past the most is not reached.
@@ -151,7 +139,7 @@ fn height(p: &[u32], work: &[u32], k: u32) -> u32
 {
     let own = own_height(p, work, k);
     let rest = work[HEIGHTS + place(link_of(p, k, next_of(p, k)))];
-    greater(own, rest)
+    own.max(rest)
 }
 
 // How deep the chain from each record on is, from the last record to the first, and how deep the deepest.
@@ -161,12 +149,10 @@ fn measure_all(p: &[u32], work: &mut [u32]) -> u32
 {
     work[HEIGHTS] = 0;
     let mut top: u32 = 0;
-    let mut k = last_record(p);
-    while k != 0 {
+    for k in (1..=last_record(p)).rev() {
         let h = height(p, work, k);
         work[HEIGHTS + place(k)] = h;
-        top = greater(top, h);
-        k -= 1;
+        top = top.max(h);
     }
     top
 }
@@ -193,10 +179,7 @@ fn is_due(p: &[u32], work: &[u32], k: u32, n: u32) -> bool
     requires { Sized p.now × (work_size ≤ length work.now) }
     ensures { result ≡ is_due p.now work.now k n }
 {
-    if kind_of(p, k) != 3 {
-        return false;
-    }
-    work[HEIGHTS + place(link_of(p, k, child_of(p, k)))] == n
+    kind_of(p, k) == 3 && work[HEIGHTS + place(link_of(p, k, child_of(p, k)))] == n
 }
 
 // Whether some record's turn has come.
@@ -204,13 +187,7 @@ fn is_any_due(p: &[u32], work: &[u32], n: u32) -> bool
     requires { Sized p.now × (work_size ≤ length work.now) }
     ensures { result ≡ false → NoneDueTo p.now work.now n (last_of 6 p.now) }
 {
-    let last = last_record(p);
-    for k in 0..last {
-        if is_due(p, work, k + 1, n) {
-            return true;
-        }
-    }
-    false
+    (0..last_record(p)).any(|k| is_due(p, work, k + 1, n))
 }
 
 // Puts record k into the column of individual j, where the chain below the record holds of j.
@@ -230,9 +207,8 @@ fn fill_column(p: &[u32], m: &[u32], work: &[u32], columns: &mut [u32], k: u32)
     ensures { ColumnFilled p.now m.now work.now k
         columns.old columns.new }
 {
-    let n = individual_count(m);
-    for j in 0..n {
-        fill_cell(p, work, columns, k, j + 1);
+    for j in 1..=individual_count(m) {
+        fill_cell(p, work, columns, k, j);
     }
 }
 
@@ -266,9 +242,8 @@ fn fill_all(p: &[u32], m: &[u32], work: &[u32], columns: &mut [u32], n: u32)
     ensures { AllFilled p.now m.now work.now n columns.new }
 {
     clear(columns, 0, BELOW + place(individual_count(m)) * SET_WORDS);
-    let last = last_record(p);
-    for k in 0..last {
-        fill(p, m, work, columns, k + 1, n);
+    for k in 1..=last_record(p) {
+        fill(p, m, work, columns, k, n);
     }
 }
 
@@ -301,6 +276,7 @@ fn mark_edges(m: &[u32], work: &mut [u32], columns: &[u32])
     ensures { EdgesMarked m.now columns.now work.old work.new }
 {
     let mut f = first_fact(m);
+    // The chain of facts ends at 0, which a record's own word says; the policy's do too.
     while f != 0 {
         mark_edge(m, work, columns, f);
         f = fact_next(m, f);

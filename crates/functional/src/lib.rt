@@ -1,12 +1,13 @@
 // The functional roles and features of a vocabulary, worked out once a call.
 #![tactic(auto)]
 
-ghost use Rattle.std.specs.Prelude.{ℕ, List, ◌≡◌};
+ghost use Rattle.std.specs.Prelude.{ℕ, List, ◌≡◌, replicate};
 ghost use Rattle.functional.specs.FunctionalNames.{FunctionalNames};
 ghost use Rattle.meaning.specs.Stated.{is_functional_feature, is_functional_role};
 ghost use Rattle.meaning.specs.Vocabulary.{vocabulary_of, vocabulary_refusal};
 ghost use Rattle.vocabulary.specs.Names.{Noted};
-ghost use Rattle.words.specs.Sets.{in_set};
+ghost use Rattle.words.specs.Members.{others_of};
+ghost use Rattle.words.specs.Sets.{in_set, including_all};
 
 use meaning::{FeatureNo, RoleNo};
 use vocabulary::{axiom_next, feature_count, first_axiom, insert_name, role_count};
@@ -19,11 +20,21 @@ fn insert_many(v: &[u32], roles: &mut [u32], features: &mut [u32])
     ensures noted_2 { Noted v.now 7 features.old features.new }
 {
     let mut k = first_axiom(v);
+    // The chain of records ends at 0, which a record's own word says.
     while k != 0 {
         insert_name(v, k, 6, roles);
         insert_name(v, k, 7, features);
         k = axiom_next(v, k);
     }
+}
+
+// Those of the numbers 1 to n that a set lacks.
+fn others(named: &[u32], n: u32) -> [u32; NAME_WORDS]
+    ensures { result ≡ including_all (replicate 2 0) (others_of named.now n) }
+{
+    let mut names = [0; NAME_WORDS];
+    insert_others(&mut names, named, n);
+    names
 }
 
 // The names of which no individual has two values.
@@ -39,16 +50,16 @@ impl Functional {
         requires { vocabulary_refusal v.now ≡ 0 }
         ensures { FunctionalNames v.now result }
     {
-        let mut many_roles = [0u32; NAME_WORDS];
-        let mut many_features = [0u32; NAME_WORDS];
-        insert_many(v, &mut many_roles[..], &mut many_features[..]);
-        let mut roles = [0u32; NAME_WORDS];
-        let mut features = [0u32; NAME_WORDS];
-        insert_others(&mut roles[..], &many_roles[..], role_count(v));
-        insert_others(&mut features[..], &many_features[..], feature_count(v));
-        Functional { roles, features }
+        let mut many_roles = [0; NAME_WORDS];
+        let mut many_features = [0; NAME_WORDS];
+        insert_many(v, &mut many_roles, &mut many_features);
+        Functional {
+            roles: others(&many_roles, role_count(v)),
+            features: others(&many_features, feature_count(v)),
+        }
     }
 
+    // A method for roles and one for features: the type of a number says which of the sets is asked.
     pub fn has_role(self, r: RoleNo) -> bool
         ensures value { result ≡ in_set self.roles r.0 }
         ensures by_index { (v : List ℕ) → FunctionalNames v self → result ≡ is_functional_role (vocabulary_of v) r.0 }

@@ -1,11 +1,13 @@
 -- One key more among keys that rise, and keys after keys.
-use Prim.Native.Nat.{◌+◌, ◌<◌, ◌≤◌, suc, zero, ℕ}
+use Prim.Native.Nat.{◌+◌, ◌-◌, ◌<◌, ◌≤◌, suc, zero, ℕ}
 use mathlib.Core.List.{List, [], ◌++◌, ◌∷◌, append_assoc, append-nil}
 use mathlib.Core.Path.{◌∙◌, ◌≡◌, ap, refl, sym}
 use native.Mathlib.Omega.{arith}
 use lib.Arith.{lt_of_le-ne}
-use lib.ListN.{drop, drop_of_length-le, get_or, length, length-append, length-set, length-take, set, take}
-use lib.Seq.{append_snoc, drop-cons, get_or-set_other, get_or-take, take-suc-set, take-take}
+use lib.ListN.{drop, get_or, length, length-append, length-set, length-take, set, take}
+use lib.Seq.{get_or-take, take-take}
+use Rattle.std.proofs.lemmas.List.{take_at}
+use Rattle.std.specs.List.{copy_within}
 use borrow.Author.Tests.{eq-eqb, le-ltb, lt-ltb, ne_eqb}
 use Rattle.meaning.specs.Splitting.{Sorted, insert, insert_all}
 use Rattle.keys.proofs.Ranking.{smaller}
@@ -61,12 +63,15 @@ gathered_one {key} {n} {e = e} s l f = record {
   keys = λ ks h. f (rw h (inserts_sorted ks [] tt)) ∙ (ap (insert key) h ∙ sym (inserts_append ks (key ∷ []) []));
 }
 
--- keys from the place on make room: the one at i is carried, and those from i on stand as they were in e₀
-pub record Shifting (e₀ : List ℕ) (n key : ℕ) (e : List ℕ) (carried i : ℕ) : Type 0 where
-  pub within : i ≤ n
-  pub same : length e ≡ length e₀
-  pub rest : (j : ℕ) → i ≤ j → get_or e j 0 ≡ get_or e₀ j 0
-  pub words : Sorted (take n e₀) → take i e ++ (carried ∷ drop i (take n e₀)) ≡ insert key (take n e₀)
+-- the keys from the place on stand one place further, and the new one there
+roomed : (key : ℕ) (e rest : List ℕ) (r n m : ℕ) → r + m ≡ n → n < length e →
+    take (suc n) (set ((take (suc r) e ++ take m (drop r e)) ++ rest) r key) ≡ take r e ++ (key ∷ drop r (take n e))
+roomed key [] rest r n m w l = absurd (omega arith)
+roomed key (x ∷ e) rest zero n m w l =
+    let z : m ≡ n = omega arith in
+    rw z (ap (λ (l : List ℕ). key ∷ l) (take_at (take n (x ∷ e)) rest n (length-take n (x ∷ e) ∙ omega arith)))
+roomed key (x ∷ e) rest (suc r) zero m w l = absurd (omega arith)
+roomed key (x ∷ e) rest (suc r) (suc n) m w l = ap (λ (l : List ℕ). x ∷ l) (roomed key e rest r n m (omega arith) (omega arith))
 
 module _ {e : List ℕ} {n key r : ℕ} (b : n < length e) (k : Ranked e n key r) where
   low : Sorted (take n e) → (j : ℕ) → j < r → get_or (take n e) j 0 < key
@@ -79,49 +84,25 @@ module _ {e : List ℕ} {n key r : ℕ} (b : n < length e) (k : Ranked e n key r
   key_stands h i =
       gathered_one refl (omega arith) (λ s. insert_old key (take n e) r (rw all h) (low s) (rw (get_or-take n e r 0 h) i))
 
-  starts : (r < n → get_or e r 0 ≡ key → ⊥) → Shifting e n key e key r
-  starts h = record {
-    within = k.within;
-    same = refl;
-    rest = λ j i. refl;
-    words = λ s. rw (← take-take r n e k.within) (insert_new key (take n e) r (rw all k.within) (low s) next);
-  }
+  added : {e' : List ℕ} → length e' ≡ length e → (r < n → get_or e r 0 ≡ key → ⊥) → e' ≡ copy_within e r n (r + 1) →
+      Gathered (key ∷ []) n e (set e' r key) (n + 1)
+  added {e'} same h z =
+      let y : n + 1 ≡ suc n = omega arith in
+      let x : r + 1 ≡ suc r = omega arith in
+      let w : r + (n - r) ≡ n = omega (arith, k.within) in
+      let old = rw x at z in
+      let new : Sorted (take n e) → take r e ++ (key ∷ drop r (take n e)) ≡ insert key (take n e) =
+      λ s. rw (← take-take r n e k.within) (insert_new key (take n e) r (rw all k.within) (low s) next) in
+      gathered_one (length-set e' r key ∙ same) (omega arith) (λ s. rw (y, old) (roomed key e (drop (suc r + (n - r)) e) r n (n - r) w b ∙ new s))
     where
       next : r < length (take n e) → key < get_or (take n e) r 0
       next i =
           let l : r < n = omega (arith, all) in
           rw (get_or-take n e r 0 l) (lt_of_le-ne (k.at l) (λ z. h l (sym z)))
 
-  pub shifting_before : (get_or e r 0 ≡ key → ⊥) → Shifting e n key e key r
-  shifting_before h = starts (λ l. h)
+  pub added_before : {e' : List ℕ} → length e' ≡ length e → (get_or e r 0 ≡ key → ⊥) → e' ≡ copy_within e r n (r + 1) →
+      Gathered (key ∷ []) n e (set e' r key) (n + 1)
+  added_before same h = added same (λ l. h)
 
-  pub shifting_last : n ≤ r → Shifting e n key e key r
-  shifting_last h = starts (λ l z. omega arith)
-
-module _ {e₀ : List ℕ} {n key : ℕ} {e : List ℕ} {carried i : ℕ} (b : n < length e₀) (s : Shifting e₀ n key e carried i) where
-  all_there : length (take n e₀) ≡ n
-  all_there = length-take n e₀ ∙ omega arith
-
-  pub shifting_on : i < n → Shifting e₀ n key (set e i carried) (get_or e i 0) (i + 1)
-  shifting_on h = let z : i + 1 ≡ suc i = omega arith in rw z (record {
-    within = h;
-    same = length-set e i carried ∙ s.same;
-    rest = λ j l. get_or-set_other e i j carried 0 (λ q. omega arith) ∙ s.rest j (omega arith);
-    words = λ r.
-        ap (λ (l : List ℕ). l ++ (get_or e i 0 ∷ drop (suc i) (take n e₀))) (take-suc-set e i carried (omega (arith, s.same)))
-        ∙ (append_snoc (take i e) carried (get_or e i 0 ∷ drop (suc i) (take n e₀))
-        ∙ (ap (λ (l : List ℕ). take i e ++ (carried ∷ l)) (sym next) ∙ s.words r));
-  })
-    where
-      next : drop i (take n e₀) ≡ get_or e i 0 ∷ drop (suc i) (take n e₀)
-      next =
-          drop-cons (take n e₀) i 0 (omega (arith, all_there))
-          ∙ ap (λ (x : ℕ). x ∷ drop (suc i) (take n e₀)) (get_or-take n e₀ i 0 h ∙ sym (s.rest i (omega arith)))
-
-  pub shifting_ends : n ≤ i → Gathered (key ∷ []) n e₀ (set e n carried) (n + 1)
-  shifting_ends h =
-      let z : i ≡ n = omega (arith, s.within) in
-      let y : n + 1 ≡ suc n = omega arith in
-      gathered_one (length-set e n carried ∙ s.same) (omega arith) (λ r.
-      rw y (take-suc-set e n carried (omega (arith, s.same))
-      ∙ (ap (λ (l : List ℕ). take n e ++ (carried ∷ l)) (sym (drop_of_length-le (take n e₀) {i = n} (omega (arith, all_there)))) ∙ rw z at (s.words r))))
+  pub added_last : {e' : List ℕ} → length e' ≡ length e → n ≤ r → e' ≡ copy_within e r n (r + 1) → Gathered (key ∷ []) n e (set e' r key) (n + 1)
+  added_last same h = added same (λ l z. omega arith)

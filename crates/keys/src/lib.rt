@@ -11,10 +11,11 @@ use meaning::FeatureNo;
 pub fn key(f: FeatureNo, x: u32) -> u64
     ensures { result ≡ key_of f.0 x }
 {
-    f.0 as u64 * 4294967296 + x as u64
+    u64::from(f.0) * 4294967296 + u64::from(x)
 }
 
 // The place of a key among the first n, by halving: a smaller one stands before it, and none at it.
+// By hand: `partition_point` promises this of keys that rise alone, and the contract asks nothing of them.
 pub fn rank(keys: &[u64], n: usize, k: u64) -> usize
     requires { n ≤ length keys.now }
     ensures { Ranked keys.now n k result }
@@ -38,19 +39,10 @@ pub fn add(keys: &mut [u64], n: usize, k: u64) -> usize
     ensures { Gathered (k ∷ []) n keys.old keys.new result }
 {
     let at = rank(keys, n, k);
-    if at < n {
-        if keys[at] == k {
-            return n;
-        }
+    if at < n && keys[at] == k {
+        return n;
     }
-    let mut carried = k;
-    let mut i = at;
-    while i < n {
-        let x = keys[i];
-        keys[i] = carried;
-        carried = x;
-        i += 1;
-    }
-    keys[n] = carried;
+    keys.copy_within(at..n, at + 1);
+    keys[at] = k;
     n + 1
 }

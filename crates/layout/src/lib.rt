@@ -113,8 +113,7 @@ pub fn next_successor(work: &[u32], n: usize, x: u32, j: usize) -> usize
     requires { (j ≤ n) × HasEntries n work.now }
     ensures { result ≡ next_successor work.now x (n - j) j }
 {
-    let mut i = j;
-    while i < n {
+    for i in j..n {
         let parent = parent_of(work, i);
         if parent < x {
             return n;
@@ -122,7 +121,6 @@ pub fn next_successor(work: &[u32], n: usize, x: u32, j: usize) -> usize
         if parent == x {
             return i;
         }
-        i += 1;
     }
     n
 }

@@ -1,9 +1,8 @@
 -- One conjunct by its kind, the conjuncts one after another, and whether a record joins a role.
 use Prim.Native.Nat.{◌*◌, ◌+◌, ◌<◌, ◌≤◌, ℕ}
-use mathlib.Core.Bool.{Bool, ◌&&◌, ◌||◌, true}
+use mathlib.Core.Bool.{Bool, ◌||◌, true}
 use mathlib.Core.List.{List}
 use mathlib.Core.Path.{◌∙◌, ◌≡◌, refl, sym}
-use lib.Dec.{eqb}
 use lib.ListN.{length, set}
 use native.Mathlib.Omega.{arith}
 use Rattle.closure.specs.Rows.{row_of}
@@ -13,7 +12,7 @@ use Rattle.meaning.specs.Limits.{most_classes, most_features, most_records, most
 use Rattle.meaning.specs.Policy.{Chain, child_of, class, conjunct_at, end, hi_of, kind_of, lo_of, name_of, next_of, some}
 use Rattle.meaning.specs.Records.{Name}
 use Rattle.normal_form.proofs.Adding.{add_bar, add_class, add_interval, add_none, add_role, adds_then}
-use Rattle.normal_form.specs.Parts.{arm_at, interval_count, joins, roles}
+use Rattle.normal_form.specs.Parts.{interval_count, roles}
 use Rattle.normal_form.specs.Steps.{Adding, Entry, Good, HasRoomFor, Placed, Single}
 use Rattle.normal_form.specs.declared.Draft.{Draft}
 use Rattle.policy.proofs.Conjuncts.{Going, conjunct_kinds, going_conjunct, going_ends, going_found, going_on, going_starts}
@@ -148,8 +147,3 @@ module _ {one : ℕ → Bool} {p : List ℕ} {x m first : ℕ} {w₀ : List ℕ}
           room = record { long = omega arith; low = omega arith; pending = omega arith; first = omega arith; constraints = omega arith };
           whole = λ t. h.whole (adding_first p k c one a t);
         })
-
--- ---- whether a record joins a role
-
-pub join_told : (one : ℕ → Bool) (p : List ℕ) (k r : ℕ) {a : ℕ} {t b : Bool} → a ≡ name_of p k → t ≡ one a → b ≡ (t && eqb a r) → b ≡ joins one r (arm_at p k)
-join_told one p k r ea et eb = rw (← ea, ← et) eb

@@ -1,6 +1,6 @@
 -- Laws of what is added to the tables: pending words, places that may change, a constraint placed.
 use Prim.Native.Nat.{◌+◌, ◌-◌, ◌<◌, ◌≤◌, max, min, suc, zero, ℕ}
-use mathlib.Core.Bool.{Bool, ◌&&◌, cond, false, true}
+use mathlib.Core.Bool.{Bool, ◌&&◌, and-false, cond, false, true}
 use mathlib.Core.List.{List, [], ◌++◌, ◌∷◌}
 use mathlib.Core.Logic.{◌⊎◌, inl, inr, ⊎_elim}
 use mathlib.Core.Path.{◌∙◌, ◌≡◌, ap, refl, subst, sym}
@@ -8,7 +8,7 @@ use lib.Dec.{eqb}
 use lib.ListN.{drop, get_or, length, length-take, replicate, take}
 use lib.Seq.{ext_get_or, get_or-take}
 use native.Mathlib.Omega.{arith}
-use borrow.Author.Tests.{eqb-true, ne_eqb}
+use borrow.Author.Tests.{eq-eqb, eqb-true, ne_eqb}
 use Rattle.closure.specs.Rows.{row_of}
 use Rattle.frames.proofs.Frames.{only_before, only_behind, only_span, only_wider, row_before, row_word}
 use Rattle.frames.proofs.Rows.{length_row}
@@ -24,14 +24,6 @@ use Rattle.meaning.specs.NormalForm.{place_constraint}
 use Rattle.normal_form.specs.Parts.{Arm, arm_at, live, words_at}
 use Rattle.normal_form.specs.Steps.{Fresh, Placed, constrained, front, pended, rowed, start_of, struck}
 use Rattle.words.specs.Rows.{class_words}
-
--- ---- tests
-
-pub and_yes : (a b : Bool) → a ≡ true → b ≡ (a && b)
-and_yes a b p = rw p
-
-pub and_no : (a b : Bool) → a ≡ false → a ≡ (a && b)
-and_no a b p = rw p
 
 -- ---- words that are as they were
 
@@ -254,16 +246,22 @@ module _ {one : Bool} {x first top f lo hi : ℕ} {w₀ : List ℕ} where
         let e : i ≡ top = omega arith in
         s.placed w' (top + 1) (placed_last one x i top f lo hi w w' small e (subst (λ (k : ℕ). ConstraintPut k x f lo hi w w') (sym e) u))
 
-    module _ (less : i < top) {g : ℕ} {t : Bool} (eg : g ≡ (constraint_at w i).feature) (et : t ≡ (one && eqb g f)) where
-      pub placing_here : {a b c d : ℕ} {w' : List ℕ} → t ≡ true → a ≡ max c lo → b ≡ min d hi → c ≡ (constraint_at w i).lo → d ≡ (constraint_at w i).hi →
-          ConstraintPut i x f a b w w' → Placed one x first top f lo hi w₀ w' top
-      placing_here {w' = w'} z ea eb ec ed u =
-          s.placed w' top (placed_here one x i top f lo hi w w' small less eg et z (ea ∙ ap (λ (y : ℕ). max y lo) ec) (eb ∙ ap (λ (y : ℕ). min y hi) ed) u)
+    placing_next : i < top → (one && eqb (constraint_at w i).feature f) ≡ false → Placing one x first top f lo hi w₀ w (i + 1)
+    placing_next less z = record {
+      low = omega arith;
+      high = omega arith;
+      same = s.same;
+      placed = λ w' r p. s.placed w' r (placed_on one x i top f lo hi w w' small less refl refl z p);
+    }
 
-      pub placing_on : t ≡ false → Placing one x first top f lo hi w₀ w (i + 1)
-      placing_on z = record {
-        low = omega arith;
-        high = omega arith;
-        same = s.same;
-        placed = λ w' r p. s.placed w' r (placed_on one x i top f lo hi w w' small less eg et z p);
-      }
+    pub placing_apart : i < top → one ≡ false → Placing one x first top f lo hi w₀ w (i + 1)
+    placing_apart less e = placing_next less (rw e)
+
+    module _ (less : i < top) {g : ℕ} (eg : g ≡ (constraint_at w i).feature) where
+      pub placing_here : {a b c d : ℕ} {w' : List ℕ} → one ≡ true → g ≡ f → a ≡ max c lo → b ≡ min d hi → c ≡ (constraint_at w i).lo → d ≡ (constraint_at w i).hi →
+          ConstraintPut i x f a b w w' → Placed one x first top f lo hi w₀ w' top
+      placing_here {w' = w'} z h ea eb ec ed u =
+          s.placed w' top (placed_here one x i top f lo hi w w' small less eg refl (rw (z, eq-eqb g f h)) (ea ∙ ap (λ (y : ℕ). max y lo) ec) (eb ∙ ap (λ (y : ℕ). min y hi) ed) u)
+
+      pub placing_on : (g ≡ f → ⊥) → Placing one x first top f lo hi w₀ w (i + 1)
+      placing_on n = placing_next less (rw (← eg, ne_eqb g f n) (and-false one))

@@ -32,24 +32,6 @@ struct Draft {
     impossible: bool,
 }
 
-fn larger(x: u32, y: u32) -> u32
-    ensures { result ≡ max x y }
-{
-    if x < y { y } else { x }
-}
-
-fn smaller(x: u32, y: u32) -> u32
-    ensures { result ≡ min x y }
-{
-    if x < y { x } else { y }
-}
-
-fn both(one: bool, f: u32, g: u32) -> bool
-    ensures { result ≡ (one && eqb f g) }
-{
-    one && f == g
-}
-
 // The constraint of individual x joins the first of its feature from place first on, where the feature is functional; else it stands
 // last.
 fn add_interval(
@@ -65,11 +47,11 @@ fn add_interval(
     requires { (first ≤ top) × HasEntry top work.old }
     ensures { Placed one x first top f.0 lo hi work.old work.new result }
 {
+    // By number: it stands for a place in the middle of the work slice, which is written.
     for i in first..top {
-        let g = feature_of(work, i);
-        if both(one, g.0, f.0) {
-            let a = larger(layout::lo_of(work, i), lo);
-            let b = smaller(layout::hi_of(work, i), hi);
+        if one && feature_of(work, i).0 == f.0 {
+            let a = layout::lo_of(work, i).max(lo);
+            let b = layout::hi_of(work, i).min(hi);
             put_constraint(work, i, x, f, a, b);
             return top;
         }
@@ -78,7 +60,7 @@ fn add_interval(
     top + 1
 }
 
-// The classes of a new individual by role r: those above r's ranges. The first individual is by no role.
+// The classes of a new individual by role r: those above r's ranges. The first individual is by no role, which its row says by 0.
 fn start_classes(work: &[u32], r: RoleNo) -> ClassSet
     requires { (r.0 ≤ most_roles) × (tables_end ≤ length work.now) }
     ensures { result.words ≡ start_of (front work.now) r.0 }
@@ -106,31 +88,21 @@ fn conjunct(
 {
     let kind = kind_of(p, k);
     let a = name_of(p, k);
-    let classes = g.classes;
     match kind {
-        1 => {
-            let more = classes.union(above(work, ClassNo(a)));
-            Draft {
-                classes: more,
-                pending: g.pending,
-                constraints: g.constraints,
-                impossible: g.impossible,
-            }
-        }
+        1 => Draft {
+            classes: g.classes.union(above(work, ClassNo(a))),
+            ..g
+        },
         2 => Draft {
-            classes,
-            pending: g.pending,
-            constraints: g.constraints,
             impossible: true,
+            ..g
         },
         3 => {
             let at = g.pending;
             work[at] = k;
             Draft {
-                classes,
                 pending: at + 1,
-                constraints: g.constraints,
-                impossible: g.impossible,
+                ..g
             }
         }
         _ => {
@@ -147,10 +119,8 @@ fn conjunct(
                 hi_of(p, k),
             );
             Draft {
-                classes,
-                pending: g.pending,
                 constraints: top,
-                impossible: g.impossible,
+                ..g
             }
         }
     }
@@ -184,8 +154,7 @@ fn does_join(p: &[u32], f: Functional, k: u32, r: RoleNo) -> bool
     ensures { result ≡ joins (in_set f.roles) r.0 (arm_at p.now k) }
 {
     let a = RoleNo(name_of(p, k));
-    let one = f.has_role(a);
-    both(one, a.0, r.0)
+    f.has_role(a) && a.0 == r.0
 }
 
 // Of the pending roles from j to stop, those that join role r give their conjuncts to individual x and are struck out.
@@ -204,6 +173,7 @@ fn gather(
     ensures { Gathered f p.now r.0 j stop x first work.old work.new g result }
 {
     let mut h = g;
+    // By place, in the middle of the work slice: what joins is struck out there by 0, as no record.
     for at in j..stop {
         let k = work[at];
         if k == 0 || !does_join(p, f, k, r) {
@@ -241,8 +211,7 @@ fn node(
     };
     let own = chain(p, work, f, child, x, first, start);
     let all = gather(p, work, f, r, j + 1, stop, x, first, own);
-    let classes = all.classes;
-    put_individual(work, place(t.individuals), parent, r, classes);
+    put_individual(work, place(t.individuals), parent, r, all.classes);
     all
 }
 
@@ -285,6 +254,13 @@ fn successors(
     u
 }
 
+// Tables of no individual yet.
+const NOTHING: Tables = Tables {
+    individuals: 0,
+    constraints: 0,
+    impossible: false,
+};
+
 // The term at record s. Its record is the first pending role, with no name. Time grows with the term's records, times the
 // roles that wait beside one another and the constraints of one individual.
 pub fn normalise(p: &[u32], work: &mut [u32], f: Functional, s: u32) -> Tables
@@ -292,19 +268,7 @@ pub fn normalise(p: &[u32], work: &mut [u32], f: Functional, s: u32) -> Tables
     ensures { Normalised f (term_at p.now s) work.old work.new result }
 {
     work[PENDING] = s;
-    successors(
-        p,
-        work,
-        f,
-        PENDING,
-        PENDING + 1,
-        0,
-        Tables {
-            individuals: 0,
-            constraints: 0,
-            impossible: false,
-        },
-    )
+    successors(p, work, f, PENDING, PENDING + 1, 0, NOTHING)
 }
 
 // The terms at the first n records of a list, one behind another: individuals by no role, below none.
@@ -314,17 +278,5 @@ pub fn normalise_all(p: &[u32], work: &mut [u32], f: Functional, terms: &[u32], 
 {
     copy(terms, 0, work, PENDING, n);
     let stop = PENDING + n;
-    successors(
-        p,
-        work,
-        f,
-        PENDING,
-        stop,
-        0,
-        Tables {
-            individuals: 0,
-            constraints: 0,
-            impossible: false,
-        },
-    )
+    successors(p, work, f, PENDING, stop, 0, NOTHING)
 }

@@ -1,21 +1,23 @@
 -- The list of disjoint pairs: one record more, and all of them. Assumes nothing.
-use Prim.Native.Nat.{◌+◌, ◌<◌, ◌≤◌, ℕ}
-use mathlib.Core.Bool.{Bool, false, true}
+use Prim.Native.Nat.{◌+◌, ◌<◌, ◌≤◌, suc, zero, ℕ}
+use mathlib.Core.Bool.{Bool, ◌&&◌, false, true}
 use mathlib.Core.List.{List, [], ◌++◌, ◌∷◌, append_assoc, append-nil, foldl, map}
 use mathlib.Core.Logic.{◌⊎◌, inl, inr, ⊎_elim}
 use mathlib.Core.Path.{◌∙◌, ◌≡◌, ap, ap₂, refl, sym}
 use lib.ListN.{get_or, length, length-set, set}
 use lib.Seq.{get_or-set_other, get_or-set_same}
+use native.Mathlib.Numerals.{add-one}
 use native.Mathlib.Omega.{arith}
 use Rattle.frames.proofs.Frames.{only_before, only_none, only_set, only_then, only_wider}
 use Rattle.frames.specs.Frames.{Only, Span}
 use Rattle.layout.specs.Places.{most_pairs, pair_place, pairs_at, pairs_end}
-use Rattle.meaning.specs.Lists.{counting, flat_map}
+use Rattle.meaning.specs.Lists.{all, counting, flat_map}
 use Rattle.meaning.specs.Records.{falling, last_of}
 use Rattle.meaning.specs.Stated.{disjoint_pair, disjoint_pairs}
 use Rattle.meaning.specs.Vocabulary.{Axiom, axiom_at, axiom_kind, axiom_left, axiom_next, axiom_right, first_axiom, vocabulary_of}
 use Rattle.meaning.specs.Vocabulary.{vocabulary_refusal}
 use Rattle.pairs.specs.Pairs.{Listed, PairRoom, PairRows, enlisted, has_both, pair_at, pair_count, pairs_in, with_pair}
+use Rattle.std.specs.List.{list_all, range_with_len}
 use Rattle.theory.proofs.Counting.{counted_more, counted_same}
 use Rattle.theory.proofs.Links.{falling_le}
 use Rattle.theory.proofs.Wellformed.{accepted_size}
@@ -166,3 +168,10 @@ module _ (w ws : List ℕ) (i : ℕ) {at : ℕ} {s : Bool} (ea : at ≡ pair_pla
 
   pub has_both_lem : {t : Bool} → s ≡ true → t ≡ in_set ws (get_or w (at + 1) 0) → t ≡ has_both ws (pair_at w i)
   has_both_lem h et = et ∙ sym (rw (← ea, ← es, h))
+
+-- ---- all pairs asked
+
+-- numbers of a range
+pub all_ranged : (f : ℕ → Bool) (k n : ℕ) → list_all f (range_with_len k n) ≡ all f (counting k n)
+all_ranged f k zero = refl
+all_ranged f k (suc n) = rw add-one (ap (λ (b : Bool). f k && b) (all_ranged f (suc k) n))

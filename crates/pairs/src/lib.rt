@@ -42,6 +42,7 @@ pub fn list_pairs(v: &[u32], work: &mut [u32])
 {
     work[PAIRS] = 0;
     let mut k = first_axiom(v);
+    // The chain of records ends at 0, which a record's own word says.
     while k != 0 {
         enlist(v, work, k);
         k = axiom_next(v, k);
@@ -64,11 +65,5 @@ pub fn is_compatible(work: &[u32], s: ClassSet) -> bool
     requires { (pair_count work.now ≤ most_pairs) × (pairs_end ≤ length work.now) }
     ensures { result ≡ agree_in work.now s.words }
 {
-    let n = work[PAIRS];
-    for i in 0..n {
-        if has_both(work, i, s) {
-            return false;
-        }
-    }
-    true
+    (0..work[PAIRS]).all(|i| !has_both(work, i, s))
 }

@@ -1,11 +1,11 @@
 -- Laws of one record of the model: the fact that it states, by its kind and name.
 use Prim.Native.Nat.{◌+◌, ◌≤◌, ℕ}
-use mathlib.Core.Bool.{Bool, cond, false, not, true}
+use mathlib.Core.Bool.{Bool, cond, false, true}
 use mathlib.Core.List.{List}
 use mathlib.Core.Logic.{◌⊎◌, inl, inr, ⊎_elim}
 use mathlib.Core.Path.{◌∙◌, ◌≡◌, refl, subst, sym}
 use native.Mathlib.Omega.{arith}
-use borrow.Author.Tests.{eq-eqb, eqb-false, eqb-true, ne_eqb, not-false, not-true}
+use borrow.Author.Tests.{eq-eqb, eqb-false, eqb-true, ne_eqb}
 use lib.Dec.{eqb}
 use Rattle.meaning.specs.Limits.{most_features, most_individuals, most_roles}
 use Rattle.meaning.specs.Lists.{All, cons, nil}
@@ -14,7 +14,7 @@ use Rattle.meaning.specs.Model.{member, value}
 use Rattle.meaning.specs.Records.{Name, is_name}
 use Rattle.model.specs.Chain.{Readable, Stated, fact_links}
 use Rattle.records.specs.Chains.{Along, along_end, along_more}
-use Rattle.satisfaction.specs.Classes.{Interpreted, entered, follows, is_ranged, owner_of}
+use Rattle.satisfaction.specs.Classes.{Interpreted, entered, is_ranged, owner_of}
 use Rattle.satisfaction.specs.Links.{number_of, other_of}
 use Rattle.satisfaction.specs.Places.{class_place, classes_of, put_in, series_count}
 use Rattle.theory.proofs.Links.{split, tests}
@@ -77,27 +77,7 @@ number_few (member a i) = omega arith
 number_few (edge r i j) = ⊎_elim (λ z. omega arith) (λ z. omega arith) (named_number most_roles r (is_name most_roles r) refl r)
 number_few (value f i v) = ⊎_elim (λ z. omega arith) (λ z. omega arith) (named_number most_features f (is_name most_features f) refl (most_roles + f))
 
-pub name_few : {n a : ℕ} {b : Bool} → b ≡ is_name n a → b ≡ true → a ≤ n
-name_few h t = let u = simp tests at (sym h ∙ t) in u.1
-
 module _ {m : List ℕ} {k : ℕ} (s : Stated m k) where
-  module _ {kind a : ℕ} (ek : kind ≡ fact_kind m k) (ea : a ≡ fact_name m k) where
-    module _ {b : Bool} where
-      pub role_number : kind ≡ 2 → b ≡ is_name most_roles a → b ≡ true → a ≡ number_of (fact_at m k)
-      role_number e h t = by_kind s (λ x. a ≡ number_of x) (λ d. absurd (omega arith)) (λ _. rw (← ea, ← h, t)) (λ d. absurd (omega arith))
-
-      pub role_past : kind ≡ 2 → b ≡ is_name most_roles a → b ≡ false → 0 ≡ number_of (fact_at m k)
-      role_past e h t = by_kind s (λ x. 0 ≡ number_of x) (λ _. refl) (λ _. rw (← ea, ← h, t)) (λ d. absurd (omega arith))
-
-      pub feature_number : kind ≡ 3 → b ≡ is_name most_features a → b ≡ true → most_roles + a ≡ number_of (fact_at m k)
-      feature_number e h t = by_kind s (λ x. most_roles + a ≡ number_of x) (λ d. absurd (omega arith)) (λ d. absurd (omega arith)) (λ _. rw (← ea, ← h, t))
-
-      pub feature_past : kind ≡ 3 → b ≡ is_name most_features a → b ≡ false → 0 ≡ number_of (fact_at m k)
-      feature_past e h t = by_kind s (λ x. 0 ≡ number_of x) (λ _. refl) (λ d. absurd (omega arith)) (λ _. rw (← ea, ← h, t))
-
-    pub class_number : (kind ≡ 2 → ⊥) → (kind ≡ 3 → ⊥) → 0 ≡ number_of (fact_at m k)
-    class_number n₂ n₃ = by_kind s (λ x. 0 ≡ number_of x) (λ _. refl) (λ e. absurd (n₂ (ek ∙ e))) (λ e. absurd (n₃ (ek ∙ e)))
-
   -- what a record of the series gives its individual
   pub number_other : (number_of (fact_at m k) ≡ 0 → ⊥) → other_of (fact_at m k) ≡ fact_other m k
   number_other = by_kind s (λ x. (number_of x ≡ 0 → ⊥) → other_of x ≡ fact_other m k) (λ _ n. absurd (n refl)) (λ _ n. refl) (λ _ n. refl)
@@ -110,17 +90,3 @@ owners_named {m} r = go r.facts
     go : {k : ℕ} {F : List Fact} → Along (fact_links m) k F → All (λ x. Name (individual_count m) (owner_of x)) F
     go (along_end e) = nil
     go (along_more n o s l) = cons (subst (Name (individual_count m)) (sym (owner_at_lem s)) s.owner) (go l)
-
--- ---- a pair of classes
-
--- s and t are the tests of the two
-module _ (w : List ℕ) (a b i : ℕ) (apart : Bool) {s : Bool} (es : s ≡ in_set (classes_of w i) a) where
-  pub not_first : not s ≡ true → true ≡ follows w a b apart i
-  not_first h = rw (← es, not-true s h)
-
-  module _ {t : Bool} (h : not s ≡ false) (et : t ≡ in_set (classes_of w i) b) where
-    pub apart_told : apart ≡ true → not t ≡ follows w a b apart i
-    apart_told e = rw (← es, not-false s h, e, et)
-
-    pub joint_told : apart ≡ false → t ≡ follows w a b apart i
-    joint_told e = rw (← es, not-false s h, e, et)

@@ -1,20 +1,22 @@
 -- Laws of the classes that the targets of a role's edges have in common: every class at first, and for each edge those of its target.
 use Prim.Native.Nat.{◌%◌, ◌*◌, ◌+◌, ◌-◌, ◌/◌, ◌<◌, ◌^◌, ◌≤◌, suc, zero, ℕ}
 use mathlib.Core.Bool.{Bool, ◌&&◌, and_assoc, and-true, false, not, true, true≢false}
-use mathlib.Core.List.{List, [], ◌∷◌}
+use mathlib.Core.List.{List, [], ◌++◌, ◌∷◌}
 use mathlib.Core.Logic.{⊎_elim}
 use mathlib.Core.Path.{◌∙◌, ◌≡◌, ap, refl, sym}
 use lib.Bits.{and_mod, and_shr, bit_and}
 use lib.Dec.{eqb}
-use lib.ListN.{get_or, length, set}
+use lib.ListN.{drop, get_or, length, replicate, set, take}
 use lib.Pow.{pow_pos}
-use lib.Seq.{get_or-set_other, get_or-set_same}
+use lib.Seq.{drop-drop, get_or-set_other, get_or-set_same}
 use native.Mathlib.Nat.{mod-lt, pow-suc, zero-lt-suc}
 use native.Mathlib.Omega.{arith}
 use borrow.Author.Tests.{eqb-false, eqb-true, not-false, not-true}
-use Rattle.frames.proofs.Frames.{only_none, only_set, only_span, only_then, row_before, row_behind, row_word}
+use Rattle.frames.proofs.Frames.{only_none, only_put, only_set, only_span, only_then, row_before, row_behind, row_word}
+use Rattle.frames.proofs.Rows.{length_row, put_row}
+use Rattle.std.proofs.lemmas.List.{get_or-replicate, length-replicate}
 use Rattle.frames.specs.Frames.{Only, Span}
-use Rattle.frames.specs.Rows.{row_at}
+use Rattle.frames.specs.Rows.{put_at, row_at}
 use Rattle.meaning.specs.Limits.{most_classes, most_individuals, most_roles, work_size}
 use Rattle.meaning.specs.Lists.{all}
 use Rattle.meaning.specs.Model.{Fact, fact_at, fact_kind, fact_name, fact_other, facts_of}
@@ -69,20 +71,32 @@ in_row w at i h = ap (λ (x : ℕ). test_bit x (i % 32)) (row_word class_words w
 
 -- ---- every class
 
-pub opened_none : {w : List ℕ} → Opened 0 w w
-opened_none = record { only = only_none; words = λ i h. absurd (omega arith) }
+-- ys in the place of n words, each x
+module _ (n at x : ℕ) (w ys : List ℕ) (fits : at + n ≤ length w) (e : ys ≡ replicate (length (row_at n w at)) x) where
+  each : ys ≡ replicate n x
+  each = e ∙ ap (λ (k : ℕ). replicate k x) (length_row n w at fits)
 
-pub opened_more : {n : ℕ} {w w' : List ℕ} → work_size ≤ length w → n < range_words → Opened n w w' → Opened (n + 1) w (set w' (ranges_at + n) 4294967295)
-opened_more {n} {w} {w'} long l e = record {
-  only = only_set (ranges_at + n) 4294967295 (record { low = omega arith; high = omega arith }) e.only;
-  words = λ i h. go i h (eqb i n) refl;
-}
-  where
-    go : (i : ℕ) → i < n + 1 → (b : Bool) → eqb i n ≡ b → get_or (set w' (ranges_at + n) 4294967295) (ranges_at + i) 0 ≡ 2 ^ 32 - 1
-    go i h true d = let s = e.only.size in rw (eqb-true i n d) (get_or-set_same w' (ranges_at + n) 4294967295 0 (omega arith))
-    go i h false d =
-        let z = eqb-false i n d in
-        get_or-set_other w' (ranges_at + n) (ranges_at + i) 4294967295 0 (λ q. omega arith) ∙ e.words i (omega arith)
+  size : length ys ≡ n
+  size = ap length each ∙ length-replicate n x
+
+  filled : take at w ++ (ys ++ drop n (drop at w)) ≡ put_at w at ys
+  filled = rw (drop-drop n at w, size)
+
+  room : at + length ys ≤ length w
+  room = rw size fits
+
+  filled_only : Only (Span at (at + n)) w (take at w ++ (ys ++ drop n (drop at w)))
+  filled_only = rw filled (only_put at ys room (λ i a b. record { low = a; high = rw size at b }) only_none)
+
+  filled_word : (i : ℕ) → i < n → get_or (take at w ++ (ys ++ drop n (drop at w))) (at + i) 0 ≡ x
+  filled_word i h =
+      ap (λ (l : List ℕ). get_or l (at + i) 0) filled ∙ sym (row_word (length ys) (put_at w at ys) at i (rw size h))
+      ∙ ap (λ (l : List ℕ). get_or l i 0) (put_row w at ys room ∙ each) ∙ get_or-replicate n i x 0 h
+
+pub opened_filled : {w ys : List ℕ} → work_size ≤ length w → ys ≡ replicate (length (row_at range_words w ranges_at)) 4294967295 →
+    Opened range_words w (take ranges_at w ++ (ys ++ drop range_words (drop ranges_at w)))
+opened_filled {w} {ys} long e =
+    record { only = filled_only range_words ranges_at 4294967295 w ys (omega arith) e; words = filled_word range_words ranges_at 4294967295 w ys (omega arith) e }
 
 opened_in : {w w' : List ℕ} → Opened range_words w w' → (r c : ℕ) → Name most_roles r → Name most_classes c → in_set (ranges_of w' r) c ≡ true
 opened_in e r zero n k = absurd (omega arith)

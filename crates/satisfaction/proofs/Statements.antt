@@ -1,9 +1,10 @@
 -- Laws of what the records of a vocabulary ask: tests of one after another, and what the facts obey.
-use Prim.Native.Nat.{◌+◌, ◌-◌, ◌<◌, ◌≤◌, suc, zero, ℕ}
-use mathlib.Core.Bool.{Bool, cond, false, not, true}
-use mathlib.Core.List.{List, [], ◌∷◌}
+use Prim.Native.Nat.{◌+◌, ◌<◌, ◌≤◌, suc, zero, ℕ}
+use mathlib.Core.Bool.{Bool, ◌&&◌, cond, false, not, true}
+use mathlib.Core.List.{List, ◌∷◌}
 use mathlib.Core.Logic.{◌↔◌}
-use mathlib.Core.Path.{◌∙◌, ◌≡◌, refl, sym}
+use mathlib.Core.Path.{◌∙◌, ◌≡◌, ap, refl, sym}
+use Rattle.std.specs.List.{list_all, range_with_len}
 use lib.Dec.{T, T_not, eqb, not_T}
 use native.Mathlib.Numerals.{add-one}
 use native.Mathlib.Omega.{arith}
@@ -40,29 +41,10 @@ module _ {A : Type 0} (p : A → Bool) (x : A) {b c : Bool} (e : c ≡ p x) (l :
   pub all_on : not c ≡ false → b ≡ all p l
   all_on n = h ∙ rw (← e, not-false c n)
 
--- a loop over 1 to n that has come past i: what holds of those that are left
-pub record Counting (T : List ℕ → Type 0) (n i : ℕ) : Type 0 where
-  pub bound : i ≤ n
-  pub holds : T (counting (i + 1) (n - i))
-
-module _ {T : List ℕ → Type 0} {n : ℕ} where
-  pub counting_starts : T (counting 1 n) → Counting T n 0
-  counting_starts h = let e : n - 0 ≡ n = omega arith in record { bound = omega arith; holds = rw e h }
-
-  module _ {i : ℕ} (t : Counting T n i) where
-    pub counting_ends : n ≤ i → T []
-    counting_ends h = let e : n - i ≡ 0 = omega arith in rw e at t.holds
-
-    module _ (h : i < n) where
-      next : T ((i + 1) ∷ counting (i + 1 + 1) (n - (i + 1)))
-      next = let e : n - i ≡ suc (n - (i + 1)) = omega arith in rw (e, ← add-one (i + 1)) at t.holds
-
-      -- what this one settles, whatever follows
-      pub counting_found : {B : Type 0} → ((l : List ℕ) → T ((i + 1) ∷ l) → B) → B
-      counting_found f = f (counting (i + 1 + 1) (n - (i + 1))) next
-
-      pub counting_on : {U : List ℕ → Type 0} → ((l : List ℕ) → T ((i + 1) ∷ l) → U l) → Counting U n (i + 1)
-      counting_on f = record { bound = omega arith; holds = f (counting (i + 1 + 1) (n - (i + 1))) next }
+-- numbers from 1 on, each one behind those of a range
+pub all_counted : (f : ℕ → Bool) (k n : ℕ) → list_all (λ i. f (i + 1)) (range_with_len k n) ≡ all f (counting (suc k) n)
+all_counted f k zero = refl
+all_counted f k (suc n) = rw add-one (ap (λ (b : Bool). f (suc k) && b) (all_counted f (suc k) n))
 
 -- ---- two classes
 

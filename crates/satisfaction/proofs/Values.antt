@@ -214,13 +214,13 @@ module _ {m w : List ℕ} {base f u : ℕ} (s : Stated m f) (eu : u ≡ number_o
 pub comparing_none : {m w : List ℕ} {base end : ℕ} → Telling m base end w → base < end → BlockCompared m base w w end
 comparing_none p h = record { telling = p; next = h; only = only_none }
 
--- ---- what is found of record f
+-- ---- what is found of record f, whose number is u
 
-module _ (m w : List ℕ) (f : ℕ) {base u : ℕ} where
-  pub compare_low : u ≤ base → Compared m base w w f u
+module _ (m w : List ℕ) (f : ℕ) {base u number : ℕ} (eu : u ≡ number) where
+  pub compare_low : u ≤ base → Compared m base w w f number
   compare_low h = outside (λ b. let l = b.low in omega arith) refl
 
-  pub compare_high : base + block_size < u → Compared m base w w f u
+  pub compare_high : base + block_size < u → Compared m base w w f number
   compare_high h = outside (λ b. let l = b.high in omega arith) refl
 
   module _ {i at : ℕ} (l : base < u) (h : u ≤ base + block_size) (ei : i ≡ fact_owner m f) (ea : at ≡ value_place i (u - base - 1)) where
@@ -230,12 +230,12 @@ module _ (m w : List ℕ) (f : ℕ) {base u : ℕ} where
     read : get_or w at 0 ≡ first_of w base u (fact_owner m f)
     read = rw (ea, ei)
 
-    pub compare_first : get_or w at 0 ≡ 0 → Compared m base w (set w at f) f u
-    compare_first z = first in_block (sym read ∙ z) (rw (ea, ei))
+    pub compare_first : get_or w at 0 ≡ 0 → Compared m base w (set w at f) f number
+    compare_first z = rw (← eu) (first in_block (sym read ∙ z) (rw (ea, ei)))
 
     module _ {x y : ℕ} (n : get_or w at 0 ≡ 0 → ⊥) (ex : x ≡ fact_other m (get_or w at 0)) (ey : y ≡ fact_other m f) where
-      pub compare_same : x ≡ y → Compared m base w w f u
-      compare_same e = same in_block (λ z. n (read ∙ z)) (ap (fact_other m) (sym read) ∙ sym ex ∙ e ∙ ey) refl
+      pub compare_same : x ≡ y → Compared m base w w f number
+      compare_same e = rw (← eu) (same in_block (λ z. n (read ∙ z)) (ap (fact_other m) (sym read) ∙ sym ex ∙ e ∙ ey) refl)
 
-      pub compare_clash : {w' : List ℕ} → (x ≡ y → ⊥) → w' ≡ put_in clash_words w clashes_at u → Compared m base w w' f u
-      compare_clash e q = clash in_block (λ z. n (read ∙ z)) (λ z. e (ex ∙ ap (fact_other m) read ∙ z ∙ sym ey)) q
+      pub compare_clash : {w' : List ℕ} → (x ≡ y → ⊥) → w' ≡ put_in clash_words w clashes_at u → Compared m base w w' f number
+      compare_clash e q = rw (← eu) (clash in_block (λ z. n (read ∙ z)) (λ z. e (ex ∙ ap (fact_other m) read ∙ z ∙ sym ey)) q)

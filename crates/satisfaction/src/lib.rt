@@ -18,7 +18,7 @@
 // whatever the number of records. What is stated is then one bit or, for a pair of classes, a look at each individual.
 #![tactic(auto)]
 
-ghost use Rattle.std.specs.Prelude.{◌≡◌, not, List, ◌*◌, ◌+◌, ◌<◌, ◌≤◌, ℕ, length};
+ghost use Rattle.std.specs.Prelude.{◌≡◌, not, List, ◌*◌, ◌+◌, ◌<◌, ◌≤◌, ℕ, length, unwrap_or};
 ghost use Rattle.frames.specs.Frames.{Cleared};
 ghost use Rattle.functional.specs.FunctionalNames.{FunctionalNames};
 ghost use Rattle.meaning.specs.Limits.{most_individuals, most_roles, work_size};
@@ -52,8 +52,6 @@ const INDIVIDUALS: usize = MOST_INDIVIDUALS as usize;
 const RANGES: usize = INDIVIDUALS * ClassSet::WORDS;
 
 const RANGE_WORDS: usize = MOST_ROLES as usize * ClassSet::WORDS;
-
-const EVERY_BIT: u32 = 4294967295;
 
 // Roles and features in one series.
 const SERIES: u32 = MOST_ROLES + MOST_FEATURES;
@@ -128,6 +126,7 @@ fn enter_all(m: &[u32], work: &mut [u32])
 {
     clear_rows(m, work, 0, ClassSet::WORDS);
     let mut f = first_fact(m);
+    // The chain of records ends at 0, which a record's own word says.
     while f != 0 {
         enter(m, work, f);
         f = fact_next(m, f);
@@ -139,11 +138,7 @@ fn does_follow(work: &[u32], i: u32, a: ClassNo, b: ClassNo, apart: bool) -> boo
     requires { Name most_individuals i × (work_size ≤ length work.now) }
     ensures { result ≡ follows work.now a.0 b.0 apart i }
 {
-    if !is_member(work, i, a) {
-        return true;
-    }
-    let other = is_member(work, i, b);
-    if apart { !other } else { other }
+    !is_member(work, i, a) || is_member(work, i, b) != apart
 }
 
 // Whether each of n individuals does.
@@ -151,12 +146,7 @@ fn do_follow(work: &[u32], n: u32, a: ClassNo, b: ClassNo, apart: bool) -> bool
     requires { (n ≤ most_individuals) × (work_size ≤ length work.now) }
     ensures { result ≡ all (follows work.now a.0 b.0 apart) (counting 1 n) }
 {
-    for i in 0..n {
-        if !does_follow(work, i + 1, a, b, apart) {
-            return false;
-        }
-    }
-    true
+    (0..n).all(|i| does_follow(work, i + 1, a, b, apart))
 }
 
 // Where the set of role r's classes starts: those that every target of its edges has.
@@ -172,9 +162,7 @@ fn open_ranges(work: &mut [u32])
     requires { work_size ≤ length work.old }
     ensures { Opened range_words work.old work.new }
 {
-    for i in 0..RANGE_WORDS {
-        work[RANGES + i] = EVERY_BIT;
-    }
+    work[RANGES..CLASHES].fill(u32::MAX);
 }
 
 // Leaves those classes in the set at a place that the set at an earlier one has. No branch, so that it is done in a few wide steps.
@@ -182,8 +170,9 @@ fn intersect(work: &mut [u32], at: usize, from: usize)
     requires { (from + class_words ≤ at) × (at + class_words ≤ length work.old) }
     ensures { Intersected class_words at from work.old work.new }
 {
+    // By index: both rows stand in the middle of one slice.
     for i in 0..ClassSet::WORDS {
-        work[at + i] = work[at + i] & work[from + i];
+        work[at + i] &= work[from + i];
     }
 }
 
@@ -231,24 +220,18 @@ fn is_range(work: &[u32], r: RoleNo, c: ClassNo) -> bool
     ClassSet::has_at(work, range_place(r), c)
 }
 
-// The number of what record f is of, where roles and features are one series, the features after the roles; 0 for a class and for a
+// The number of what record f is of, where roles and features are one series, the features after the roles; none for a class and for a
 // name past the most, which no vocabulary has.
-fn series_number(m: &[u32], f: u32) -> u32
+fn series_number(m: &[u32], f: u32) -> Option<u32>
     requires { Stated m.now f }
-    ensures { result ≡ number_of (fact_at m.now f) }
+    ensures { unwrap_or result 0 ≡ number_of (fact_at m.now f) }
 {
     let kind = fact_kind(m, f);
     let a = fact_name(m, f);
     match kind {
-        2 => { if is_name(MOST_ROLES, a) { a } else { 0 } }
-        3 => {
-            if is_name(MOST_FEATURES, a) {
-                MOST_ROLES + a
-            } else {
-                0
-            }
-        }
-        _ => 0,
+        2 if is_name(MOST_ROLES, a) => Some(a),
+        3 if is_name(MOST_FEATURES, a) => Some(MOST_ROLES + a),
+        _ => None,
     }
 }
 
@@ -260,11 +243,14 @@ fn value_place(i: u32, n: u32) -> usize
     VALUES + place(i - 1) * BLOCK + place(n)
 }
 
-// Holds record f, where its number u is of the block, to the first of the same number and individual: a second value is a clash.
-fn compare(m: &[u32], work: &mut [u32], f: u32, base: u32, u: u32)
-    requires { Comparable m.now work.old f base u }
-    ensures { Compared m.now base work.old work.new f u }
+// Holds record f, where its number is of the block, to the first of the same number and individual: a second value is a clash.
+fn compare(m: &[u32], work: &mut [u32], f: u32, base: u32)
+    requires { Stated m.now f × Comparable m.now work.old f base (number_of (fact_at m.now f)) }
+    ensures { Compared m.now base work.old work.new f (number_of (fact_at m.now f)) }
 {
+    let Some(u) = series_number(m, f) else {
+        return;
+    };
     if u <= base {
         return;
     }
@@ -295,7 +281,7 @@ fn compare_block(m: &[u32], work: &mut [u32], base: u32, end: u32) -> u32
     clear_rows(m, work, VALUES, BLOCK);
     let mut f = first_fact(m);
     while f != 0 {
-        compare(m, work, f, base, series_number(m, f));
+        compare(m, work, f, base);
         f = fact_next(m, f);
     }
     base + BLOCK_SIZE
@@ -362,6 +348,7 @@ fn are_single(v: &[u32], m: &[u32], work: &mut [u32]) -> bool
     clear(work, CLASHES, CLASH_WORDS);
     let f = Functional::of(v);
     let mut end = 0;
+    // From 0: i is the number before u, behind which a block begins.
     for i in 0..SERIES {
         let u = i + 1;
         if !has_number(f, u) {

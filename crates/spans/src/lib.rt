@@ -40,22 +40,17 @@ pub fn set_place(i: u32) -> usize
     SETS + place(i - 1) * SET_WORDS
 }
 
-// A set of records by value.
-#[derive(Clone, Copy)]
-struct RecordSet {
-    words: [u32; SET_WORDS],
-}
-
-// The records of two sets at places of the columns.
-fn meet(columns: &[u32], from: usize, mask: usize) -> RecordSet
+// The records of two sets at places of the columns, as a set by value.
+fn meet(columns: &[u32], from: usize, mask: usize) -> [u32; SET_WORDS]
     requires { (from + record_words ≤ length columns.now) × (mask + record_words ≤ length columns.now) }
-    ensures { Met from mask columns.now result.words }
+    ensures { Met from mask columns.now result }
 {
     let mut words = [0; SET_WORDS];
+    // By index: both rows stand in the middle of one slice.
     for i in 0..SET_WORDS {
         words[i] = columns[from + i] & columns[mask + i];
     }
-    RecordSet { words }
+    words
 }
 
 // Puts those records of the set at a place of the columns that are in a second such set into the set at a place of the work slice.
@@ -65,8 +60,9 @@ pub fn join(work: &mut [u32], at: usize, columns: &[u32], from: usize, mask: usi
     ensures { Joined record_words at from mask columns.now work.old work.new }
 {
     let row = meet(columns, from, mask);
+    // By index: the row stands in the middle of the work slice.
     for i in 0..SET_WORDS {
-        work[at + i] = work[at + i] | row.words[i];
+        work[at + i] |= row[i];
     }
 }
 
@@ -84,13 +80,6 @@ fn high_key(p: &[u32], k: u32) -> u64
     key(FeatureNo(name_of(p, k)), hi_of(p, k))
 }
 
-// The key before this one, where there is one.
-fn before(k: u64) -> u64
-    ensures { result ≡ k - 1 }
-{
-    if k == 0 { 0 } else { k - 1 }
-}
-
 // The cuts of record k among the first n, where it is a feature's: the last key before its span, and the last in it.
 fn add_cuts(p: &[u32], cuts: &mut [u64], n: usize, k: u32) -> usize
     requires { n + 2 ≤ length cuts.old }
@@ -99,9 +88,9 @@ fn add_cuts(p: &[u32], cuts: &mut [u64], n: usize, k: u32) -> usize
     if kind_of(p, k) != 4 {
         return n;
     }
-    let low = before(low_key(p, k));
+    let low = low_key(p, k);
     let high = high_key(p, k);
-    let m = add(cuts, n, low);
+    let m = add(cuts, n, low.saturating_sub(1));
     add(cuts, m, high)
 }
 
@@ -111,8 +100,8 @@ fn cut_all(p: &[u32], cuts: &mut [u64], first: u32, last: u32) -> usize
     ensures { AllCut p.now first last cuts.new result }
 {
     let mut n: usize = 0;
-    for k in first..last {
-        n = add_cuts(p, cuts, n, k + 1);
+    for k in first + 1..=last {
+        n = add_cuts(p, cuts, n, k);
     }
     n
 }
@@ -137,8 +126,8 @@ fn mark_span(p: &[u32], cuts: &[u64], n: usize, columns: &mut [u32], k: u32)
     }
     let low = low_key(p, k);
     let high = high_key(p, k);
-    for r in 0..n {
-        mark_row(columns, r, cuts[r], low, high, k);
+    for (r, cut) in cuts[..n].iter().enumerate() {
+        mark_row(columns, r, *cut, low, high, k);
     }
 }
 
@@ -148,8 +137,8 @@ fn mark_spans(p: &[u32], cuts: &[u64], n: usize, columns: &mut [u32], first: u32
     ensures { Rowed p.now first last cuts.now columns.new n }
 {
     clear(columns, 0, n * SET_WORDS);
-    for k in first..last {
-        mark_span(p, cuts, n, columns, k + 1);
+    for k in first + 1..=last {
+        mark_span(p, cuts, n, columns, k);
     }
 }
 
@@ -196,12 +185,6 @@ fn mark_batch(
     }
 }
 
-fn lesser(a: u32, b: u32) -> u32
-    ensures { result ≡ min a b }
-{
-    if a < b { a } else { b }
-}
-
 // All records up to the last that are a feature's, one batch after another.
 fn mark_batches(
     p: &[u32],
@@ -215,8 +198,9 @@ fn mark_batches(
     ensures { ValuesMarked p.now m.now 0 last work.old work.new }
 {
     let mut first: u32 = 0;
+    // A batch ends where the next one begins, and the last where the records do.
     while first < last {
-        let end = lesser(last, first + BATCH);
+        let end = last.min(first + BATCH);
         mark_batch(p, m, work, columns, cuts, first, end);
         first = end;
     }

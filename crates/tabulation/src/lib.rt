@@ -23,13 +23,7 @@ fn are_compatible(work: &[u32], n: u32) -> bool
     requires { (pair_count work.now ≤ most_pairs) × HasEntries n work.now }
     ensures { result ≡ all (λ i. agree_in work.now (set_at work.now i)) (counting 0 n) }
 {
-    for i in 0..n {
-        let s = classes_of(work, place(i));
-        if !is_compatible(work, s) {
-            return false;
-        }
-    }
-    true
+    (0..n).all(|i| is_compatible(work, classes_of(work, place(i))))
 }
 
 // Rule 3 at each of the first n constraints.
@@ -37,14 +31,7 @@ pub fn are_nonempty(work: &[u32], n: usize) -> bool
     requires { HasEntries n work.now }
     ensures { result ≡ all (non_empty_at work.now) (counting 0 n) }
 {
-    for i in 0..n {
-        let lo = lo_of(work, i);
-        let hi = hi_of(work, i);
-        if !is_nonempty(lo, hi) {
-            return false;
-        }
-    }
-    true
+    (0..n).all(|i| is_nonempty(lo_of(work, i), hi_of(work, i)))
 }
 
 // Whether rules 3 and 7 find nothing in the form that the tables hold. Time grows with the individuals times the pairs.
@@ -66,9 +53,8 @@ pub fn shape(p: &[u32], work: &mut [u32], f: Functional, k: u32) -> Tables
     }
     let nonempty = are_nonempty(work, t.constraints);
     Tables {
-        individuals: t.individuals,
-        constraints: t.constraints,
         impossible: !nonempty,
+        ..t
     }
 }
 
@@ -83,8 +69,7 @@ pub fn tabulate(p: &[u32], work: &mut [u32], f: Functional, k: u32) -> Tables
     }
     let clean = is_clean(work, t);
     Tables {
-        individuals: t.individuals,
-        constraints: t.constraints,
         impossible: !clean,
+        ..t
     }
 }

@@ -1,9 +1,12 @@
+use Prim.Native.Nat.{◌+◌, ◌-◌}
 use borrow.Author.Rules.{rules}
 use mathlib.Core.Path.{◌∙◌, ◌≡◌}
 use native.Mathlib.Omega.{arith}
+use Rattle.extension.specs.Columns.{FilledTo}
 use Rattle.extension.proofs.Columns.{filled_on, filled_starts}
 use Rattle.meaning.specs.Records.{last_of}
 use Rattle.extension.proofs.fill_all.Goals as goal
+use Rattle.extension.proofs.fill_all.Goals.{After-fill}
 
 pub clear-requires : goal.clear-requires
 clear-requires c = let i = c.requires.1.readable.individuals in omega arith
@@ -14,14 +17,23 @@ loop-k-init c = (search rules, filled_starts c.requires.2 (c.place.ensures ∙ c
 pub fill-requires : goal.fill-requires
 fill-requires c = let pre = c.requires in let f = pre.0.few in let x = c.loop-k.invariant in record { sized = pre.0; conjunct = (omega arith, omega arith); interpreted = pre.1; room = x.1.room }
 
-pub loop-k-preserved : goal.loop-k-preserved
-loop-k-preserved c = let s = c.loop-k.invariant.2 in (search rules, filled_on c.requires.1.readable c.loop-k.invariant.1 c.fill.ensures, c.fill.ensures.size ∙ s)
+more : (c : After-fill) → FilledTo c.args.p.now c.args.m.now c.args.work.now c.args.n c.loop-k.k c.fill.new.columns
+more c =
+    let i : c.loop-k.k - 1 + 1 ≡ c.loop-k.k = omega arith in
+    rw i at (filled_on {c' = c.fill.new.columns} c.requires.1.readable c.loop-k.invariant.1 (rw i c.fill.ensures))
 
-pub shape_of-columns : goal.shape_of-columns
-shape_of-columns c = c.loop-k.invariant.2 ∙ c.clear.ensures.only.size
+pub loop-k-preserved : goal.loop-k-preserved
+loop-k-preserved c =
+    let i : c.loop-k.k + 1 - 1 ≡ c.loop-k.k = omega arith in
+    (search rules, rw i (more (goal.at.loop-k-preserved c).After-fill), c.fill.ensures.size ∙ c.loop-k.invariant.2)
 
 pub returns : goal.returns
 returns c =
     let x = c.loop-k in
-    let e : x.k ≡ last_of 6 c.args.p.now = omega arith in
+    let e : x.k - 1 ≡ last_of 6 c.args.p.now = omega arith in
     rw e at x.invariant.1
+
+pub returns-2 : goal.returns-2
+returns-2 c =
+    let e : c.loop-k.k ≡ last_of 6 c.args.p.now = omega arith in
+    rw (← e) (more (goal.at.returns-2 c).After-fill)

@@ -1,23 +1,17 @@
-use borrow.Author.Rules.{rules}
-use Prim.Native.Nat.{ℕ}
-use mathlib.Core.Path.{◌≡◌}
+use Prim.Native.Nat.{◌+◌}
+use mathlib.Core.Path.{refl}
 use native.Mathlib.Omega.{arith}
-use Rattle.extension.proofs.Rounds.{undue_on, undue_starts}
-use Rattle.meaning.specs.Records.{last_of}
+use borrow.Author.Rules.{rules}
+use borrow.Author.Tests.{tests}
+use Rattle.extension.proofs.Rounds.{undue_all}
+use Rattle.extension.specs.Depths.{is_due}
+use Rattle.std.proofs.lemmas.Iterator.{YieldsList-from_range}
+use Rattle.std.proofs.lemmas.Iterator.Search.{any_from_yields_List}
 use Rattle.extension.proofs.is_any_due.Goals as goal
-
-pub loop-k-init : goal.loop-k-init
-loop-k-init c = (search rules, undue_starts)
-
-pub returns-then-is_due : goal.returns-then-is_due
-returns-then-is_due c = λ h. absurd (let y : ◌≡◌ {A = ℕ} 0 1 = cc in omega arith)
-
-pub loop-k-preserved : goal.loop-k-preserved
-loop-k-preserved c = (search rules, search undue_on)
 
 pub returns : goal.returns
 returns c =
     λ h.
-    let x = c.loop-k in
-    let e : x.k ≡ last_of 6 c.args.p.now = omega arith in
-    rw e at x.invariant.1
+    let a = c.args in
+    let last = c.last_record.result in
+    rw (← c.last_record.ensures) (undue_all (any_from_yields_List (λ k. is_due a.p.now a.work.now (k + 1) a.n) _ _ c.any.result c.any.ensures.ran (YieldsList-from_range 0 last last refl (omega arith)) (λ x b q k. search (rules, tests))) h)

@@ -1,3 +1,4 @@
+use Prim.Native.Nat.{◌+◌, ◌-◌, ◌<◌}
 use borrow.Author.Rules.{rules}
 use mathlib.Core.Path.{◌∙◌, ◌≡◌}
 use native.Mathlib.Omega.{arith}
@@ -5,7 +6,9 @@ use Rattle.extension.proofs.Marks.{cleared_sets, marked_on, marked_starts}
 use Rattle.frames.proofs.Frames.{only_none, only_then}
 use Rattle.meaning.specs.Records.{last_of}
 use Rattle.satisfaction.proofs.Classes.{interpreted_kept}
+use Rattle.extension.specs.Sets.{MarkedTo}
 use Rattle.extension.proofs.mark_all.Goals as goal
+use Rattle.extension.proofs.mark_all.Goals.{After-mark_class}
 
 pub clear-requires : goal.clear-requires
 clear-requires c = let i = c.requires.1.readable.individuals in let l = c.requires.1.long in omega arith
@@ -31,16 +34,28 @@ mark_class-requires c =
     let o = only_then (cleared_sets pre.1.readable (c.place.ensures ∙ c.individual_count.ensures) c.clear.ensures) c.mark_values.ensures.only in
     ((omega arith, omega arith), interpreted_kept (omega arith) (only_then o x.2) pre.1)
 
-pub loop-k-preserved : goal.loop-k-preserved
-loop-k-preserved c = (search rules, marked_on c.requires.1.readable (omega arith) c.mark_class.ensures c.loop-k.invariant.1, only_then c.loop-k.invariant.2 c.mark_class.ensures.only)
+more : (c : After-mark_class) → MarkedTo c.args.p.now c.args.m.now c.loop-k.k c.mark_class.new.work
+more c =
+    let i : c.loop-k.k - 1 + 1 ≡ c.loop-k.k = omega arith in
+    let l : c.loop-k.k - 1 < last_of 6 c.args.p.now = omega arith in
+    rw i at (marked_on {w' = c.mark_class.new.work} c.requires.1.readable l (rw i c.mark_class.ensures) c.loop-k.invariant.1)
 
-pub shape_of-work : goal.shape_of-work
-shape_of-work c = c.loop-k.invariant.2.size ∙ (c.mark_values.ensures.only.size ∙ c.clear.ensures.only.size)
+pub loop-k-preserved : goal.loop-k-preserved
+loop-k-preserved c =
+    let i : c.loop-k.k + 1 - 1 ≡ c.loop-k.k = omega arith in
+    (search rules, rw i (more (goal.at.loop-k-preserved c).After-mark_class), only_then c.loop-k.invariant.2 c.mark_class.ensures.only)
 
 pub returns : goal.returns
 returns c =
     let pre = c.requires in
     let x = c.loop-k in
-    let e : x.k ≡ last_of 6 c.args.p.now = omega arith in
+    let e : x.k - 1 ≡ last_of 6 c.args.p.now = omega arith in
     let o = only_then (cleared_sets pre.1.readable (c.place.ensures ∙ c.individual_count.ensures) c.clear.ensures) c.mark_values.ensures.only in
     record { marked = rw e at x.invariant.1; only = only_then o x.invariant.2 }
+
+pub returns-2 : goal.returns-2
+returns-2 c =
+    let pre = c.requires in
+    let e : c.loop-k.k ≡ last_of 6 c.args.p.now = omega arith in
+    let o = only_then (cleared_sets pre.1.readable (c.place.ensures ∙ c.individual_count.ensures) c.clear.ensures) c.mark_values.ensures.only in
+    record { marked = rw (← e) (more (goal.at.returns-2 c).After-mark_class); only = only_then o (only_then c.loop-k.invariant.2 c.mark_class.ensures.only) }

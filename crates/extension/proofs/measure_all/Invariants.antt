@@ -3,6 +3,3 @@ use Rattle.extension.proofs.measure_all.Given as goal
 
 abbrev pub invariant-loop-k : goal.invariant-loop-k
 invariant-loop-k l = Measuring l.p l.initial.work l.work l.top l.k
-
-abbrev pub decreases-loop-k : goal.decreases-loop-k
-decreases-loop-k l = l.k

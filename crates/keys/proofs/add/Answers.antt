@@ -1,15 +1,10 @@
-use Rattle.keys.proofs.Adding.{key_stands, shifting_before, shifting_ends, shifting_last, shifting_on}
+use Rattle.keys.proofs.Adding.{added_before, added_last, key_stands}
 use Rattle.keys.proofs.add.Goals as goal
-use Rattle.keys.proofs.add.Goals.{else-at-n, then-at-n+else-keys-at}
+use Rattle.keys.proofs.add.Goals.{else-at-n-via-else-at-n, else-at-n-via-then-at-n+else-keys-at}
 
 pub returns-then-keys-at : goal.returns-then-keys-at
 returns-then-keys-at c = search key_stands
 
-pub loop-i-init : goal.loop-i-init
-loop-i-init c = elim c.if-at-n.branch [ then-at-n+else-keys-at w ↦ search shifting_before | else-at-n w ↦ search shifting_last ]
-
-pub loop-i-preserved : goal.loop-i-preserved
-loop-i-preserved c = search shifting_on
-
 pub returns : goal.returns
-returns c = search shifting_ends
+returns c =
+    elim c.else-at-n.branch [ else-at-n-via-then-at-n+else-keys-at w ↦ search added_before | else-at-n-via-else-at-n w ↦ search added_last ]

@@ -6,6 +6,3 @@ use Rattle.layout.proofs.next_successor.Given as goal
 
 abbrev pub invariant-loop-i : goal.invariant-loop-i
 invariant-loop-i l = (l.i ≤ l.n) × (next_successor l.work l.x (l.n - l.j) l.j ≡ next_successor l.work l.x (l.n - l.i) l.i)
-
-abbrev pub decreases-loop-i : goal.decreases-loop-i
-decreases-loop-i l = l.n - l.i

@@ -1,25 +1,16 @@
 use Prim.Native.Nat.{◌+◌}
-use mathlib.Core.Path.{refl, sym}
-use Rattle.satisfaction.proofs.Statements.{all_fails, all_on, counting_ends, counting_found, counting_on, counting_starts}
+use mathlib.Core.Path.{◌∙◌, refl}
+use native.Mathlib.Omega.{arith}
+use borrow.Author.Rules.{rules}
+use borrow.Author.Tests.{tests}
+use Rattle.satisfaction.proofs.Statements.{all_counted}
 use Rattle.satisfaction.specs.Classes.{follows}
+use Rattle.std.proofs.lemmas.Iterator.{YieldsList-from_range}
+use Rattle.std.proofs.lemmas.Iterator.Search.{all_from_yields_List}
 use Rattle.satisfaction.proofs.do_follow.Goals as goal
 
-pub loop-i-init : goal.loop-i-init
-loop-i-init c = counting_starts refl
-
-pub returns-then-not-does_follow : goal.returns-then-not-does_follow
-returns-then-not-does_follow c =
-    let args = c.args in
-    let loop = c.loop-i in
-    counting_found loop.invariant c.loop-i-test.true (λ l h.
-    all_fails (follows args.work.now args.a.0 args.b.0 args.apart) (loop.i + 1) c.does_follow.ensures l h c.if-not-does_follow.true-raw)
-
-pub loop-i-preserved : goal.loop-i-preserved
-loop-i-preserved c =
-    let args = c.args in
-    let loop = c.loop-i in
-    counting_on loop.invariant c.loop-i-test.true (λ l h.
-    all_on (follows args.work.now args.a.0 args.b.0 args.apart) (loop.i + 1) c.does_follow.ensures l h c.if-not-does_follow.false-raw)
-
 pub returns : goal.returns
-returns c = sym (counting_ends c.loop-i.invariant c.loop-i-test.false)
+returns c =
+    let a = c.args in
+    all_from_yields_List (λ i. follows a.work.now a.a.0 a.b.0 a.apart (i + 1)) _ _ c.all.result c.all.ensures.ran (YieldsList-from_range 0 a.n a.n refl (omega arith)) (λ x b q k. search (rules, tests))
+    ∙ all_counted (follows a.work.now a.a.0 a.b.0 a.apart) 0 a.n

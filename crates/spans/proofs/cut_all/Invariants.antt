@@ -1,11 +1,8 @@
-use Prim.Native.Nat.{◌-◌, ◌≤◌}
+use Prim.Native.Nat.{◌+◌, ◌-◌, ◌≤◌}
 use mathlib.Core.Path.{◌≡◌}
 use lib.ListN.{length}
 use Rattle.spans.proofs.Cuts.{Cutting}
 use Rattle.spans.proofs.cut_all.Given as goal
 
 abbrev pub invariant-loop-k : goal.invariant-loop-k
-invariant-loop-k l = (l.k ≤ l.last) × Cutting l.p l.first l.k l.cuts l.n × (length l.cuts ≡ length l.initial.cuts)
-
-abbrev pub decreases-loop-k : goal.decreases-loop-k
-decreases-loop-k l = l.last - l.k
+invariant-loop-k l = (l.k ≤ l.last + 1) × Cutting l.p l.first (l.k - 1) l.cuts l.n × (length l.cuts ≡ length l.initial.cuts)

@@ -1,21 +1,16 @@
-use mathlib.Core.Path.{◌∙◌}
-use borrow.Author.Tests.{not-false, not-true}
+use mathlib.Core.Path.{◌∙◌, refl}
+use native.Mathlib.Omega.{arith}
+use borrow.Author.Rules.{rules}
+use Rattle.layout.specs.Tables.{set_at}
+use Rattle.pairs.proofs.Pairs.{all_ranged}
+use Rattle.pairs.specs.Pairs.{agree_in}
+use Rattle.std.proofs.lemmas.Iterator.{YieldsList-from_range}
+use Rattle.std.proofs.lemmas.Iterator.Search.{all_from_yields_List}
 use Rattle.tabulation.proofs.Cleanness.{row_agrees}
-use Rattle.theory.proofs.Counting.{testing_ends, testing_fails, testing_on, testing_starts}
 use Rattle.tabulation.proofs.are_compatible.Goals as goal
 
-pub loop-i-init : goal.loop-i-init
-loop-i-init c = testing_starts _ _
-
-pub returns-then-not-is_compatible : goal.returns-then-not-is_compatible
-returns-then-not-is_compatible c =
-    let l = c.loop-i in
-    testing_fails l.invariant c.loop-i-test.true (row_agrees _ l.i c.place.ensures c.classes_of-s.ensures c.is_compatible.ensures ∙ not-true _ c.if-not-is_compatible.true-raw)
-
-pub loop-i-preserved : goal.loop-i-preserved
-loop-i-preserved c =
-    let l = c.loop-i in
-    testing_on l.invariant c.loop-i-test.true (row_agrees _ l.i c.place.ensures c.classes_of-s.ensures c.is_compatible.ensures ∙ not-false _ c.if-not-is_compatible.false-raw)
-
 pub returns : goal.returns
-returns c = testing_ends c.loop-i.invariant c.loop-i-test.false
+returns c =
+    let w = c.args.work.now in
+    all_from_yields_List (λ i. agree_in w (set_at w i)) _ _ c.all.result c.all.ensures.ran (YieldsList-from_range 0 c.args.n c.args.n refl (omega arith)) (λ x b q k. search (rules, row_agrees))
+    ∙ all_ranged (λ i. agree_in w (set_at w i)) 0 c.args.n

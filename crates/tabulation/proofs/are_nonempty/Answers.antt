@@ -1,19 +1,15 @@
-use mathlib.Core.Path.{◌∙◌}
-use borrow.Author.Tests.{not-false, not-true}
+use mathlib.Core.Path.{◌∙◌, refl}
+use native.Mathlib.Omega.{arith}
+use borrow.Author.Rules.{rules}
+use Rattle.pairs.proofs.Pairs.{all_ranged}
+use Rattle.std.proofs.lemmas.Iterator.{YieldsList-from_range}
+use Rattle.std.proofs.lemmas.Iterator.Search.{all_from_yields_List}
 use Rattle.tabulation.proofs.Cleanness.{value_told}
-use Rattle.theory.proofs.Counting.{testing_ends, testing_fails, testing_on, testing_starts}
+use Rattle.tabulation.specs.Clean.{non_empty_at}
 use Rattle.tabulation.proofs.are_nonempty.Goals as goal
 
-pub loop-i-init : goal.loop-i-init
-loop-i-init c = testing_starts _ _
-
-pub returns-then-not-is_nonempty : goal.returns-then-not-is_nonempty
-returns-then-not-is_nonempty c =
-    testing_fails c.loop-i.invariant c.loop-i-test.true (value_told _ _ c.lo_of-lo.ensures c.hi_of-hi.ensures c.is_nonempty.ensures ∙ not-true _ c.if-not-is_nonempty.true-raw)
-
-pub loop-i-preserved : goal.loop-i-preserved
-loop-i-preserved c =
-    testing_on c.loop-i.invariant c.loop-i-test.true (value_told _ _ c.lo_of-lo.ensures c.hi_of-hi.ensures c.is_nonempty.ensures ∙ not-false _ c.if-not-is_nonempty.false-raw)
-
 pub returns : goal.returns
-returns c = testing_ends c.loop-i.invariant c.loop-i-test.false
+returns c =
+    let w = c.args.work.now in
+    all_from_yields_List (non_empty_at w) _ _ c.all.result c.all.ensures.ran (YieldsList-from_range 0 c.args.n c.args.n refl (omega arith)) (λ x b q k. search (rules, value_told))
+    ∙ all_ranged (non_empty_at w) 0 c.args.n
