@@ -1,10 +1,13 @@
 -- What a pass over a text's statements tells of them.
-use Rattle.std.specs.Prelude.{◌*◌, ◌+◌, ◌≤◌, suc, ℕ, cond, false, true, List, [], ◌∷◌, ◌≡◌, eqb, drop, length}
+use Rattle.std.specs.Prelude.{◌*◌, ◌+◌, ◌≤◌, suc, ℕ, List, [], ◌∷◌, ◌≡◌, ◌<◌, Option, Some, None, drop, length}
 use Rattle.declarations.specs.Names.{declared}
 use Rattle.declarations.specs.declared.Counts.{Counts}
 use Rattle.meaning.specs.Limits.{most_classes, most_features, most_roles, most_text}
 use Rattle.name_table.specs.Table.{Listed, entered, names_from}
 use Rattle.statements.specs.Forms.{Parsed, Sort, Statement, class, declares, feature, parsed, role, statements, states, wrong}
+use Rattle.statements.specs.declared.NameOf.TheVariants.{Class, Feature, Role}
+use Rattle.statements.specs.declared.Said.{Said}
+use Rattle.statements.specs.declared.Said.TheVariants.{Declares, States}
 use Rattle.tokens.specs.Tokens.{Token, tokens}
 
 -- ---- the statements from a place on
@@ -31,31 +34,29 @@ axiom_count [] = 0
 axiom_count (declares s us ∷ l) = axiom_count l
 axiom_count (states k us ∷ l) = suc (axiom_count l)
 
-abbrev pub no_counts : Counts
-no_counts = record { ok = false; classes = 0; roles = 0; features = 0; axioms = 0 }
-
 abbrev pub no_names : Counts
-no_names = record { ok = true; classes = 0; roles = 0; features = 0; axioms = 0 }
+no_names = record { classes = 0; roles = 0; features = 0; axioms = 0 }
 
 -- how many names each sort has, and how many axioms there are
-abbrev pub counts_of : Parsed → Counts
-counts_of wrong = no_counts
-counts_of (parsed l) =
+abbrev pub counts_in : List Statement → Counts
+counts_in l =
     record {
-      ok = true;
       classes = length (declared class l);
       roles = length (declared role l);
       features = length (declared feature l);
       axioms = axiom_count l;
     }
 
--- with a statement more, by its number
-abbrev pub one_more : Counts → ℕ → Counts
-one_more c k =
-    cond (eqb k 6) (record { ok = true; classes = c.classes + 1; roles = c.roles; features = c.features; axioms = c.axioms })
-    (cond (eqb k 7) (record { ok = true; classes = c.classes; roles = c.roles + 1; features = c.features; axioms = c.axioms })
-    (cond (eqb k 8) (record { ok = true; classes = c.classes; roles = c.roles; features = c.features + 1; axioms = c.axioms })
-    (record { ok = true; classes = c.classes; roles = c.roles; features = c.features; axioms = c.axioms + 1 })))
+abbrev pub counts_of : Parsed → Option Counts
+counts_of wrong = None
+counts_of (parsed l) = Some (counts_in l)
+
+-- with a statement more
+abbrev pub one_more : Counts → Said → Counts
+one_more c (Declares (Class t)) = record c { classes = c.classes + 1 }
+one_more c (Declares (Role t)) = record c { roles = c.roles + 1 }
+one_more c (Declares (Feature t)) = record c { features = c.features + 1 }
+one_more c (States a) = record c { axioms = c.axioms + 1 }
 
 -- ---- the table of declared names: those of the classes first, then the roles' and the features'
 
@@ -79,12 +80,19 @@ pub record Tabled (text table : List ℕ) (l : List Statement) : Type 0 where
   pub roles : Sorted text table role (declared role l)
   pub features : Sorted text table feature (declared feature l)
 
--- with a statement more, by its number
-abbrev pub listed_one : List ℕ → List ℕ → Counts → ℕ → ℕ → ℕ → List ℕ
-listed_one text table c k from to =
-    cond (eqb k 6) (entered text table c.classes from to)
-    (cond (eqb k 7) (entered text table (most_classes + c.roles) from to)
-    (cond (eqb k 8) (entered text table (most_classes + most_roles + c.features) from to) table))
+-- with a statement more
+abbrev pub listed_one : List ℕ → List ℕ → Counts → Said → List ℕ
+listed_one text table c (Declares (Class t)) = entered text table c.classes t.from t.to
+listed_one text table c (Declares (Role t)) = entered text table (most_classes + c.roles) t.from t.to
+listed_one text table c (Declares (Feature t)) = entered text table (most_classes + most_roles + c.features) t.from t.to
+listed_one text table c (States a) = table
+
+-- there is room for one name more in its sort
+abbrev pub HasRoom : Counts → Said → Type 0
+HasRoom c (Declares (Class t)) = c.classes < most_classes
+HasRoom c (Declares (Role t)) = c.roles < most_roles
+HasRoom c (Declares (Feature t)) = c.features < most_features
+HasRoom c (States a) = Unit {0}
 
 -- the table has room for what the statements from a place on declare
 pub record Fits (text table : List ℕ) (start : ℕ) : Type 0 where

@@ -1,106 +1,68 @@
 // The declarations of an OWL text: counted, and listed in a table.
 #![tactic(auto)]
 
-ghost use Rattle.std.specs.Prelude.{◌≡◌, ◌<◌, ◌≤◌, length};
-ghost use Rattle.declarations.specs.Passes.{Fits, Tabled, counts_of, listed_one, no_counts, no_names, one_more, parsed_at, statements_at, table_size};
-ghost use Rattle.meaning.specs.Limits.{most_classes, most_features, most_roles, most_text};
-ghost use Rattle.statements.specs.Found.{Within};
+ghost use Rattle.std.specs.Prelude.{◌≡◌, ◌≤◌, length};
+ghost use Rattle.declarations.specs.Passes.{Fits, HasRoom, Tabled, counts_of, listed_one, no_names, one_more, parsed_at, statements_at, table_size};
+ghost use Rattle.meaning.specs.Limits.{most_text};
+ghost use Rattle.statements.specs.Found.{SaidWithin};
 
 use meaning::limits::{MOST_CLASSES, MOST_ROLES};
 use name_table::enter;
-use statements::{END, next_item};
+use statements::{Item, NameOf, Said, next_item};
 
-// How many names each sort has and how many axioms there are; not ok where the text departs from the forms.
+// How many names each sort has and how many axioms there are.
 #[derive(Clone, Copy)]
 pub struct Counts {
-    pub ok: bool,
     pub classes: usize,
     pub roles: usize,
     pub features: usize,
     pub axioms: usize,
 }
 
-// Of a text that departs from the forms.
-fn no_counts() -> Counts
-    ensures { result ≡ no_counts }
-{
-    Counts {
-        ok: false,
-        classes: 0,
-        roles: 0,
-        features: 0,
-        axioms: 0,
-    }
-}
-
 // Before the first statement.
-fn no_names() -> Counts
-    ensures { result ≡ no_names }
-{
-    Counts {
-        ok: true,
-        classes: 0,
-        roles: 0,
-        features: 0,
-        axioms: 0,
-    }
-}
+const NO_NAMES: Counts = Counts {
+    classes: 0,
+    roles: 0,
+    features: 0,
+    axioms: 0,
+};
 
-fn count_one(c: Counts, kind: u32) -> Counts
+fn count_one(c: Counts, says: Said) -> Counts
     requires { (c.classes ≤ most_text) × (c.roles ≤ most_text) × (c.features ≤ most_text) × (c.axioms ≤ most_text) }
-    ensures { result ≡ one_more c kind }
+    ensures { result ≡ one_more c says }
 {
-    match kind {
-        6 => Counts {
-            ok: true,
+    match says {
+        Said::Declares(NameOf::Class(_)) => Counts {
             classes: c.classes + 1,
-            roles: c.roles,
-            features: c.features,
-            axioms: c.axioms,
+            ..c
         },
-        7 => Counts {
-            ok: true,
-            classes: c.classes,
+        Said::Declares(NameOf::Role(_)) => Counts {
             roles: c.roles + 1,
-            features: c.features,
-            axioms: c.axioms,
+            ..c
         },
-        8 => Counts {
-            ok: true,
-            classes: c.classes,
-            roles: c.roles,
+        Said::Declares(NameOf::Feature(_)) => Counts {
             features: c.features + 1,
-            axioms: c.axioms,
+            ..c
         },
-        _ => Counts {
-            ok: true,
-            classes: c.classes,
-            roles: c.roles,
-            features: c.features,
+        Said::States(_) => Counts {
             axioms: c.axioms + 1,
+            ..c
         },
     }
 }
 
-// Reads every statement from a place on, and counts.
-pub fn survey(text: &[u8], start: usize) -> Counts
+// Reads every statement from a place on, and counts, where the text keeps to the forms.
+pub fn survey(text: &[u8], start: usize) -> Option<Counts>
     requires { (start ≤ length text.now) × (length text.now ≤ most_text) }
     ensures { result ≡ counts_of (parsed_at text.now start) }
 {
     let mut at = start;
-    let mut c = no_names();
-    loop {
-        let s = next_item(text, at);
-        let kind = s.kind;
-        if kind == 0 {
-            return no_counts();
-        }
-        if kind == END {
-            return c;
-        }
-        c = count_one(c, kind);
-        at = s.next;
+    let mut c = NO_NAMES;
+    while let Item::Statement(found) = next_item(text, at)? {
+        c = count_one(c, found.says);
+        at = found.next;
     }
+    Some(c)
 }
 
 // The table's entries: those of the classes first.
@@ -109,19 +71,16 @@ pub const ROLES: usize = MOST_CLASSES as usize;
 pub const FEATURES: usize = ROLES + MOST_ROLES as usize;
 
 // A name more, where the statement declares one.
-fn list_one(text: &[u8], table: &mut [u32], c: Counts, kind: u32, from: usize, to: usize)
-    requires table_len { (length table.old ≡ table_size) × (length text.now ≤ most_text) × Within text.now from to }
-    requires classes_lt_most_classes { (kind ≡ 6 → c.classes < most_classes) × (kind ≡ 7 → c.roles < most_roles) × (kind ≡ 8 → c.features < most_features) }
-    ensures { table.new ≡ listed_one text.now table.old c kind from to }
+fn list_one(text: &[u8], table: &mut [u32], c: Counts, says: Said)
+    requires table_len { (length table.old ≡ table_size) × (length text.now ≤ most_text) × SaidWithin text.now says }
+    requires has_room { HasRoom c says }
+    ensures { table.new ≡ listed_one text.now table.old c says }
 {
-    let classes = c.classes;
-    let roles = c.roles;
-    let features = c.features;
-    match kind {
-        6 => enter(text, table, classes, from, to),
-        7 => enter(text, table, ROLES + roles, from, to),
-        8 => enter(text, table, FEATURES + features, from, to),
-        _ => {}
+    match says {
+        Said::Declares(NameOf::Class(name)) => enter(text, table, c.classes, name),
+        Said::Declares(NameOf::Role(name)) => enter(text, table, ROLES + c.roles, name),
+        Said::Declares(NameOf::Feature(name)) => { enter(text, table, FEATURES + c.features, name) }
+        Said::States(_) => {}
     }
 }
 
@@ -131,17 +90,15 @@ pub fn list_names(text: &[u8], start: usize, table: &mut [u32])
     ensures { Tabled text.now table.new (statements_at text.now start) }
 {
     let mut at = start;
-    let mut c = no_names();
-    loop {
-        let s = next_item(text, at);
-        let kind = s.kind;
-        if kind == END {
-            return;
+    let mut c = NO_NAMES;
+    while let Some(item) = next_item(text, at) {
+        match item {
+            Item::Statement(found) => {
+                list_one(text, table, c, found.says);
+                c = count_one(c, found.says);
+                at = found.next;
+            }
+            Item::End => return,
         }
-        let from = s.from;
-        let to = s.to;
-        list_one(text, table, c, kind, from, to);
-        c = count_one(c, kind);
-        at = s.next;
     }
 }

@@ -6,14 +6,14 @@ ghost use Rattle.std.specs.Prelude.{◌≡◌, ◌+◌, ◌≤◌, length};
 ghost use Rattle.frames.specs.Frames.{Cleared};
 ghost use Rattle.frames.specs.Rows.{put_at, row_at};
 ghost use Rattle.meaning.specs.Operations.{work_refusal};
-ghost use Rattle.meaning.specs.Refusals.{number_in, refusal_number};
+ghost use Rattle.meaning.specs.Refusals.{fault_in, refusal_number};
 
 use meaning::limits::WORK_SIZE;
 use meaning::refusals::Refusal;
 
 // Whether the work slice is full.
 pub fn check_work(work: &[u32]) -> Result<(), Refusal>
-    ensures { number_in refusal_number result ≡ work_refusal (length work.now) }
+    ensures { fault_in refusal_number result ≡ work_refusal (length work.now) }
 {
     if work.len() < WORK_SIZE {
         return Err(Refusal::Work);

@@ -43,6 +43,6 @@ refusal_number refusal.Spelling = 43
 refusal_number refusal.Load = 45
 
 -- what a check answers: the number of the fault that it found, or 0
-abbrev pub number_in : {A E : Type 0} → (E → ℕ) → Result A E → ℕ
-number_in number (Ok a) = 0
-number_in number (Err e) = number e
+abbrev pub fault_in : {A E : Type 0} → (E → ℕ) → Result A E → ℕ
+fault_in number (Ok a) = 0
+fault_in number (Err e) = number e

@@ -5,7 +5,7 @@ ghost use Rattle.std.specs.Prelude.{◌≡◌, ◌≤◌, length};
 ghost use Rattle.meaning.specs.Model.{fact_fits, fact_kind, fact_name, fact_next, fact_other, fact_owner, first_fact};
 ghost use Rattle.meaning.specs.Model.{headed_model, individual_count, model_refusal, sound_fact};
 ghost use Rattle.meaning.specs.Records.{last_of};
-ghost use Rattle.meaning.specs.Refusals.{model_number, number_in};
+ghost use Rattle.meaning.specs.Refusals.{fault_in, model_number};
 ghost use Rattle.model.specs.Chain.{chain_refusal};
 
 use meaning::limits::{MOST_INDIVIDUALS, MOST_MODEL_WORDS};
@@ -92,7 +92,7 @@ fn is_sound(v: &[u32], m: &[u32], k: u32) -> bool
 // The first fault along the chain, which ends: a link that does not rise is refused before it is followed.
 fn check_facts(v: &[u32], m: &[u32]) -> Result<(), ModelFault>
     requires { (5 ≤ length m.now) × (first_fact m.now ≤ last_of 5 m.now) }
-    ensures { number_in model_number result ≡ chain_refusal v.now m.now }
+    ensures { fault_in model_number result ≡ chain_refusal v.now m.now }
 {
     let mut k = first_fact(m);
     while k != 0 {
@@ -115,7 +115,7 @@ fn is_headed(m: &[u32]) -> bool
 
 // The first fault: the operation that reads a model passes it on.
 pub fn check_model(v: &[u32], m: &[u32]) -> Result<(), ModelFault>
-    ensures { number_in model_number result ≡ model_refusal v.now m.now }
+    ensures { fault_in model_number result ≡ model_refusal v.now m.now }
 {
     if !records::is_sized(5, MOST_MODEL_WORDS, m.len()) {
         return Err(ModelFault::Length);

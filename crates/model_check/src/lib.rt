@@ -6,7 +6,7 @@
 ghost use Rattle.std.specs.Prelude.{◌≡◌};
 ghost use Rattle.frames.specs.Frames.{Only, Span};
 ghost use Rattle.meaning.specs.Limits.{work_size};
-ghost use Rattle.meaning.specs.Refusals.{number_in, refusal_number};
+ghost use Rattle.meaning.specs.Refusals.{fault_in, refusal_number};
 ghost use Rattle.model_check.specs.Judging.{Checkable, ModelCheckPost, Partable, Parted, is_refuted, tables_refusal};
 
 use extension::{COLUMNS, is_inside};
@@ -43,7 +43,7 @@ fn does_refute(v: &[u32], p: &[u32], q: &[u32], m: &[u32], work: &mut [u32]) -> 
 
 // The four tables: the vocabulary, the policies, the model.
 fn check_tables(v: &[u32], p: &[u32], q: &[u32], m: &[u32]) -> Result<(), Refusal>
-    ensures { number_in refusal_number result ≡ tables_refusal v.now p.now q.now m.now }
+    ensures { fault_in refusal_number result ≡ tables_refusal v.now p.now q.now m.now }
 {
     check_input(v, p, q)?;
     check_model(v, m)?;

@@ -10,19 +10,21 @@ use lib.Seq.{get_or-set_other, get_or-set_same}
 use native.Mathlib.Nat.{add-zero}
 use native.Mathlib.Numerals.{add-one}
 use native.Mathlib.Omega.{arith}
+use Rattle.std.proofs.Common.{None, Option, Some}
+use Rattle.std.specs.Option.{is_some}
 use Rattle.meaning.specs.Lists.{any}
 use Rattle.tokens.specs.Places.{part, print_of}
 use Rattle.tokens.specs.Tokens.{Token, same_bytes}
 use Rattle.tokens.proofs.Bytes.{differ, same_refl, same_true}
-use Rattle.name_table.specs.Numbers.{number_from, number_of, repeats}
+use Rattle.name_table.specs.Numbers.{number_found, number_from, number_of, repeats}
 use Rattle.name_table.specs.Table.{Entry, Listed, entered, name_at, names_from}
 
 -- ---- a different print is no match
 
-pub print_differs : {text table : List ℕ} {j p : ℕ} (from to : ℕ) → Entry text table j → p ≡ print_of (part text from to) → (get_or table (3 * j + 2) 0 ≡ p → ⊥) →
-    false ≡ same_bytes (name_at text table j) (part text from to)
-print_differs {text} {table} {j} from to e h n =
-    sym (differ (name_at text table j) (part text from to) (λ d. n (e.print ∙ ap print_of d ∙ sym h)))
+pub print_differs : {text table : List ℕ} {j p : ℕ} (x : Token) → Entry text table j → p ≡ print_of x → (get_or table (3 * j + 2) 0 ≡ p → ⊥) →
+    eqb (get_or table (3 * j + 2) 0) p ≡ same_bytes (name_at text table j) x
+print_differs {text} {table} {j} {p} x e h n =
+    ne_eqb (get_or table (3 * j + 2) 0) p n ∙ sym (differ (name_at text table j) x (λ d. n (e.print ∙ ap print_of d ∙ sym h)))
 
 -- ---- a look-up: entry k is next
 
@@ -38,23 +40,25 @@ looking_starts {text} {table} {base} {n} {x} =
     record { place = omega arith; same = rw (e, d) }
 
 module _ {text table : List ℕ} {base n : ℕ} {x : Token} {k : ℕ} (l : Looking text table base n x k) where
-  pub looking_ends : n ≤ k → 0 ≡ number_of (names_from text table base n) x
-  looking_ends h = let d : n - k ≡ 0 = omega arith in sym (l.same ∙ rw d)
+  pub looking_ends : n ≤ k → None ≡ number_found (number_of (names_from text table base n) x)
+  looking_ends h =
+      let d : n - k ≡ 0 = omega arith in
+      let e : number_of (names_from text table base n) x ≡ 0 = l.same ∙ rw d in
+      rw e
 
   module _ (h : k < n) {b : Bool} (e : b ≡ same_bytes (name_at text table (base + k)) x) where
     cut : number_of (names_from text table base n) x ≡ cond b (suc k) (number_from (suc (suc k)) (names_from text table (suc (base + k)) (n - suc k)) x)
     cut = let d : n - k ≡ suc (n - suc k) = omega arith in l.same ∙ rw (d, e)
 
-    pub looking_finds : b ≡ true → k + 1 ≡ number_of (names_from text table base n) x
-    looking_finds t = sym (cut ∙ rw t (sym (add-one k)))
+    pub looking_finds : b ≡ true → Some (k + 1) ≡ number_found (number_of (names_from text table base n) x)
+    looking_finds t =
+        let f : number_of (names_from text table base n) x ≡ suc k = cut ∙ rw t in
+        rw (f, eqb-suc-zero k, add-one k)
 
     pub looking_on : b ≡ false → Looking text table base n x (k + 1)
     looking_on t =
         let d : base + (k + 1) ≡ suc (base + k) = omega arith in
         record { place = omega arith; same = cut ∙ rw (t, d, add-one k) }
-
-pub listed_at : {text table : List ℕ} {base n : ℕ} → Listed text table base n → {k : ℕ} → k < n → Entry text table (base + k)
-listed_at {base = base} l {k} h = l.each (base + k) (omega arith) (omega arith)
 
 pub listed_rest : {text table : List ℕ} {base n k : ℕ} → Listed text table base n → k < n → Listed text table (base + k + 1) (n - k - 1)
 listed_rest {base = base} l h = record { room = omega (arith, l.room); each = λ i a b. l.each i (omega arith) (omega arith) }
@@ -77,6 +81,13 @@ number_any k (y ∷ l) x = rw (same_sym x y) (go (same_bytes y x) (number_any (s
     go true e = rw (eqb-suc-zero k)
     go false e = e
 
+pub some_found : (n : ℕ) → not (eqb n 0) ≡ is_some (number_found n)
+some_found n = go (eqb n 0)
+  where
+    go : (b : Bool) → not b ≡ is_some (cond b None (Some n))
+    go true = refl
+    go false = refl
+
 pub record Repeating (text table : List ℕ) (base n k : ℕ) : Type 0 where
   pub place : k ≤ n
   pub same : repeats (names_from text table base n) ≡ repeats (names_from text table (base + k) (n - k))
@@ -92,20 +103,22 @@ module _ {text table : List ℕ} {base n k : ℕ} (l : Repeating text table base
   repeating_ends h = let d : n - k ≡ 0 = omega arith in sym (l.same ∙ rw d)
 
   -- m is the number of name k among those behind it
-  module _ (h : k < n) {from to m : ℕ} (a : from ≡ get_or table (3 * (base + k)) 0) (b : to ≡ get_or table (3 * (base + k) + 1) 0)
-      (e : m ≡ number_of (names_from text table (base + k + 1) (n - k - 1)) (part text from to)) where
-    split_off : repeats (names_from text table base n) ≡ not (eqb m 0) || repeats (names_from text table (suc (base + k)) (n - suc k))
+  module _ (h : k < n) {x : Token} {m : Option ℕ} (a : x ≡ name_at text table (base + k))
+      (e : m ≡ number_found (number_of (names_from text table (base + k + 1) (n - k - 1)) x)) where
+    split_off : repeats (names_from text table base n) ≡ is_some m || repeats (names_from text table (suc (base + k)) (n - suc k))
     unfolding number_of
     split_off =
         let d : n - k ≡ suc (n - suc k) = omega arith in
         let i : base + k + 1 ≡ suc (base + k) = omega arith in
         let j : n - k - 1 ≡ n - suc k = omega arith in
-        l.same ∙ rw (d, e, i, j, a, b, number_any 0 (names_from text table (suc (base + k)) (n - suc k)) (name_at text table (base + k)))
+        l.same ∙ rw (d, e, i, j, a, number_any 0 (names_from text table (suc (base + k)) (n - suc k)) (name_at text table (base + k)))
+        (ap (λ (b : Bool). b || repeats (names_from text table (suc (base + k)) (n - suc k)))
+        (some_found (number_from 1 (names_from text table (suc (base + k)) (n - suc k)) (name_at text table (base + k)))))
 
-    pub repeating_finds : (m ≡ 0 → ⊥) → true ≡ repeats (names_from text table base n)
-    repeating_finds z = sym (split_off ∙ rw (ne_eqb m 0 z))
+    pub repeating_finds : is_some m ≡ true → true ≡ repeats (names_from text table base n)
+    repeating_finds z = sym (split_off ∙ rw z)
 
-    pub repeating_on : m ≡ 0 → Repeating text table base n (k + 1)
+    pub repeating_on : is_some m ≡ false → Repeating text table base n (k + 1)
     repeating_on z =
         let d : base + (k + 1) ≡ suc (base + k) = omega arith in
         record { place = omega arith; same = split_off ∙ rw (z, d, add-one k) }

@@ -1,12 +1,14 @@
 -- The passes that look names up: whether all are known, with who is functional, and the records.
-use Prim.Native.Nat.{◌*◌, ◌+◌, ◌<◌, ◌≤◌, ℕ}
-use mathlib.Core.Bool.{Bool, ◌&&◌, false, not, true}
-use mathlib.Core.List.{List, [], ◌∷◌}
+use Prim.Native.Nat.{◌*◌, ◌+◌, ℕ}
+use mathlib.Core.Bool.{Bool, ◌&&◌, cond, false, true}
+use mathlib.Core.List.{List, [], ◌++◌, ◌∷◌}
 use mathlib.Core.Path.{◌∙◌, ◌≡◌, ap, refl, sym}
-use lib.ListN.{length}
-use native.Mathlib.Omega.{arith}
-use borrow.Author.Tests.{not-false, not-true}
-use Rattle.declarations.proofs.Passing.{by_axiom, by_declaration, parses_end, parses_more, parses_on, parses_some}
+use lib.Dec.{eqb}
+use borrow.Author.Tests.{eqb-true}
+use Rattle.std.proofs.Common.{None, Option, Some}
+use Rattle.std.specs.Option.{unwrap_or}
+use Rattle.name_table.specs.Numbers.{number_found}
+use Rattle.declarations.proofs.Passing.{parses_end, parses_more, parses_on}
 use Rattle.declarations.specs.Names.{is_known}
 use Rattle.declarations.specs.Passes.{Parses, list_of, statements_at}
 use Rattle.declarations.specs.declared.Counts.{Counts}
@@ -14,18 +16,21 @@ use Rattle.frames.specs.Rows.{put_at}
 use Rattle.meaning.specs.Lists.{all, flat_map}
 use Rattle.meaning.specs.Vocabulary.{Axiom, axiom_words, names_by}
 use Rattle.owl.specs.Owl.{axioms_by, axioms_in}
-use Rattle.owl.specs.Passes.{Begins, Here, Noted, Ready, axioms, first_number, second_number, statements_of}
-use Rattle.owl.proofs.Looking.{first_of, second_of}
-use Rattle.owl.proofs.Noting.{included, not_met}
-use Rattle.records.proofs.Writing.{Left, left_end, left_start, turn_more, turn_room}
-use Rattle.records.specs.Written.{Room, RoomFor, Written, link_at}
+use Rattle.owl.specs.Passes.{Begins, Looks, Noted, Ready, axioms, first_number, kind_of, second_number, statements_of}
+use Rattle.owl.proofs.Noting.{included}
+use Rattle.records.proofs.Writing.{Left, left_end, left_start, turn_more}
+use Rattle.records.specs.Written.{RoomFor, Written, link_at}
 use Rattle.statements.specs.Forms.{Statement, ontology, parsed}
-use Rattle.statements.specs.Found.{Next, item_at, statement_of}
-use Rattle.statements.specs.declared.Item.{Item}
+use Rattle.statements.specs.Found.{Next, NextSays, declared_of, stated_of, statement_of}
+use Rattle.statements.specs.declared.Axiom.{Axiom as Form}
+use Rattle.statements.specs.declared.Axiom.TheVariants.{Below, Disjoint, FunctionalFeature, FunctionalRole, Range}
+use Rattle.statements.specs.declared.Found.{Found}
+use Rattle.statements.specs.declared.Item.TheVariants.{End}
+use Rattle.statements.specs.declared.NameOf.{NameOf}
+use Rattle.statements.specs.declared.NameOf.TheVariants.{Class, Feature, Role}
+use Rattle.statements.specs.declared.Said.TheVariants.{Declares, States}
 use Rattle.theory.proofs.VocabularyWords.{axiom_length}
-use Rattle.tokens.specs.Places.{part}
-use Rattle.tokens.specs.Tokens.{Token, tokens}
-use Rattle.words.proofs.Others.{length_including_all}
+use Rattle.tokens.specs.Tokens.{tokens}
 use Rattle.words.specs.Sets.{including_all}
 
 -- ---- the statements from the start on are all
@@ -37,10 +42,6 @@ module _ {text : List ℕ} {start : ℕ} (b : Begins text start) (e : ontology (
 
   pub begins_parses : Parses text start
   begins_parses = record { ends = b.ends; same = sym b.same ∙ e ∙ ap parsed (sym all_begin) }
-
-pub next_here : {text : List ℕ} {at : ℕ} {r : Item} → Next text at r → Parses text at → (r.kind ≡ 9 → ⊥) → Here text r
-next_here n p k =
-    record { some = parses_some n p; few = omega (arith, n.placed.few); first = n.placed.first; second = n.placed.second }
 
 abbrev axioms_from : List ℕ → ℕ → List Axiom
 axioms_from text at = flat_map (axioms_by (statements_of text)) (statements_at text at)
@@ -54,10 +55,6 @@ all_from {text} w b = ap (flat_map (axioms_by (statements_of text))) (all_begin 
 -- with the names of a kind that are left, a set has all
 pub record Gathering (text : List ℕ) (at kind : ℕ) (entry names : List ℕ) : Type 0 where
   pub same : including_all names (names_by kind (axioms_from text at)) ≡ including_all entry (names_by kind (axioms_in (statements_of text)))
-
-pub gathering_long : {text : List ℕ} {at kind : ℕ} {entry names : List ℕ} → Gathering text at kind entry names → length names ≡ length entry
-gathering_long {text} {kind = kind} {entry} {names} g =
-    sym (length_including_all _ names) ∙ ap length g.same ∙ length_including_all (names_by kind (axioms_in (statements_of text))) entry
 
 pub record Knowing (text : List ℕ) (at : ℕ) (roles₀ roles features₀ features : List ℕ) : Type 0 where
   pub parses : Parses text at
@@ -78,66 +75,71 @@ module _ {text table : List ℕ} {c : Counts} {start : ℕ} (w : Ready text tabl
         fours = gathering_starts 4 features;
       }
 
-module _ {text : List ℕ} {at : ℕ} {roles₀ roles features₀ features : List ℕ} (w : Knowing text at roles₀ roles features₀ features) {r : Item} (n : Next text at r) where
-  module _ (h : r.kind ≡ 9) where
+module _ {text : List ℕ} {at : ℕ} {roles₀ roles features₀ features : List ℕ} (w : Knowing text at roles₀ roles features₀ features) where
+  module _ (n : Next text at (Some End)) where
     gathering_ends : {kind : ℕ} {entry names : List ℕ} → Gathering text at kind entry names → names ≡ including_all entry (names_by kind (axioms_in (statements_of text)))
     unfolding including_all names_by
     gathering_ends {kind} {names = names} g =
-        sym (ap (λ (l : List Statement). including_all names (names_by kind (flat_map (axioms_by (statements_of text)) l))) (parses_end n w.parses h)) ∙ g.same
+        sym (ap (λ (l : List Statement). including_all names (names_by kind (flat_map (axioms_by (statements_of text)) l))) (parses_end w.parses n)) ∙ g.same
 
     pub knowing_ends : (true ≡ all (is_known (statements_of text)) (statements_of text)) × (true ≡ true → Noted (axioms_in (statements_of text)) roles₀ roles features₀ features)
     knowing_ends =
-        (ap (all (is_known (statements_of text))) (sym (parses_end n w.parses h)) ∙ w.same, λ _. record { same_roles = gathering_ends w.threes; same_features = gathering_ends w.fours })
+        (ap (all (is_known (statements_of text))) (sym (parses_end w.parses n)) ∙ w.same, λ _. record { same_roles = gathering_ends w.threes; same_features = gathering_ends w.fours })
 
-  module _ (k : r.kind ≡ 9 → ⊥) {x : Bool} (e : x ≡ is_known (statements_of text) (item_at text r)) where
+  module _ {r : Found} (n : NextSays text at r) {x : Bool} {roles' features' : List ℕ}
+      (e : Looks (statements_of text) (statement_of text r.says) x roles roles' features features') where
     cut : x && all (is_known (statements_of text)) (statements_at text r.next) ≡ all (is_known (statements_of text)) (statements_of text)
-    cut = rw e (ap (all (is_known (statements_of text))) (sym (parses_more n w.parses k)) ∙ w.same)
-
-    pub knowing_stops : not x ≡ true → {A : Type 0} → (false ≡ all (is_known (statements_of text)) (statements_of text)) × (false ≡ true → A)
-    knowing_stops h = not_met (rw (not-true x h) at cut)
+    cut = rw e.value (ap (all (is_known (statements_of text))) (sym (parses_more w.parses n)) ∙ w.same)
 
     gathering_on : {kind : ℕ} {entry names names' : List ℕ} → Gathering text at kind entry names →
-        names' ≡ including_all names (names_by kind (axioms_by (statements_of text) (item_at text r))) → Gathering text r.next kind entry names'
+        names' ≡ including_all names (names_by kind (axioms_by (statements_of text) (statement_of text r.says))) → Gathering text r.next kind entry names'
     gathering_on {kind} {names = names} g q =
         record {
           same =
-              included names kind (axioms_by (statements_of text) (item_at text r)) (axioms_from text r.next) q
-              ∙ sym (ap (λ (l : List Statement). including_all names (names_by kind (flat_map (axioms_by (statements_of text)) l))) (parses_more n w.parses k))
+              included names kind (axioms_by (statements_of text) (statement_of text r.says)) (axioms_from text r.next) q
+              ∙ sym (ap (λ (l : List Statement). including_all names (names_by kind (flat_map (axioms_by (statements_of text)) l))) (parses_more w.parses n))
               ∙ g.same;
         }
 
-    pub knowing_on : not x ≡ false → {roles' features' : List ℕ} → (x ≡ true → Noted (axioms_by (statements_of text) (item_at text r)) roles roles' features features') →
-        Knowing text r.next roles₀ roles' features₀ features'
-    knowing_on h m =
-        let new = m (not-false x h) in
+    pub knowing_on : x ≡ true → Knowing text r.next roles₀ roles' features₀ features'
+    knowing_on h =
+        let new = e.noted h in
         record {
-          parses = parses_on n w.parses k;
-          same = rw (not-false x h) at cut;
+          parses = parses_on w.parses n;
+          same = rw h at cut;
           threes = gathering_on w.threes new.same_roles;
           fours = gathering_on w.fours new.same_features;
         }
 
 -- ---- the records
 
-module _ (l : List Statement) (a b : Token) where
-  -- an axiom is one record, with the numbers of its names
-  pub record Adds (k : ℕ) : Type 0 where
-    pub one : Axiom
-    pub added : axioms_by l (statement_of k a b) ≡ one ∷ []
-    pub words : (next : ℕ) → axiom_words one next ≡ k ∷ (first_of l a b k ∷ (second_of l a b k ∷ (next ∷ [])))
+-- the word of a number that may be none
+pub word_of : (n : ℕ) → unwrap_or (number_found n) 0 ≡ n
+word_of n = go (eqb n 0) refl
+  where
+    go : (b : Bool) → eqb n 0 ≡ b → unwrap_or (cond b None (Some n)) 0 ≡ n
+    go true e = sym (eqb-true n 0 e)
+    go false e = refl
 
-  adds : (k : ℕ) → (k ≡ 0 → ⊥) → k < 6 → Adds k
-  adds =
-      by_axiom Adds
-      (record { one = _; added = refl; words = λ next. refl })
-      (record { one = _; added = refl; words = λ next. refl })
-      (record { one = _; added = refl; words = λ next. refl })
-      (record { one = _; added = refl; words = λ next. refl })
-      (record { one = _; added = refl; words = λ next. refl })
+module _ (text : List ℕ) where
+  -- an axiom is one record, with the numbers of its names
+  pub record Adds (a : Form) : Type 0 where
+    pub one : Axiom
+    pub added : axioms_by (statements_of text) (stated_of text a) ≡ one ∷ []
+    pub words : (next : ℕ) → axiom_words one next ≡ kind_of a ∷ (first_number text a ∷ (second_number text a ∷ (next ∷ [])))
+
+  adds : (a : Form) → Adds a
+  adds (Below t u) = record { one = _; added = refl; words = λ next. refl }
+  adds (Disjoint t u) = record { one = _; added = refl; words = λ next. refl }
+  adds (FunctionalRole t) = record { one = _; added = refl; words = λ next. refl }
+  adds (FunctionalFeature t) = record { one = _; added = refl; words = λ next. refl }
+  adds (Range t u) = record { one = _; added = refl; words = λ next. refl }
 
   -- a declaration is none
-  adds_none : (k : ℕ) → 6 ≤ k → (k ≡ 9 → ⊥) → k ≤ 9 → axioms_by l (statement_of k a b) ≡ []
-  adds_none = by_declaration (λ (k : ℕ). axioms_by l (statement_of k a b) ≡ []) refl refl refl
+  adds_none : (d : NameOf) → axioms_by (statements_of text) (declared_of text d) ≡ []
+  adds_none (Class t) = refl
+  adds_none (Role t) = refl
+  adds_none (Feature t) = refl
 
 -- at a place, and at record k, the axioms behind it are left
 pub record Writing (text : List ℕ) (last : ℕ) (entry out : List ℕ) (at k : ℕ) : Type 0 where
@@ -152,34 +154,37 @@ write_starts {text} {start = start} w b last out =
       left = left_start last 1 (axioms_in (statements_of text)) out (axioms_from text start) (all_from w b);
     }
 
-module _ {text : List ℕ} {last : ℕ} {entry out : List ℕ} {at k : ℕ} (w : Writing text last entry out at k) {r : Item} (n : Next text at r) where
-  pub write_ends : r.kind ≡ 9 → Written axioms last 1 (axioms_in (statements_of text)) entry out k
-  write_ends h = left_end _ w.left (ap (flat_map (axioms_by (statements_of text))) (parses_end n w.parses h))
+module _ {text : List ℕ} {last : ℕ} {entry out : List ℕ} {at k : ℕ} (w : Writing text last entry out at k) where
+  pub write_ends : Next text at (Some End) → Written axioms last 1 (axioms_in (statements_of text)) entry out k
+  write_ends n = left_end _ w.left (ap (flat_map (axioms_by (statements_of text))) (parses_end w.parses n))
 
-  module _ (g : r.kind ≡ 9 → ⊥) where
+  module _ {r : Found} (n : NextSays text at r) where
     -- a declaration is passed
-    pub write_passes : 6 ≤ r.kind → Writing text last entry out r.next k
-    write_passes h =
+    pub write_passes : (d : NameOf) → r.says ≡ Declares d → Writing text last entry out r.next k
+    write_passes d h =
         let e : axioms_from text at ≡ axioms_from text r.next =
-        ap (flat_map (axioms_by (statements_of text))) (parses_more n w.parses g) ∙ rw (adds_none (statements_of text) _ _ r.kind h g n.placed.few) in
-        record { parses = parses_on n w.parses g; left = rw e at w.left }
+        ap (flat_map (axioms_by (statements_of text))) (parses_more w.parses n) ∙ rw (h, adds_none text d) in
+        record { parses = parses_on w.parses n; left = rw e at w.left }
 
-    module _ (h : r.kind < 6) (room : RoomFor 4 last 1 (axioms_in (statements_of text)) entry) where
-      new : Adds (statements_of text) (part text r.from r.to) (part text r.from2 r.to2) r.kind
-      new = adds (statements_of text) _ _ r.kind (parses_some n w.parses) h
+    module _ (a : Form) (h : r.says ≡ States a) (room : RoomFor 4 last 1 (axioms_in (statements_of text)) entry) where
+      new : Adds text a
+      new = adds text a
 
       first_left : axioms_from text at ≡ new.one ∷ axioms_from text r.next
-      first_left = ap (flat_map (axioms_by (statements_of text))) (parses_more n w.parses g) ∙ rw new.added
+      first_left =
+          let d : statement_of text r.says ≡ stated_of text a = ap (statement_of text) h in
+          ap (flat_map (axioms_by (statements_of text))) (parses_more w.parses n)
+          ∙ ap (λ (s : Statement). axioms_by (statements_of text) s ++ axioms_from text r.next) d ∙ rw new.added
 
-      pub write_room : (k ≤ last) × Room 4 last out
-      write_room = turn_room w.left room new.one (axioms_from text r.next) first_left
-
-      pub write_on : {a b : ℕ} {out' : List ℕ} → a ≡ first_number text r → b ≡ second_number text r →
-          out' ≡ put_at out (4 * k) (r.kind ∷ (a ∷ (b ∷ (link_at last k ∷ [])))) → Writing text last entry out' r.next (k + 1)
-      write_on {a} {b} {out'} x y e =
+      pub write_on : {kind x y : ℕ} {m o : Option ℕ} {out' : List ℕ} → kind ≡ kind_of a → m ≡ number_found (first_number text a) → x ≡ unwrap_or m 0 →
+          o ≡ number_found (second_number text a) → y ≡ unwrap_or o 0 →
+          out' ≡ put_at out (4 * k) (kind ∷ (x ∷ (y ∷ (link_at last k ∷ [])))) → Writing text last entry out' r.next (k + 1)
+      write_on {kind} {x} {y} {m} {o} {out'} i p q p' q' e =
           let next = link_at last k in
-          let words : axiom_words new.one next ≡ r.kind ∷ (a ∷ (b ∷ (next ∷ []))) = new.words next ∙ rw (x, y) in
+          let first : x ≡ first_number text a = q ∙ rw (p, word_of (first_number text a)) in
+          let second : y ≡ second_number text a = q' ∙ rw (p', word_of (second_number text a)) in
+          let words : axiom_words new.one next ≡ kind ∷ (x ∷ (y ∷ (next ∷ []))) = new.words next ∙ rw (i, first, second) in
           record {
-            parses = parses_on n w.parses g;
+            parses = parses_on w.parses n;
             left = turn_more w.left room new.one (axioms_from text r.next) first_left axiom_length out' (e ∙ ap (put_at out (4 * k)) (sym words));
           }

@@ -3,18 +3,18 @@ use Rattle.meaning.specs.Refusals.{refusal_number}
 use Rattle.meaning.specs.declared.refusals.Refusal.{Refusal}
 use Rattle.std.specs.Prelude.{Err, Ok}
 use Prim.Native.Nat.{◌*◌, ◌+◌, ◌<◌, ◌≤◌, suc, ℕ}
-use mathlib.Core.Bool.{Bool, false, not, true}
+use mathlib.Core.Bool.{Bool, false, true}
 use mathlib.Core.List.{List, [], ◌∷◌}
 use mathlib.Core.Path.{◌∙◌, ◌≡◌, ap, refl, sym}
-use lib.Dec.{leb}
 use lib.ListN.{length}
 use native.Mathlib.Omega.{arith}
-use borrow.Author.Tests.{le-leb, lt-leb, not-false, not-true}
+use borrow.Author.Tests.{le-leb, lt-leb}
+use Rattle.std.proofs.Common.{None, Option, Some}
 use Rattle.declarations.specs.Names.{counted, declared, declared_well, is_known, sound_names}
-use Rattle.declarations.specs.Passes.{Fits, Tabled, axiom_count, counts_of, list_of, parsed_at, statements_at, table_size}
+use Rattle.declarations.specs.Passes.{Fits, Tabled, axiom_count, counts_in, counts_of, list_of, parsed_at, statements_at, table_size}
 use Rattle.declarations.specs.declared.Counts.{Counts}
 use Rattle.meaning.specs.Answers.{result, wrote}
-use Rattle.meaning.specs.Limits.{most_axioms, most_classes, most_features, most_roles, most_text}
+use Rattle.meaning.specs.Limits.{most_axioms, most_classes, most_roles, most_text}
 use Rattle.meaning.specs.Lists.{all, flat_map}
 use Rattle.meaning.specs.Operations.{output_after}
 use Rattle.meaning.specs.Vocabulary.{vocabulary_words}
@@ -29,8 +29,7 @@ use Rattle.owl.specs.Owl.{OwlPost, axioms_by, axioms_in, owl_refusal, owl_words,
 use Rattle.owl.specs.Passes.{Begins, Many, Ready, statements_of}
 use Rattle.records.specs.Written.{RoomFor}
 use Rattle.statements.specs.Forms.{Parsed, Statement, class, declares, feature, ontology, parsed, role, states, wrong}
-use Rattle.statements.specs.Found.{Opened}
-use Rattle.statements.specs.declared.Step.{Step}
+use Rattle.statements.specs.Found.{Opens}
 use Rattle.theory.proofs.Links.{bounds}
 use Rattle.theory.proofs.VocabularyWords.{vocabulary_length}
 use Rattle.tokens.specs.Tokens.{tokens}
@@ -57,67 +56,50 @@ module _ (text : List ℕ) (short : length text ≤ most_text) where
   unfolding owl_refusal
   wrong_refused e = ap parsed_refusal (told ∙ e)
 
-  pub not_opened : {r : Step} → Opened text r → not r.ok ≡ true → owl_refusal text ≡ 41
-  not_opened {r} o h = wrong_refused (o.same ∙ rw (not-true r.ok h))
+  pub not_opened : ontology (tokens text) ≡ wrong → owl_refusal text ≡ 41
+  not_opened = wrong_refused
 
-  module _ {c : Counts} (e : c ≡ counts_of (ontology (tokens text))) where
-    pub not_parsed : not c.ok ≡ true → owl_refusal text ≡ 41
-    not_parsed h = wrong_refused (go (ontology (tokens text)) (sym (ap (λ (x : Counts). x.ok) e) ∙ not-true c.ok h))
-      where
-        go : (p : Parsed) → (counts_of p).ok ≡ false → p ≡ wrong
-        go wrong z = refl
-        go (parsed l) z = let y : ◌≡◌ {A = ℕ} 0 1 = cc in absurd (omega arith)
+  pub not_parsed : None ≡ counts_of (ontology (tokens text)) → owl_refusal text ≡ 41
+  not_parsed e = wrong_refused (go (ontology (tokens text)) e)
+    where
+      go : (p : Parsed) → None ≡ counts_of p → p ≡ wrong
+      go wrong z = refl
+      go (parsed l) z = cc
 
-    -- ---- 42, the counts
+  -- ---- 42, the counts
 
-    pub not_counted : c.ok ≡ true → {x : Bool} → x ≡ counted c.classes c.roles c.features → not x ≡ true → owl_refusal text ≡ 42
-    unfolding owl_refusal declared_well
-    not_counted h {x} q f = ap parsed_refusal told ∙ go (ontology (tokens text)) e
-      where
-        go : (p : Parsed) → c ≡ counts_of p → parsed_refusal p ≡ 42
-        go wrong z = let y : false ≡ true = sym (ap (λ (x : Counts). x.ok) z) ∙ h in let d : ◌≡◌ {A = ℕ} 0 1 = cc in absurd (omega arith)
-        go (parsed l) z =
-            let g : counted (length (declared class l)) (length (declared role l)) (length (declared feature l)) ≡ false =
-            ap (λ (y : Counts). counted y.classes y.roles y.features) (sym z) ∙ sym q ∙ not-true x f in
-            rw g
+  pub not_counted : {c : Counts} → Some c ≡ counts_of (ontology (tokens text)) → {x : Bool} → x ≡ counted c.classes c.roles c.features → x ≡ false → owl_refusal text ≡ 42
+  unfolding owl_refusal declared_well
+  not_counted {c} e {x} q f = ap parsed_refusal told ∙ go (ontology (tokens text)) e
+    where
+      go : (p : Parsed) → Some c ≡ counts_of p → parsed_refusal p ≡ 42
+      go wrong z = cc
+      go (parsed l) z =
+          let d : c ≡ counts_in l = cc in
+          let g : counted (length (declared class l)) (length (declared role l)) (length (declared feature l)) ≡ false =
+          ap (λ (y : Counts). counted y.classes y.roles y.features) (sym d) ∙ sym q ∙ f in
+          rw g
 
-pub opened_begins : {text : List ℕ} {r : Step} → Opened text r → not r.ok ≡ false → Begins text r.next
-opened_begins {text} {r} o h = record { ends = o.ends; same = o.same ∙ rw (not-false r.ok h) }
+pub opened_begins : {text : List ℕ} {start : ℕ} → Opens text start → Begins text start
+opened_begins o = record { ends = o.ends; same = o.same }
 
-pub survey_counts : {text : List ℕ} {start : ℕ} → Begins text start → {c : Counts} → c ≡ counts_of (parsed_at text start) → c ≡ counts_of (ontology (tokens text))
+pub survey_counts : {text : List ℕ} {start : ℕ} → Begins text start → {c : Option Counts} → c ≡ counts_of (parsed_at text start) → c ≡ counts_of (ontology (tokens text))
 survey_counts b e = e ∙ ap counts_of (sym b.same)
-
--- ---- the counts, test by test
-
-module _ (c : Counts) where
-  pub no_class : c.classes < 1 → false ≡ counted c.classes c.roles c.features
-  no_class h = rw (lt-leb 1 c.classes h)
-
-  module _ (a : 1 ≤ c.classes) where
-    pub many_classes : most_classes < c.classes → false ≡ counted c.classes c.roles c.features
-    many_classes h = rw (le-leb 1 c.classes a, lt-leb c.classes most_classes h)
-
-    module _ (b : c.classes ≤ most_classes) where
-      pub many_roles_lem : most_roles < c.roles → false ≡ counted c.classes c.roles c.features
-      many_roles_lem h = rw (le-leb 1 c.classes a, le-leb c.classes most_classes b, lt-leb c.roles most_roles h)
-
-      pub many_features_lem : c.roles ≤ most_roles → leb c.features most_features ≡ counted c.classes c.roles c.features
-      many_features_lem h = rw (le-leb 1 c.classes a, le-leb c.classes most_classes b, le-leb c.roles most_roles h)
 
 -- ---- the table is filled
 
-module _ {text : List ℕ} {start : ℕ} (b : Begins text start) {c : Counts} (e : c ≡ counts_of (ontology (tokens text))) (h : c.ok ≡ true)
+module _ {text : List ℕ} {start : ℕ} (b : Begins text start) {c : Counts} (e : Some c ≡ counts_of (ontology (tokens text)))
     (fit : counted c.classes c.roles c.features ≡ true) where
   parses : ontology (tokens text) ≡ parsed (statements_of text)
   unfolding statements_of
-  parses = go (ontology (tokens text)) (sym (ap (λ (x : Counts). x.ok) e) ∙ h)
+  parses = go (ontology (tokens text)) e
     where
-      go : (p : Parsed) → (counts_of p).ok ≡ true → p ≡ parsed (list_of p)
-      go wrong z = let y : ◌≡◌ {A = ℕ} 0 1 = cc in absurd (omega arith)
+      go : (p : Parsed) → Some c ≡ counts_of p → p ≡ parsed (list_of p)
+      go wrong z = cc
       go (parsed l) z = refl
 
-  counts : c ≡ counts_of (parsed (statements_of text))
-  counts = e ∙ ap counts_of parses
+  counts : c ≡ counts_in (statements_of text)
+  counts = let d : Some c ≡ Some (counts_in (statements_of text)) = e ∙ ap counts_of parses in cc
 
   pub table_fits : {table : List ℕ} → length table ≡ table_size → length text ≤ most_text → Fits text table start
   table_fits n short =
@@ -187,9 +169,9 @@ module _ {text table : List ℕ} {c : Counts} (w : Ready text table c) where
     counted_told : counted (length (declared class (statements_of text))) (length (declared role (statements_of text))) (length (declared feature (statements_of text))) ≡ true
     counted_told = rw (← class_size w, ← role_size w, ← feature_size w) w.small
 
-    pub not_sound : {x : Bool} → x ≡ sound_names (statements_of text) → not x ≡ true → owl_refusal text ≡ 42
+    pub not_sound : {x : Bool} → x ≡ sound_names (statements_of text) → x ≡ false → owl_refusal text ≡ 42
     unfolding owl_refusal declared_well
-    not_sound {x} e h = ap parsed_refusal parsed_told ∙ rw (counted_told, sym e ∙ not-true x h)
+    not_sound {x} e h = ap parsed_refusal parsed_told ∙ rw (counted_told, sym e ∙ h)
 
     module _ (sound : sound_names (statements_of text) ≡ true) {last : ℕ} (all : last ≡ length (vocabulary_in (statements_of text)).axioms) where
       -- 1

@@ -7,7 +7,7 @@ ghost use Rattle.meaning.specs.Operations.{input_refusal, read_policy, read_seco
 ghost use Rattle.meaning.specs.Policy.{child_of, first_term, headed_policy, hi_of, kind_of, lo_of, name_of, next_of, policy_refusal};
 ghost use Rattle.meaning.specs.Policy.{record_fits, second_refusal, sound_record};
 ghost use Rattle.meaning.specs.Records.{last_of, or_else};
-ghost use Rattle.meaning.specs.Refusals.{number_in, policy_number, refusal_number};
+ghost use Rattle.meaning.specs.Refusals.{fault_in, policy_number, refusal_number};
 ghost use Rattle.meaning.specs.Vocabulary.{vocabulary_refusal};
 ghost use Rattle.policy.specs.Trails.{Follows, Walkable, depth_at, fault_at, levels};
 
@@ -116,7 +116,7 @@ const LEVELS: u32 = MOST_DEPTH + 1;
 // that may still stand, the record's own among them.
 fn check_record(v: &[u32], p: &[u32], left: u32, k: u32, seen: &[u32]) -> Result<(), PolicyFault>
     requires { (6 ≤ length p.now) × (left ≤ levels) }
-    ensures { number_in policy_number result ≡ fault_at v.now p.now (depth_at left) k seen.now }
+    ensures { fault_in policy_number result ≡ fault_at v.now p.now (depth_at left) k seen.now }
 {
     let reached = has(seen, k);
     let sound = is_sound(v, p, LEVELS - left, k);
@@ -142,7 +142,7 @@ fn walk_from(
     seen: &mut [u32],
 ) -> Result<(), PolicyFault>
     requires { Walkable p.now left first }
-    ensures { Follows v.now p.now left first seen.old seen.new (number_in policy_number result) }
+    ensures { Follows v.now p.now left first seen.old seen.new (fault_in policy_number result) }
 {
     let mut k = first;
     while k != 0 {
@@ -169,7 +169,7 @@ fn is_headed(p: &[u32]) -> bool
 
 // The first fault: the operations that read a policy pass it on.
 pub fn check_policy(v: &[u32], p: &[u32]) -> Result<(), PolicyFault>
-    ensures { number_in policy_number result ≡ policy_refusal v.now p.now }
+    ensures { fault_in policy_number result ≡ policy_refusal v.now p.now }
 {
     if !records::is_sized(6, MOST_POLICY_WORDS, p.len()) {
         return Err(PolicyFault::Length);
@@ -184,7 +184,7 @@ pub fn check_policy(v: &[u32], p: &[u32]) -> Result<(), PolicyFault>
 // The vocabulary, then the policy.
 pub fn read_policy(v: &[u32], p: &[u32]) -> Result<(), Refusal>
     ensures answer { reading_answer result ≡ read_policy v.now p.now }
-    ensures number { number_in refusal_number result ≡ or_else (vocabulary_refusal v.now) (policy_refusal v.now p.now) }
+    ensures number { fault_in refusal_number result ≡ or_else (vocabulary_refusal v.now) (policy_refusal v.now p.now) }
 {
     check_vocabulary(v)?;
     check_policy(v, p)?;
@@ -193,7 +193,7 @@ pub fn read_policy(v: &[u32], p: &[u32]) -> Result<(), Refusal>
 
 // The policy as the second of two.
 fn check_second(v: &[u32], q: &[u32]) -> Result<(), Refusal>
-    ensures { number_in refusal_number result ≡ second_refusal (policy_refusal v.now q.now) }
+    ensures { fault_in refusal_number result ≡ second_refusal (policy_refusal v.now q.now) }
 {
     match check_policy(v, q) {
         Ok(()) => Ok(()),
@@ -210,7 +210,7 @@ pub fn read_second_policy(v: &[u32], q: &[u32]) -> Result<(), Refusal>
 
 // The three tables of an operation: the vocabulary, the first policy, the second.
 pub fn check_input(v: &[u32], p: &[u32], q: &[u32]) -> Result<(), Refusal>
-    ensures { number_in refusal_number result ≡ input_refusal v.now p.now q.now }
+    ensures { fault_in refusal_number result ≡ input_refusal v.now p.now q.now }
 {
     read_policy(v, p)?;
     check_second(v, q)?;

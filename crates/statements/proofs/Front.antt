@@ -1,98 +1,188 @@
--- The statement in front: form after form is tried, and the first that stands there stays.
-use Prim.Native.Nat.{ℕ}
-use mathlib.Core.Bool.{cond, false, not, true}
-use mathlib.Core.List.{List, [], ◌++◌, ◌∷◌, append-nil}
-use mathlib.Core.Path.{◌∙◌, ◌≡◌, refl}
+-- The statement in front of tokens: its first word says which form it has.
+use Prim.Native.Nat.{◌<◌, ℕ}
+use mathlib.Core.Bool.{Bool, cond, false, true}
+use mathlib.Core.List.{List, [], ◌∷◌}
+use mathlib.Core.Path.{◌∙◌, ◌≡◌, ap, refl, sym}
 use lib.ListN.{drop}
 use native.Mathlib.Omega.{arith}
-use borrow.Author.Tests.{ne_eqb, not-false, not-true}
+use Rattle.std.proofs.Common.{None, Option, Some}
 use Rattle.meaning.specs.Program.{bytes}
-use Rattle.tokens.specs.Places.{headed, part}
-use Rattle.tokens.specs.Tokens.{tokens}
-use Rattle.statements.specs.declared.Fit.{Fit}
-use Rattle.statements.specs.declared.Item.{Item}
-use Rattle.statements.specs.Forms.{Symbol, Sort, class, closing, declares, feature, forms, front_of, name, none, role, states}
-use Rattle.statements.specs.Forms.{taken, take_symbols}
-use Rattle.statements.specs.Found.{IsStatement, One, Placed, Stated, TriedOne, TriedTwo, Two, Within, chosen, declaring, heading, item_of}
-use Rattle.statements.specs.Found.{used}
+use Rattle.tokens.proofs.Bytes.{same_true}
+use Rattle.tokens.specs.declared.Token.{Token as Place}
+use Rattle.tokens.specs.Places.{First, Within, bytes_of, headed}
+use Rattle.tokens.specs.Tokens.{Token, same_bytes, tokens}
+use Rattle.statements.specs.declared.OneName.{OneName}
+use Rattle.statements.specs.declared.TwoNames.{TwoNames}
+use Rattle.statements.specs.Forms.{Front, Symbol, Sort, Taken, class, closing, declares, exactly, feature, forms, front_of, name, none, nothing}
+use Rattle.statements.specs.Forms.{opening, or_later, role, states, taken, take_symbols, with_name}
+use Rattle.statements.specs.Found.{AxiomWithin, Missing, One, Stands, StandsOne, StandsTwo, Stated, Two, declaring, stated_of, used}
+use Rattle.statements.specs.declared.NameOf.TheVariants.{Class, Feature, Role}
+use Rattle.statements.specs.declared.Said.TheVariants.{Declares, States}
+use Rattle.statements.specs.declared.Axiom.{Axiom}
+use Rattle.statements.specs.declared.Found.{Found}
 
--- a form of one name, and nothing behind it
-whole : {ws vs : List Symbol} {text : List ℕ} {start stop : ℕ} {f : Fit} → One ws vs text start stop f → (x : Sort) →
-    take_symbols (ws ++ (name x ∷ vs)) (headed text start stop) ≡
-    cond f.ok (taken (used x (part text f.from f.to) ∷ []) (tokens (drop f.next text))) none
-whole {vs = vs} o x = rw (append-nil vs) at (o.same x [])
+-- ---- what stands behind the word `Declaration`
 
-module _ {ws vs : List Symbol} {kind : ℕ} {text : List ℕ} {start stop : ℕ} {s : Item} (p : Placed 8 text start s) where
-  -- what was found stays
-  pub stays_one : (s.kind ≡ 0 → ⊥) → TriedOne ws vs kind text start stop s s
-  unfolding chosen
-  stays_one n = record { placed = p; same = λ x says fs e. rw (ne_eqb s.kind 0 n) }
+abbrev sorted : Token → Sort → List Symbol
+sorted w s = exactly w ∷ (opening ∷ (name s ∷ (closing ∷ (closing ∷ []))))
 
-  pub stays_two : (s.kind ≡ 0 → ⊥) → TriedTwo ws vs kind text start stop s s
-  unfolding chosen
-  stays_two n = record { placed = p; same = λ x y says fs e. rw (ne_eqb s.kind 0 n) }
+abbrev declared_front : List Token → Front
+declared_front ts =
+    or_later (declares class) (take_symbols (opening ∷ sorted (bytes "Class") class) ts)
+    (or_later (declares role) (take_symbols (opening ∷ sorted (bytes "ObjectProperty") role) ts)
+    (or_later (declares feature) (take_symbols (opening ∷ sorted (bytes "DataProperty") feature) ts) nothing))
 
-  module _ (z : s.kind ≡ 0) {f : Fit} where
-    module _ (o : One ws vs text start stop f) where
-      -- the form does not stand there, or it does
-      pub misses_one : not f.ok ≡ true → TriedOne ws vs kind text start stop s s
-      unfolding chosen
-      misses_one h = record { placed = p; same = λ x says fs e. rw (z, whole o x, not-true f.ok h) }
+front_declared : (ts : List Token) → front_of (bytes "Declaration" ∷ ts) ≡ declared_front ts
+unfolding front_of forms
+front_declared ts = refl
 
-      pub hits_one : IsStatement kind → not f.ok ≡ false → {r : Item} → r ≡ item_of kind f → TriedOne ws vs kind text start stop s r
-      unfolding chosen
-      hits_one k h e =
-          rw e (record {
-            placed = record { few = k.1; solid = λ _. o.solid (not-false f.ok h); first = o.place; second = o.place₂; ends = o.ends };
-            same = λ x says fs same. rw (z, whole o x, not-false f.ok h, ne_eqb kind 0 (λ d. omega arith), same (part text f.from f.to) (part text f.from2 f.to2));
-          })
+module _ (text : List ℕ) (at : ℕ) where
+  declared_none : ((w : Token) (s : Sort) → take_symbols (opening ∷ sorted w s) (tokens (drop at text)) ≡ none) → Stated text (declaring text at) at None
+  declared_none h =
+      front_declared (tokens (drop at text)) ∙ rw (h (bytes "Class") class, h (bytes "ObjectProperty") role, h (bytes "DataProperty") feature)
 
-    module _ (o : Two ws vs text start stop f) where
-      pub misses_two : not f.ok ≡ true → TriedTwo ws vs kind text start stop s s
-      unfolding chosen
-      misses_two h = record { placed = p; same = λ x y says fs e. rw (z, o.same x y, not-true f.ok h) }
+  pub declared_begins : Missing opening (tokens (drop at text)) → Stated text (declaring text at) at None
+  declared_begins h = declared_none (λ w s. h (sorted w s))
 
-      pub hits_two : IsStatement kind → not f.ok ≡ false → {r : Item} → r ≡ item_of kind f → TriedTwo ws vs kind text start stop s r
-      unfolding chosen
-      hits_two k h e =
-          rw e (record {
-            placed = record { few = k.1; solid = λ _. o.solid (not-false f.ok h); first = o.place; second = o.place₂; ends = o.ends };
-            same = λ x y says fs same. rw (z, o.same x y, not-false f.ok h, ne_eqb kind 0 (λ d. omega arith), same (part text f.from f.to) (part text f.from2 f.to2));
-          })
+  module _ {from : ℕ} (o : Stands (bytes "(") text at from) where
+    pub declared_sort : tokens (drop from text) ≡ [] → Stated text (declaring text at) at None
+    declared_sort e = declared_none (λ w s. o.same (sorted w s) ∙ rw e)
 
--- nothing was found yet, and the end is no statement
-module _ {text : List ℕ} {start stop : ℕ} {f : Fit} (h : Within text start stop)
-    (e : f ≡ record { ok = false; from = start; to = stop; from2 = start; to2 = stop; next = stop }) where
-  pub none_placed : {r : Item} → r ≡ item_of 0 f → Placed 8 text start r
-  none_placed d = rw (d, e) (record { few = omega arith; solid = λ n. absurd (n refl); first = h; second = h; ends = h.1 })
+    module _ {t : Place} (f : First text from t) where
+      at_sort : (w : Token) (s : Sort) →
+          take_symbols (opening ∷ sorted w s) (tokens (drop at text)) ≡
+          cond (same_bytes (bytes_of text t) w) (take_symbols (opening ∷ (name s ∷ (closing ∷ (closing ∷ [])))) (tokens (drop t.to text))) none
+      at_sort w s = o.same (sorted w s) ∙ ap (take_symbols (sorted w s)) f.same
 
--- where nothing was found, all are tried
-begins : (text : List ℕ) (start stop : ℕ) (r : Item) → r.kind ≡ 0 → front_of (headed text start stop) ≡ chosen text start stop r forms
-unfolding front_of chosen
-begins text start stop r z = rw z
+      without : (b : Bool) {x : Taken} → x ≡ none → cond b x none ≡ none
+      without true e = e
+      without false e = refl
 
--- all eight were tried
-pub all_tried : {text : List ℕ} {start stop : ℕ} {r₀ r₁ r₂ r₃ r₄ r₅ r₆ r₇ r₈ : Item} → r₀.kind ≡ 0 →
-    TriedOne (declaring (bytes "Class")) (closing ∷ (closing ∷ [])) 6 text start stop r₀ r₁ →
-    TriedOne (declaring (bytes "ObjectProperty")) (closing ∷ (closing ∷ [])) 7 text start stop r₁ r₂ →
-    TriedOne (declaring (bytes "DataProperty")) (closing ∷ (closing ∷ [])) 8 text start stop r₂ r₃ →
-    TriedTwo (heading (bytes "SubClassOf")) (closing ∷ []) 1 text start stop r₃ r₄ →
-    TriedTwo (heading (bytes "DisjointClasses")) (closing ∷ []) 2 text start stop r₄ r₅ →
-    TriedOne (heading (bytes "FunctionalObjectProperty")) (closing ∷ []) 3 text start stop r₅ r₆ →
-    TriedOne (heading (bytes "FunctionalDataProperty")) (closing ∷ []) 4 text start stop r₆ r₇ →
-    TriedTwo (heading (bytes "ObjectPropertyRange")) (closing ∷ []) 5 text start stop r₇ r₈ → Stated text start stop r₈
-unfolding forms
-all_tried {text} {start} {stop} {r₀} z o₁ o₂ o₃ o₄ o₅ o₆ o₇ o₈ =
-    record {
-      placed = o₈.placed;
-      same =
-          begins text start stop r₀ z
-          ∙ o₁.same class (declares class) (drop 1 forms) (λ a b. refl)
-          ∙ o₂.same role (declares role) (drop 2 forms) (λ a b. refl)
-          ∙ o₃.same feature (declares feature) (drop 3 forms) (λ a b. refl)
-          ∙ o₄.same class class (states 1) (drop 4 forms) (λ a b. refl)
-          ∙ o₅.same class class (states 2) (drop 5 forms) (λ a b. refl)
-          ∙ o₆.same role (states 3) (drop 6 forms) (λ a b. refl)
-          ∙ o₇.same feature (states 4) (drop 7 forms) (λ a b. refl)
-          ∙ o₈.same role class (states 5) [] (λ a b. refl);
-    }
+      pub declared_inner : One text t.to None → Stated text (declaring text at) at None
+      declared_inner h = declared_none (λ w s. at_sort w s ∙ without (same_bytes (bytes_of text t) w) (h s (closing ∷ [])))
+
+      module _ {i : OneName} (n : StandsOne text t.to i) where
+        pub declared_closes : Missing closing (tokens (drop i.next text)) → Stated text (declaring text at) at None
+        declared_closes h = declared_none (λ w s.
+            at_sort w s ∙ without (same_bytes (bytes_of text t) w) (n.same s (closing ∷ []) ∙ ap (with_name s (bytes_of text i.name)) (h [])))
+
+        module _ {next : ℕ} (q : Stands (bytes ")") text i.next next) where
+          whole : (w : Token) (s : Sort) →
+              take_symbols (opening ∷ sorted w s) (tokens (drop at text)) ≡
+              cond (same_bytes (bytes_of text t) w) (taken (used s (bytes_of text i.name) ∷ []) (tokens (drop next text))) none
+          whole w s =
+              at_sort w s
+              ∙ ap (λ (x : Taken). cond (same_bytes (bytes_of text t) w) x none)
+              (n.same s (closing ∷ []) ∙ ap (with_name s (bytes_of text i.name)) (q.same []))
+
+          begun : front_of (declaring text at) ≡
+              or_later (declares class) (cond (same_bytes (bytes_of text t) (bytes "Class")) (taken (used class (bytes_of text i.name) ∷ []) (tokens (drop next text))) none)
+              (or_later (declares role) (cond (same_bytes (bytes_of text t) (bytes "ObjectProperty")) (taken (used role (bytes_of text i.name) ∷ []) (tokens (drop next text))) none)
+              (or_later (declares feature) (cond (same_bytes (bytes_of text t) (bytes "DataProperty")) (taken (used feature (bytes_of text i.name) ∷ []) (tokens (drop next text))) none)
+              nothing))
+          begun =
+              front_declared (tokens (drop at text))
+              ∙ rw (whole (bytes "Class") class, whole (bytes "ObjectProperty") role, whole (bytes "DataProperty") feature)
+
+          rising : at < next
+          rising = omega (arith, o.rises, f.begins, f.within.rises, n.rises, q.rises)
+
+          pub declared_class : true ≡ same_bytes (bytes_of text t) (bytes "Class") →
+              Stated text (declaring text at) at (Some (record { says = Declares (Class i.name); next = next }))
+          declared_class e = record { placed = record { rises = rising; ends = q.ends; within = n.within }; same = begun ∙ rw (← e) }
+
+          module _ (x : false ≡ same_bytes (bytes_of text t) (bytes "Class")) where
+            pub declared_role : true ≡ same_bytes (bytes_of text t) (bytes "ObjectProperty") →
+                Stated text (declaring text at) at (Some (record { says = Declares (Role i.name); next = next }))
+            declared_role e = record { placed = record { rises = rising; ends = q.ends; within = n.within }; same = begun ∙ rw (← x, ← e) }
+
+            module _ (y : false ≡ same_bytes (bytes_of text t) (bytes "ObjectProperty")) where
+              pub declared_feature : true ≡ same_bytes (bytes_of text t) (bytes "DataProperty") →
+                  Stated text (declaring text at) at (Some (record { says = Declares (Feature i.name); next = next }))
+              declared_feature e = record { placed = record { rises = rising; ends = q.ends; within = n.within }; same = begun ∙ rw (← x, ← y, ← e) }
+
+              pub declared_other : false ≡ same_bytes (bytes_of text t) (bytes "DataProperty") → Stated text (declaring text at) at None
+              declared_other e = begun ∙ rw (← x, ← y, ← e)
+
+-- ---- the other words
+
+abbrev pub one_symbols : Sort → List Symbol
+one_symbols s = opening ∷ (name s ∷ (closing ∷ []))
+
+abbrev pub two_symbols : Sort → Sort → List Symbol
+two_symbols s u = opening ∷ (name s ∷ (name u ∷ (closing ∷ [])))
+
+abbrev pub says_one : ℕ → Token → Sort → Type 0
+says_one k w s = (ts : List Token) → front_of (w ∷ ts) ≡ or_later (states k) (take_symbols (one_symbols s) ts) nothing
+
+abbrev pub says_two : ℕ → Token → Sort → Sort → Type 0
+says_two k w s u = (ts : List Token) → front_of (w ∷ ts) ≡ or_later (states k) (take_symbols (two_symbols s u) ts) nothing
+
+pub front_below : says_two 1 (bytes "SubClassOf") class class
+unfolding front_of forms
+front_below ts = refl
+
+pub front_disjoint : says_two 2 (bytes "DisjointClasses") class class
+unfolding front_of forms
+front_disjoint ts = refl
+
+pub front_functional_role : says_one 3 (bytes "FunctionalObjectProperty") role
+unfolding front_of forms
+front_functional_role ts = refl
+
+pub front_functional_feature : says_one 4 (bytes "FunctionalDataProperty") feature
+unfolding front_of forms
+front_functional_feature ts = refl
+
+pub front_range : says_two 5 (bytes "ObjectPropertyRange") role class
+unfolding front_of forms
+front_range ts = refl
+
+pub front_other : (w : Token) (ts : List Token) → false ≡ same_bytes w (bytes "Declaration") → false ≡ same_bytes w (bytes "SubClassOf") →
+    false ≡ same_bytes w (bytes "DisjointClasses") → false ≡ same_bytes w (bytes "FunctionalObjectProperty") →
+    false ≡ same_bytes w (bytes "FunctionalDataProperty") → false ≡ same_bytes w (bytes "ObjectPropertyRange") → front_of (w ∷ ts) ≡ nothing
+unfolding front_of forms
+front_other w ts a b c d e f = rw (← a, ← b, ← c, ← d, ← e, ← f)
+
+-- ---- the same of a token that was read
+
+module _ (text : List ℕ) (t : Place) where
+  abbrev behind : List Token
+  behind = tokens (drop t.to text)
+
+  begins_with : (w : Token) → true ≡ same_bytes (bytes_of text t) w → front_of (headed text t) ≡ front_of (w ∷ behind)
+  begins_with w e = ap (λ (v : Token). front_of (v ∷ behind)) (same_true (bytes_of text t) w (sym e))
+
+  pub stated_declared : Within text t → true ≡ same_bytes (bytes_of text t) (bytes "Declaration") → (r : Option Found) →
+      Stated text (declaring text t.to) t.to r → Stated text (headed text t) t.from r
+  stated_declared h e None s = begins_with (bytes "Declaration") e ∙ s
+  stated_declared h e (Some r) s =
+      record {
+        placed = record { rises = omega (arith, h.rises, s.placed.rises); ends = s.placed.ends; within = s.placed.within };
+        same = begins_with (bytes "Declaration") e ∙ s.same;
+      }
+
+  module _ (k : ℕ) (w : Token) (s : Sort) (law : says_one k w s) (e : true ≡ same_bytes (bytes_of text t) w) where
+    says : {x : Taken} → take_symbols (one_symbols s) behind ≡ x → front_of (headed text t) ≡ or_later (states k) x nothing
+    says h = begins_with w e ∙ law behind ∙ ap (λ (x : Taken). or_later (states k) x nothing) h
+
+    pub one_missing : One text t.to None → Stated text (headed text t) t.from None
+    one_missing h = says (h s [])
+
+    pub one_stated : Within text t → {r : OneName} → StandsOne text t.to r → (x : Axiom) → stated_of text x ≡ states k (used s (bytes_of text r.name) ∷ []) →
+        AxiomWithin text x → Stated text (headed text t) t.from (Some (record { says = States x; next = r.next }))
+    one_stated h n x d within =
+        record { placed = record { rises = omega (arith, h.rises, n.rises); ends = n.ends; within = within }; same = says (n.same s []) ∙ rw d }
+
+  module _ (k : ℕ) (w : Token) (s u : Sort) (law : says_two k w s u) (e : true ≡ same_bytes (bytes_of text t) w) where
+    says_both : {x : Taken} → take_symbols (two_symbols s u) behind ≡ x → front_of (headed text t) ≡ or_later (states k) x nothing
+    says_both h = begins_with w e ∙ law behind ∙ ap (λ (x : Taken). or_later (states k) x nothing) h
+
+    pub two_missing : Two text t.to None → Stated text (headed text t) t.from None
+    two_missing h = says_both (h s u)
+
+    pub two_stated : Within text t → {r : TwoNames} → StandsTwo text t.to r → (x : Axiom) →
+        stated_of text x ≡ states k (used s (bytes_of text r.first) ∷ (used u (bytes_of text r.second) ∷ [])) →
+        AxiomWithin text x → Stated text (headed text t) t.from (Some (record { says = States x; next = r.next }))
+    two_stated h n x d within =
+        record { placed = record { rises = omega (arith, h.rises, n.rises); ends = n.ends; within = within }; same = says_both (n.same s u) ∙ rw d }

@@ -3,18 +3,18 @@ use Prim.Native.Nat.{◌+◌, ◌<◌, ◌≤◌, suc, zero, ℕ}
 use mathlib.Core.Bool.{Bool, cond, false, true}
 use mathlib.Core.List.{List, [], ◌∷◌}
 use mathlib.Core.Path.{◌∙◌, ◌≡◌, ap, refl, sym}
-use lib.Dec.{eqb, ltb}
 use lib.ListN.{drop, length}
 use native.Mathlib.Omega.{arith}
-use borrow.Author.Tests.{ltb-true, ne_eqb}
 use Rattle.meaning.specs.Lists.{All, cons, nil}
-use Rattle.tokens.specs.Places.{Read, headed, part}
+use Rattle.std.proofs.Common.{None, Some}
+use Rattle.tokens.specs.declared.Token.{Token as Place}
+use Rattle.tokens.specs.Places.{First, headed}
 use Rattle.tokens.specs.Tokens.{Token, is_name_token, same_bytes, tokens}
-use Rattle.statements.specs.declared.Fit.{Fit}
-use Rattle.statements.specs.declared.Item.{Item}
-use Rattle.statements.specs.Forms.{Front, Parsed, Symbol, Row, Sort, Statement, Taken, Use, after, ahead, exactly, first_form, forms, front, front_of}
-use Rattle.statements.specs.Forms.{is_last, left, name, none, nothing, or_later, parsed, statements, statements_from, taken, take_symbols, with_name, wrong}
-use Rattle.statements.specs.Found.{Next, Stated, chosen, followed, item_at, item_of}
+use Rattle.statements.specs.declared.Found.{Found}
+use Rattle.statements.specs.declared.Item.TheVariants.{End, Statement as Says}
+use Rattle.statements.specs.Forms.{Front, Parsed, Symbol, Row, Sort, Statement, Taken, Use, ahead, exactly, first_form, forms, front, front_of}
+use Rattle.statements.specs.Forms.{is_last, left, name, none, nothing, or_later, parsed, statements, statements_from, taken, take_symbols, with_name}
+use Rattle.statements.specs.Found.{Next, Stated}
 
 -- ---- a form takes a token for each symbol
 
@@ -99,50 +99,25 @@ statements_last (t ∷ ts) h = rw h
 
 -- ---- the item from a place on
 
-chosen_followed : (text : List ℕ) (from to : ℕ) (r : Item) → r.kind ≤ 8 →
-    ahead (chosen text from to r []) (statements (left (chosen text from to r []))) ≡
-    followed r.kind (item_at text r) (statements (tokens (drop r.next text)))
-unfolding chosen
-chosen_followed text from to r few = rw (ne_eqb r.kind 9 (λ d. omega arith)) (go (eqb r.kind 0))
-  where
-    go : (b : Bool) →
-        ahead (cond b nothing (front (item_at text r) (tokens (drop r.next text))))
-        (statements (left (cond b nothing (front (item_at text r) (tokens (drop r.next text)))))) ≡
-        cond b wrong (after (item_at text r) (statements (tokens (drop r.next text))))
-    go true = refl
-    go false = refl
+module _ (text : List ℕ) (at : ℕ) where
+  pub next_none : tokens (drop at text) ≡ [] → Next text at None
+  unfolding statements
+  next_none e = ap statements e
 
-module _ {text : List ℕ} {at from to : ℕ} (t : Read text at from to) {b : Bool} (e : b ≡ is_last (headed text from to)) where
-  -- the end of the ontology
-  pub next_end : b ≡ true → {f : Fit} → f ≡ record { ok = false; from = from; to = to; from2 = from; to2 = to; next = to } →
-      {r : Item} → r ≡ item_of 9 f → Next text at r
-  next_end h d q =
-      rw (q, d) (record {
-        placed = record {
-          few = omega arith;
-          solid = λ _. omega (arith, t.begins, solid (ltb from to) refl (sym e ∙ h));
-          first = (t.rises, t.ends);
-          second = (t.rises, t.ends);
-          ends = t.ends;
-        };
-        same = ap statements t.same ∙ statements_last (headed text from to) (sym e ∙ h);
-      })
-    where
-      solid : (c : Bool) → ltb from to ≡ c → is_last (cond c (part text from to ∷ tokens (drop to text)) []) ≡ true → from < to
-      solid true p l = ltb-true from to p
-      solid false p l = let z : ◌≡◌ {A = ℕ} 0 1 = cc in absurd (omega arith)
+  module _ {t : Place} (f : First text at t) where
+    pub next_end : true ≡ is_last (headed text t) → Next text at (Some End)
+    next_end e = ap statements f.same ∙ statements_last (headed text t) (sym e)
 
-  -- a statement, or none
-  pub next_more : b ≡ false → {r : Item} → Stated text from to r → Next text at r
-  next_more h {r} s =
-      record {
-        placed = record {
-          few = omega (arith, s.placed.few);
-          solid = λ n. omega (arith, t.begins, s.placed.solid n);
-          first = s.placed.first;
-          second = s.placed.second;
-          ends = s.placed.ends;
-        };
-        same = ap statements t.same ∙ statements_more (headed text from to) (sym e ∙ h) ∙ ap (λ (x : Front). ahead x (statements (left x))) s.same
-            ∙ chosen_followed text from to r s.placed.few;
-      }
+    module _ (e : false ≡ is_last (headed text t)) where
+      goes_on : {x : Front} → front_of (headed text t) ≡ x → statements (tokens (drop at text)) ≡ ahead x (statements (left x))
+      goes_on h = ap statements f.same ∙ statements_more (headed text t) (sym e) ∙ ap (λ (x : Front). ahead x (statements (left x))) h
+
+      pub next_wrong : Stated text (headed text t) t.from None → Next text at None
+      next_wrong h = goes_on h
+
+      pub next_says : {r : Found} → Stated text (headed text t) t.from (Some r) → Next text at (Some (Says r))
+      next_says h =
+          record {
+            placed = record { rises = omega (arith, f.begins, h.placed.rises); ends = h.placed.ends; within = h.placed.within };
+            same = goes_on h.same;
+          }

@@ -1,150 +1,155 @@
 -- What the functions find in a text, said of its tokens.
-use Rattle.std.specs.Prelude.{◌<◌, ◌≤◌, ℕ, Bool, cond, false, true, List, [], ◌++◌, ◌∷◌, ◌≡◌, eqb, drop, length}
+use Rattle.std.specs.Prelude.{◌<◌, ◌≤◌, ℕ, List, [], ◌∷◌, ◌≡◌, Option, Some, None, drop, length}
 use Rattle.meaning.specs.Program.{bytes}
-use Rattle.tokens.specs.Places.{headed, part}
-use Rattle.tokens.specs.Tokens.{Token, same_bytes, tokens}
-use Rattle.statements.specs.declared.Fit.{Fit}
+use Rattle.tokens.specs.declared.Token.{Token as Place}
+use Rattle.tokens.specs.Places.{Within, bytes_of}
+use Rattle.tokens.specs.Tokens.{Token, tokens}
+use Rattle.statements.specs.declared.Axiom.{Axiom}
+use Rattle.statements.specs.declared.Axiom.TheVariants.{Below, Disjoint, FunctionalFeature, FunctionalRole, Range}
+use Rattle.statements.specs.declared.NameOf.{NameOf}
+use Rattle.statements.specs.declared.NameOf.TheVariants.{Class, Feature, Role}
+use Rattle.statements.specs.declared.Found.{Found}
 use Rattle.statements.specs.declared.Item.{Item}
-use Rattle.statements.specs.declared.Step.{Step}
-use Rattle.statements.specs.Forms.{Front, Parsed, Symbol, Row, Sort, Statement, Use, after, class, declares, exactly, feature, first_form, front, front_of}
-use Rattle.statements.specs.Forms.{name, none, ontology, opening, parsed, role, statements, states, taken, take_symbols, with_name, wrong}
-
--- two places of a text, one not behind the other
-abbrev pub Within : List ℕ → ℕ → ℕ → Type 0
-Within text from to = (from ≤ to) × (to ≤ length text)
+use Rattle.statements.specs.declared.Item.TheVariants.{End, Statement as Says}
+use Rattle.statements.specs.declared.OneName.{OneName}
+use Rattle.statements.specs.declared.Said.{Said}
+use Rattle.statements.specs.declared.Said.TheVariants.{Declares, States}
+use Rattle.statements.specs.declared.TwoNames.{TwoNames}
+use Rattle.statements.specs.Forms.{Symbol, Sort, Statement, Use, after, class, closing, declares, exactly, feature, front, front_of}
+use Rattle.statements.specs.Forms.{name, none, nothing, ontology, opening, parsed, role, statements, states, taken, take_symbols, with_name, wrong}
 
 -- ---- symbols
 
--- the symbols are in front of the tokens, and the tokens behind them are those from next on; or they are not
-pub record Passed (ws : List Symbol) (text : List ℕ) (ts : List Token) (ok : Bool) (next : ℕ) : Type 0 where
+-- the first symbol does not stand in front of the tokens, whatever follows it
+abbrev pub Missing : Symbol → List Token → Type 0
+Missing p ts = (ps : List Symbol) → take_symbols (p ∷ ps) ts ≡ none
+
+-- a word stands in front of the tokens from a place on, and those behind it are the tokens from next on
+pub record Stands (w text : List ℕ) (at next : ℕ) : Type 0 where
+  pub rises : at < next
   pub ends : next ≤ length text
-  pub same : (ps : List Symbol) → take_symbols (ws ++ ps) ts ≡ cond ok (take_symbols ps (tokens (drop next text))) none
+  pub same : (ps : List Symbol) → take_symbols (exactly w ∷ ps) (tokens (drop at text)) ≡ take_symbols ps (tokens (drop next text))
 
--- the first token is a word
-abbrev pub first : Token → List Token → Bool
-first w [] = false
-first w (t ∷ ts) = same_bytes t w
+abbrev pub Took : List ℕ → List ℕ → ℕ → Option ℕ → Type 0
+Took w text at None = Missing (exactly w) (tokens (drop at text))
+Took w text at (Some next) = Stands w text at next
 
--- a token that was read is a word or is not
-pub record IsWord (w text : List ℕ) (from to : ℕ) (ok : Bool) : Type 0 where
-  pub solid : ok ≡ true → from < to
-  pub told : ok ≡ first w (headed text from to)
-  pub here : Passed (exactly w ∷ []) text (headed text from to) ok to
-
--- a word from a place on
-pub record Took (w text : List ℕ) (at : ℕ) (ok : Bool) (next : ℕ) : Type 0 where
-  pub rises : at ≤ next
-  pub here : Passed (exactly w ∷ []) text (tokens (drop at text)) ok next
-
--- a word with an opening bracket
-pub record Begun (w text : List ℕ) (from to : ℕ) (ok : Bool) (next : ℕ) : Type 0 where
-  pub solid : ok ≡ true → from < next
-  pub here : Passed (exactly w ∷ (opening ∷ [])) text (headed text from to) ok next
-
--- a name from a place on
-pub record Named (text : List ℕ) (at : ℕ) (ok : Bool) (from to : ℕ) : Type 0 where
-  pub begins : at ≤ from
-  pub rises : from ≤ to
-  pub ends : to ≤ length text
+-- and so does a name
+pub record StandsName (text : List ℕ) (at : ℕ) (t : Place) : Type 0 where
+  pub begins : at ≤ t.from
+  pub within : Within text t
   pub same : (s : Sort) (ps : List Symbol) →
-      take_symbols (name s ∷ ps) (tokens (drop at text)) ≡ cond ok (with_name s (part text from to) (take_symbols ps (tokens (drop to text)))) none
+      take_symbols (name s ∷ ps) (tokens (drop at text)) ≡ with_name s (bytes_of text t) (take_symbols ps (tokens (drop t.to text)))
 
--- ---- forms
+abbrev pub Named : List ℕ → ℕ → Option Place → Type 0
+Named text at None = (s : Sort) → Missing (name s) (tokens (drop at text))
+Named text at (Some t) = StandsName text at t
+
+-- ---- names in brackets
 
 abbrev pub used : Sort → Token → Use
 used s t = record { sort = s; token = t }
 
--- a form of one name, at a token that was read
-pub record One (ws vs : List Symbol) (text : List ℕ) (start stop : ℕ) (r : Fit) : Type 0 where
-  pub solid : r.ok ≡ true → start < r.next
-  pub place : Within text r.from r.to
-  pub place₂ : Within text r.from2 r.to2
+pub record StandsOne (text : List ℕ) (at : ℕ) (r : OneName) : Type 0 where
+  pub rises : at < r.next
   pub ends : r.next ≤ length text
+  pub within : Within text r.name
   pub same : (s : Sort) (ps : List Symbol) →
-      take_symbols (ws ++ (name s ∷ (vs ++ ps))) (headed text start stop) ≡
-      cond r.ok (with_name s (part text r.from r.to) (take_symbols ps (tokens (drop r.next text)))) none
+      take_symbols (opening ∷ (name s ∷ (closing ∷ ps))) (tokens (drop at text)) ≡ with_name s (bytes_of text r.name) (take_symbols ps (tokens (drop r.next text)))
 
--- a form of two
-pub record Two (ws vs : List Symbol) (text : List ℕ) (start stop : ℕ) (r : Fit) : Type 0 where
-  pub solid : r.ok ≡ true → start < r.next
-  pub place : Within text r.from r.to
-  pub place₂ : Within text r.from2 r.to2
+abbrev pub One : List ℕ → ℕ → Option OneName → Type 0
+One text at None = (s : Sort) (ps : List Symbol) → take_symbols (opening ∷ (name s ∷ (closing ∷ ps))) (tokens (drop at text)) ≡ none
+One text at (Some r) = StandsOne text at r
+
+pub record StandsTwo (text : List ℕ) (at : ℕ) (r : TwoNames) : Type 0 where
+  pub rises : at < r.next
   pub ends : r.next ≤ length text
-  pub same : (s t : Sort) →
-      take_symbols (ws ++ (name s ∷ (name t ∷ vs))) (headed text start stop) ≡
-      cond r.ok (taken (used s (part text r.from r.to) ∷ (used t (part text r.from2 r.to2) ∷ [])) (tokens (drop r.next text))) none
+  pub first : Within text r.first
+  pub second : Within text r.second
+  pub same : (s u : Sort) →
+      take_symbols (opening ∷ (name s ∷ (name u ∷ (closing ∷ [])))) (tokens (drop at text)) ≡
+      taken (used s (bytes_of text r.first) ∷ (used u (bytes_of text r.second) ∷ [])) (tokens (drop r.next text))
 
--- what stands in front of a form's names
-abbrev pub heading : Token → List Symbol
-heading word = exactly word ∷ (opening ∷ [])
-
-abbrev pub declaring : Token → List Symbol
-declaring word = exactly (bytes "Declaration") ∷ (opening ∷ (exactly word ∷ (opening ∷ [])))
+abbrev pub Two : List ℕ → ℕ → Option TwoNames → Type 0
+Two text at None = (s u : Sort) → take_symbols (opening ∷ (name s ∷ (name u ∷ (closing ∷ [])))) (tokens (drop at text)) ≡ none
+Two text at (Some r) = StandsTwo text at r
 
 -- ---- statements
 
--- a statement by its number, 1 to 5 an axiom of that kind, 6 to 8 a declaration, and its names
-abbrev pub statement_of : ℕ → Token → Token → Statement
-statement_of k a b =
-    cond (eqb k 6) (declares class (used class a ∷ []))
-    (cond (eqb k 7) (declares role (used role a ∷ []))
-    (cond (eqb k 8) (declares feature (used feature a ∷ []))
-    (cond (eqb k 3) (states k (used role a ∷ []))
-    (cond (eqb k 4) (states k (used feature a ∷ []))
-    (cond (eqb k 5) (states k (used role a ∷ (used class b ∷ [])))
-    (states k (used class a ∷ (used class b ∷ []))))))))
+-- what is said, of the text's bytes; an axiom has the kind of its record
+abbrev pub use_of : List ℕ → NameOf → Use
+use_of text (Class t) = used class (bytes_of text t)
+use_of text (Role t) = used role (bytes_of text t)
+use_of text (Feature t) = used feature (bytes_of text t)
 
-abbrev pub IsStatement : ℕ → Type 0
-IsStatement k = (1 ≤ k) × (k ≤ 8)
+abbrev pub declared_of : List ℕ → NameOf → Statement
+declared_of text (Class t) = declares class (used class (bytes_of text t) ∷ [])
+declared_of text (Role t) = declares role (used role (bytes_of text t) ∷ [])
+declared_of text (Feature t) = declares feature (used feature (bytes_of text t) ∷ [])
 
-abbrev pub item_at : List ℕ → Item → Statement
-item_at text r = statement_of r.kind (part text r.from r.to) (part text r.from2 r.to2)
+abbrev pub stated_of : List ℕ → Axiom → Statement
+stated_of text (Below t u) = states 1 (used class (bytes_of text t) ∷ (used class (bytes_of text u) ∷ []))
+stated_of text (Disjoint t u) = states 2 (used class (bytes_of text t) ∷ (used class (bytes_of text u) ∷ []))
+stated_of text (FunctionalRole t) = states 3 (used role (bytes_of text t) ∷ [])
+stated_of text (FunctionalFeature t) = states 4 (used feature (bytes_of text t) ∷ [])
+stated_of text (Range t u) = states 5 (used role (bytes_of text t) ∷ (used class (bytes_of text u) ∷ []))
 
--- the item of a form that stands there
-abbrev pub item_of : ℕ → Fit → Item
-item_of k f = record { kind = k; from = f.from; to = f.to; from2 = f.from2; to2 = f.to2; next = f.next }
+abbrev pub statement_of : List ℕ → Said → Statement
+statement_of text (Declares d) = declared_of text d
+statement_of text (States a) = stated_of text a
 
--- where an item that was read from a place on stands, its number being at most so much
-pub record Placed (most : ℕ) (text : List ℕ) (start : ℕ) (r : Item) : Type 0 where
-  pub few : r.kind ≤ most
-  pub solid : (r.kind ≡ 0 → ⊥) → start < r.next
-  pub first : Within text r.from r.to
-  pub second : Within text r.from2 r.to2
+-- the names stand in the text
+abbrev pub NameWithin : List ℕ → NameOf → Type 0
+NameWithin text (Class t) = Within text t
+NameWithin text (Role t) = Within text t
+NameWithin text (Feature t) = Within text t
+
+abbrev pub AxiomWithin : List ℕ → Axiom → Type 0
+AxiomWithin text (Below t u) = Within text t × Within text u
+AxiomWithin text (Disjoint t u) = Within text t × Within text u
+AxiomWithin text (FunctionalRole t) = Within text t
+AxiomWithin text (FunctionalFeature t) = Within text t
+AxiomWithin text (Range t u) = Within text t × Within text u
+
+abbrev pub SaidWithin : List ℕ → Said → Type 0
+SaidWithin text (Declares d) = NameWithin text d
+SaidWithin text (States a) = AxiomWithin text a
+
+-- where a statement that was read from a place on stands
+pub record Placed (text : List ℕ) (start : ℕ) (r : Found) : Type 0 where
+  pub rises : start < r.next
   pub ends : r.next ≤ length text
+  pub within : SaidWithin text r.says
 
--- the item that was found at a token, or else the first of the forms that stands there
-unfoldable pub chosen : List ℕ → ℕ → ℕ → Item → List Row → Front
-chosen text start stop r fs =
-    let later = first_form fs (headed text start stop) in
-    cond (eqb r.kind 0) later (front (item_at text r) (tokens (drop r.next text)))
+-- the statement in front of tokens
+pub record StandsStated (text : List ℕ) (ts : List Token) (start : ℕ) (r : Found) : Type 0 where
+  pub placed : Placed text start r
+  pub same : front_of ts ≡ front (statement_of text r.says) (tokens (drop r.next text))
 
--- one more form of one name is tried, or of two: what it says is the statement of its number
-pub record TriedOne (ws vs : List Symbol) (kind : ℕ) (text : List ℕ) (start stop : ℕ) (s r : Item) : Type 0 where
-  pub placed : Placed 8 text start r
-  pub same : (x : Sort) (says : List Use → Statement) (fs : List Row) → ((a b : Token) → says (used x a ∷ []) ≡ statement_of kind a b) →
-      chosen text start stop s (record { symbols = ws ++ (name x ∷ vs); says = says } ∷ fs) ≡ chosen text start stop r fs
+abbrev pub Stated : List ℕ → List Token → ℕ → Option Found → Type 0
+Stated text ts start None = front_of ts ≡ nothing
+Stated text ts start (Some r) = StandsStated text ts start r
 
-pub record TriedTwo (ws vs : List Symbol) (kind : ℕ) (text : List ℕ) (start stop : ℕ) (s r : Item) : Type 0 where
-  pub placed : Placed 8 text start r
-  pub same : (x y : Sort) (says : List Use → Statement) (fs : List Row) → ((a b : Token) → says (used x a ∷ (used y b ∷ [])) ≡ statement_of kind a b) →
-      chosen text start stop s (record { symbols = ws ++ (name x ∷ (name y ∷ vs)); says = says } ∷ fs) ≡ chosen text start stop r fs
-
--- the item in front at a token, 0 for none
-pub record Stated (text : List ℕ) (start stop : ℕ) (r : Item) : Type 0 where
-  pub placed : Placed 8 text start r
-  pub same : front_of (headed text start stop) ≡ chosen text start stop r []
+abbrev pub declaring : List ℕ → ℕ → List Token
+declaring text at = bytes "Declaration" ∷ tokens (drop at text)
 
 -- ---- the ontology
 
--- the statements from a place on, by the item that was read there: 0 for none, 9 for the end of the ontology
-abbrev pub followed : ℕ → Statement → Parsed → Parsed
-followed k s later = cond (eqb k 0) wrong (cond (eqb k 9) (parsed []) (after s later))
+pub record NextSays (text : List ℕ) (at : ℕ) (r : Found) : Type 0 where
+  pub placed : Placed text at r
+  pub same : statements (tokens (drop at text)) ≡ after (statement_of text r.says) (statements (tokens (drop r.next text)))
 
-pub record Next (text : List ℕ) (at : ℕ) (r : Item) : Type 0 where
-  pub placed : Placed 9 text at r
-  pub same : statements (tokens (drop at text)) ≡ followed r.kind (item_at text r) (statements (tokens (drop r.next text)))
+-- the statements from a place on, by the item that was read there
+abbrev pub Next : List ℕ → ℕ → Option Item → Type 0
+Next text at None = statements (tokens (drop at text)) ≡ wrong
+Next text at (Some End) = statements (tokens (drop at text)) ≡ parsed []
+Next text at (Some (Says r)) = NextSays text at r
 
 -- behind `Ontology(`
-pub record Opened (text : List ℕ) (r : Step) : Type 0 where
-  pub ends : r.next ≤ length text
-  pub same : ontology (tokens text) ≡ cond r.ok (statements (tokens (drop r.next text))) wrong
+pub record Opens (text : List ℕ) (next : ℕ) : Type 0 where
+  pub ends : next ≤ length text
+  pub same : ontology (tokens text) ≡ statements (tokens (drop next text))
+
+abbrev pub Opened : List ℕ → Option ℕ → Type 0
+Opened text None = ontology (tokens text) ≡ wrong
+Opened text (Some next) = Opens text next

@@ -6,7 +6,7 @@ use Rattle.std.specs.Prelude.{Err, IsErrAnd, Ok, Result}
 use Rattle.meaning.specs.Answers.{Answer, ReadingResult, accepted, reading_answer, refused, result}
 use Rattle.meaning.specs.Operations.{unless}
 use Rattle.meaning.specs.Policy.{second_refusal}
-use Rattle.meaning.specs.Refusals.{model_number, number_in, policy_number, refusal_number, vocabulary_number}
+use Rattle.meaning.specs.Refusals.{fault_in, model_number, policy_number, refusal_number, vocabulary_number}
 use Rattle.meaning.specs.declared.refusals.ModelFault.{ModelFault}
 use Rattle.meaning.specs.declared.refusals.PolicyFault.{PolicyFault}
 use Rattle.meaning.specs.declared.refusals.Refusal.{Refusal}
@@ -53,12 +53,12 @@ refusal_numbered refusal.Spelling e = omega arith
 refusal_numbered refusal.Load e = omega arith
 
 -- a fault as it is, and as the refusal that a `?` makes of it
-pub kept : {A E : Type 0} (number : E → ℕ) (r : Result A E) {e : E} → IsErrAnd r (λ f. f ≡ e) → number_in number r ≡ number e
+pub kept : {A E : Type 0} (number : E → ℕ) (r : Result A E) {e : E} → IsErrAnd r (λ f. f ≡ e) → fault_in number r ≡ number e
 kept number (Ok a) h = absurd h
 kept number (Err f) h = ap number h
 
 pub converted : {A E : Type 0} (r : Result A Refusal) (e : E) (refuse : E → Refusal) {n : ℕ} → IsErrAnd r (λ f. f ≡ refuse e) → refusal_number (refuse e) ≡ n →
-    number_in refusal_number r ≡ n
+    fault_in refusal_number r ≡ n
 converted (Ok a) e refuse h k = absurd h
 converted (Err f) e refuse h k = ap refusal_number h ∙ k
 
@@ -71,6 +71,6 @@ unless_refused zero told h = absurd (h refl)
 unless_refused (suc n) told h = refl
 
 -- a reader's answer, by the number that it has
-pub reading_told : {U : Type 0} (r : Result U Refusal) → reading_answer r ≡ unless refused (number_in refusal_number r) (result accepted)
+pub reading_told : {U : Type 0} (r : Result U Refusal) → reading_answer r ≡ unless refused (fault_in refusal_number r) (result accepted)
 reading_told (Ok u) = refl
 reading_told (Err e) = unless_refused (refusal_number e) (result accepted) (refusal_numbered e)

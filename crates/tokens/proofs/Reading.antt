@@ -3,13 +3,19 @@ use Prim.Native.Nat.{◌+◌, ◌-◌, ◌<◌, ◌≤◌, suc, zero, ℕ}
 use mathlib.Core.Bool.{Bool, cond, false, true}
 use mathlib.Core.List.{List, [], ◌∷◌}
 use mathlib.Core.Path.{◌∙◌, ◌≡◌, ap, refl}
-use lib.ListN.{drop, drop_of_length-le, get_or, length}
-use lib.Seq.{drop-cons}
+use lib.ListN.{drop, drop_of_length-le, get_or, length, length-drop, take}
+use Rattle.std.proofs.lemmas.List.{drop-drop}
+use Rattle.std.proofs.lemmas.List.Sums.{prefix_len-le-length, prefix_len_stops}
+use lib.Seq.{drop-cons, get_or-drop, take-length}
 use native.Mathlib.Numerals.{add-one}
 use native.Mathlib.Omega.{arith}
-use borrow.Author.Tests.{le-ltb, lt-ltb}
-use Rattle.tokens.specs.Places.{Read, Run, part}
+use Rattle.std.specs.List.{prefix_len}
+use Rattle.std.proofs.Common.{None}
+use Rattle.tokens.specs.Places.{First, Read, part}
 use Rattle.tokens.specs.Tokens.{behind, goes_on, is_space, run, tokens, tokens_from}
+
+one_more : {n : ℕ} → 1 + n ≡ suc n
+one_more {n} = omega arith
 
 behind_le : (p : ℕ → Bool) (t : List ℕ) → length (behind p t) ≤ length t
 behind_le p [] = omega arith
@@ -61,37 +67,63 @@ behind_first p (x ∷ t) b u e = go (p x) refl (behind_first p t b u) e
     go true h r e = r e
     go false h r e = let d : x ≡ b = cc in rw (← d) h
 
-module _ (text : List ℕ) (at from : ℕ) (s : Run is_space text at from) where
-  skipped : tokens (drop at text) ≡ tokens (drop from text)
-  skipped = tokens_skip (drop at text) ∙ ap tokens s.left
+-- ---- how many bytes in front pass a test
 
-  pub read_none : from ≡ length text → Read text at from from
-  read_none e =
-      record {
-        begins = s.rises;
-        rises = omega arith;
-        ends = s.ends;
-        same = skipped ∙ rw (drop_of_length-le text {i = from} (omega arith), le-ltb from from (omega arith)) tokens_none;
-      }
+behind_cut : (p : ℕ → Bool) (t : List ℕ) → behind p t ≡ drop (prefix_len p t) t
+behind_cut p [] = refl
+behind_cut p (b ∷ t) = go (p b) (behind_cut p t)
+  where
+    go : (c : Bool) → behind p t ≡ drop (prefix_len p t) t → cond c (behind p t) (b ∷ t) ≡ drop (cond c (1 + prefix_len p t) 0) (b ∷ t)
+    go true e = rw one_more e
+    go false e = refl
 
-  module _ (n : from ≡ length text → ⊥) where
-    pub inside : from < length text
-    inside = omega (arith, s.ends)
+run_cut : (p : ℕ → Bool) (t : List ℕ) → run p t ≡ take (prefix_len p t) t
+run_cut p [] = refl
+run_cut p (b ∷ t) = go (p b) (run_cut p t)
+  where
+    go : (c : Bool) → run p t ≡ take (prefix_len p t) t → cond c (b ∷ run p t) [] ≡ take (cond c (1 + prefix_len p t) 0) (b ∷ t)
+    go true e = rw (one_more, e)
+    go false e = refl
 
-    pub read_token : {to : ℕ} → Run (goes_on (get_or text from 0)) text (from + 1) to → Read text at from to
-    read_token {to} r =
-        let cut = drop-cons text from 0 inside in
-        let b = get_or text from 0 in
-        let t = drop (from + 1) text in
-        let solid : is_space b ≡ false = behind_first is_space (drop at text) b (drop (suc from) text) (s.left ∙ cut) in
-        let size : to - from ≡ suc (to - (from + 1)) = omega (arith, r.rises) in
-        let whole : b ∷ part text (from + 1) to ≡ part text from to = rw (size, cut, add-one from) in
+-- a slice from a place to the end
+pub whole : (at : ℕ) (text : List ℕ) → take (length text - at) (drop at text) ≡ drop at text
+whole at text = rw (← length-drop at text) (take-length (drop at text))
+
+module _ (text : List ℕ) (at : ℕ) {n : ℕ} (h : at ≤ length text) (e : n ≡ prefix_len is_space (drop at text)) where
+  pub space_small : at + n ≤ length text
+  space_small = omega (arith, length-drop at text, prefix_len-le-length is_space (drop at text))
+
+  skipped : tokens (drop at text) ≡ tokens (drop (at + n) text)
+  skipped = tokens_skip (drop at text) ∙ ap tokens (behind_cut is_space (drop at text) ∙ rw (← e) (drop-drop n at text))
+
+  pub read_none : length text ≤ at + n → Read text at None
+  read_none l = skipped ∙ rw (drop_of_length-le text l) tokens_none
+
+  module _ (l : at + n < length text) {b m : ℕ} (d : b ≡ get_or text (at + n) 0) (q : m ≡ prefix_len (goes_on b) (drop (at + n + 1) text)) where
+    pub token_small : at + n + 1 + m ≤ length text
+    token_small = omega (arith, length-drop (at + n + 1) text, prefix_len-le-length (goes_on b) (drop (at + n + 1) text))
+
+    solid : is_space b ≡ false
+    solid =
+        let k = get_or-drop at text n 0 in
+        let s = prefix_len_stops is_space (drop at text) 0 (omega (arith, length-drop at text)) in
+        rw (d, ← k, e) s
+
+    token_bytes : b ∷ run (goes_on b) (drop (at + n + 1) text) ≡ part text (at + n) (at + n + 1 + m)
+    token_bytes =
+        let size : at + n + 1 + m - (at + n) ≡ suc m = omega arith in
+        rw (size, drop-cons text (at + n) 0 l, run_cut (goes_on b) (drop (at + n + 1) text), ← q, d, add-one (at + n))
+
+    rest : behind (goes_on b) (drop (at + n + 1) text) ≡ drop (at + n + 1 + m) text
+    rest = behind_cut (goes_on b) (drop (at + n + 1) text) ∙ rw (← q) (drop-drop m (at + n + 1) text)
+
+    first_cut : drop (at + n) text ≡ b ∷ drop (at + n + 1) text
+    first_cut = drop-cons text (at + n) 0 l ∙ rw (d, add-one (at + n))
+
+    pub read_token : First text at (record { from = at + n; to = at + n + 1 + m })
+    read_token =
         record {
-          begins = s.rises;
-          rises = omega (arith, r.rises);
-          ends = r.ends;
-          same =
-              skipped ∙ ap tokens (cut ∙ rw (← add-one from))
-              ∙ tokens_more b t solid
-              ∙ rw (lt-ltb from to (omega (arith, r.rises)), r.passed, r.left, whole);
+          begins = omega arith;
+          within = record { rises = omega arith; ends = token_small };
+          same = skipped ∙ ap tokens first_cut ∙ tokens_more b (drop (at + n + 1) text) solid ∙ rw (token_bytes, rest);
         }

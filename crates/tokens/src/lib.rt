@@ -1,142 +1,76 @@
 // Bytes to tokens: a token stands from a place to a place.
 #![tactic(auto)]
 
-ghost use Rattle.std.specs.Prelude.{◌≡◌, ◌≤◌, ◌<◌, ◌&&◌, leb, length};
-ghost use Rattle.tokens.specs.Places.{Read, Run, print_of};
-ghost use Rattle.tokens.specs.Tokens.{goes_on, is_letter, is_name_token, is_sign, is_space, same_bytes};
+ghost use Rattle.std.specs.Prelude.{◌≡◌, ◌≤◌, ℕ, Bool, length};
+ghost use Rattle.std.specs.List.{prefix_len};
+ghost use Rattle.tokens.specs.Places.{Read, print_of};
+ghost use Rattle.tokens.specs.Tokens.{goes_on, is_name_token, is_space, same_bytes};
 
 use meaning::limits::MOST_NAME_BYTES;
 
-// A token's bytes stand from the one to the other. Where they are equal, no token was left.
+// A token's bytes stand from the one to the other.
 #[derive(Clone, Copy)]
 pub struct Token {
     pub from: usize,
     pub to: usize,
 }
 
-fn between(low: u8, b: u8, high: u8) -> bool
-    ensures { result ≡ leb low b && leb b high }
-{
-    low <= b && b <= high
-}
-
-fn is_letter(b: u8) -> bool
-    ensures { result ≡ is_letter b }
-{
-    between(b'A', b, b'Z') || between(b'a', b, b'z')
-}
-
-fn is_sign(b: u8) -> bool
-    ensures { result ≡ is_sign b }
-{
-    is_letter(b) || between(b'0', b, b'9')
-}
-
+#[tactic(auto, unfolding(crate::specs::Tokens::is_space))]
 fn is_space(b: u8) -> bool
     ensures { result ≡ is_space b }
 {
-    b == b' ' || (b == b'\t' || b == b'\n')
+    matches!(b, b' ' | b'\t' | b'\n')
 }
 
 fn goes_on(first: u8, b: u8) -> bool
     ensures { result ≡ goes_on first b }
 {
-    if is_letter(first) {
-        return is_letter(b);
+    if first.is_ascii_alphabetic() {
+        return b.is_ascii_alphabetic();
     }
-    first == b':' && is_sign(b)
+    first == b':' && b.is_ascii_alphanumeric()
 }
 
-// Where the run of bytes that go on a token ends.
-fn run_end(text: &[u8], first: u8, at: usize) -> usize
-    requires { at ≤ length text.now }
-    ensures { Run (goes_on first) text.now at result }
+// How many bytes in front pass a test.
+fn passing<F: Fn(u8) -> bool>(text: &[u8], passes: F) -> usize
+    requires { F.IsAlwaysCallable passes }
+    ensures { (p : ℕ → Bool) → ((b : ℕ) (r : Bool) → F.post passes b r → r ≡ p b) → result ≡ prefix_len p text.now }
 {
-    let mut i = at;
-    while i < text.len() {
-        if !goes_on(first, text[i]) {
-            return i;
-        }
-        i += 1;
-    }
-    i
+    text.iter().take_while(|b| passes(**b)).count()
 }
 
-fn skip_space(text: &[u8], at: usize) -> usize
+// The first token from a place on, where one is left.
+pub fn next_token(text: &[u8], at: usize) -> Option<Token>
     requires { at ≤ length text.now }
-    ensures { Run is_space text.now at result }
+    ensures { Read text.now at result }
 {
-    let mut i = at;
-    while i < text.len() {
-        if !is_space(text[i]) {
-            return i;
-        }
-        i += 1;
-    }
-    i
-}
-
-// The first token from a place on.
-pub fn next_token(text: &[u8], at: usize) -> Token
-    requires { at ≤ length text.now }
-    ensures { Read text.now at result.from result.to }
-{
-    let from = skip_space(text, at);
-    if from == text.len() {
-        return Token {
-            from: from,
-            to: from,
-        };
-    }
-    let to = run_end(text, text[from], from + 1);
-    Token { from: from, to: to }
+    let from = at + passing(&text[at..], is_space);
+    let first = *text.get(from)?;
+    let to = from + 1 + passing(&text[from + 1..], |b| goes_on(first, b));
+    Some(Token { from, to })
 }
 
 pub fn same(a: &[u8], b: &[u8]) -> bool
     ensures { result ≡ same_bytes a.now b.now }
 {
-    if a.len() != b.len() {
-        return false;
-    }
-    let mut i = 0;
-    while i < a.len() {
-        if a[i] != b[i] {
-            return false;
-        }
-        i += 1;
-    }
-    true
+    a == b
 }
 
 // A name's print: equal names have equal prints.
 pub fn print(name: &[u8]) -> u32
     ensures { result ≡ print_of name.now }
 {
-    let mut h: u64 = 0;
-    for i in 0..name.len() {
-        h = (h * 31 + wide(name[i])) % 4294967296;
-    }
-    (h % 4294967296) as u32
+    name.iter().fold(0u32, |h, b| {
+        h.wrapping_mul(31).wrapping_add(u32::from(*b))
+    })
 }
-
-fn wide(x: u8) -> u64
-    ensures { (result ≡ x) × (result < 256) }
-{
-    x as u64
-}
-
-// The colon of a name, and what may stand behind it.
-const LONGEST_NAME: usize = 1 + MOST_NAME_BYTES;
 
 // A colon, and at least one byte and not too many.
 pub fn is_name_token(t: &[u8]) -> bool
     ensures { result ≡ is_name_token t.now }
 {
-    if t.len() < 2 {
-        return false;
+    match t {
+        [b':', signs @ ..] => (1..=MOST_NAME_BYTES).contains(&signs.len()),
+        _ => false,
     }
-    if t[0] != b':' {
-        return false;
-    }
-    t.len() <= LONGEST_NAME
 }

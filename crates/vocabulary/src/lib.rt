@@ -5,7 +5,7 @@ ghost use Rattle.std.specs.Prelude.{◌≡◌, ◌&&◌, cond, true, ◌≤◌, 
 ghost use Rattle.meaning.specs.Answers.{reading_answer};
 ghost use Rattle.meaning.specs.Operations.{read_vocabulary};
 ghost use Rattle.meaning.specs.Records.{is_name, last_of};
-ghost use Rattle.meaning.specs.Refusals.{number_in, vocabulary_number};
+ghost use Rattle.meaning.specs.Refusals.{fault_in, vocabulary_number};
 ghost use Rattle.meaning.specs.Vocabulary.{axiom_kind, axiom_left, axiom_next, axiom_right, axioms_refusal, class_count, feature_count};
 ghost use Rattle.meaning.specs.Vocabulary.{first_axiom, headed_vocabulary, role_count, sound_axiom, vocabulary_refusal};
 ghost use Rattle.vocabulary.specs.Names.{Noted, chain_refusal, name_at};
@@ -102,7 +102,7 @@ fn is_headed(v: &[u32]) -> bool
 
 // A record names two things, and both must be right.
 fn check_names(left: bool, right: bool) -> Result<(), VocabularyFault>
-    ensures { number_in vocabulary_number result ≡ cond (left && right) 0 3 }
+    ensures { fault_in vocabulary_number result ≡ cond (left && right) 0 3 }
 {
     if left && right {
         Ok(())
@@ -114,7 +114,7 @@ fn check_names(left: bool, right: bool) -> Result<(), VocabularyFault>
 // Record k's kind, names, zeros and link.
 fn check_axiom(v: &[u32], k: u32) -> Result<(), VocabularyFault>
     requires { 4 ≤ length v.now }
-    ensures { number_in vocabulary_number result ≡ cond (sound_axiom v.now k) 0 3 }
+    ensures { fault_in vocabulary_number result ≡ cond (sound_axiom v.now k) 0 3 }
 {
     if !is_onward(last_axiom(v), k, axiom_next(v, k)) {
         return Err(VocabularyFault::Record);
@@ -179,7 +179,7 @@ impl Sides {
 // may stand both ways are noted, so that the chain is walked once.
 fn check_axioms(v: &[u32], sides: &mut Sides) -> Result<(), VocabularyFault>
     requires { (4 ≤ length v.now) × (first_axiom v.now ≤ last_of 4 v.now) }
-    ensures value { number_in vocabulary_number result ≡ axioms_refusal (length v.now) v.now (first_axiom v.now) }
+    ensures value { fault_in vocabulary_number result ≡ axioms_refusal (length v.now) v.now (first_axiom v.now) }
     ensures functional_roles { IsOk result → Noted v.now 3 sides.old.functional_roles sides.new.functional_roles }
     ensures functional_features { IsOk result → Noted v.now 4 sides.old.functional_features sides.new.functional_features }
     ensures many_roles { IsOk result → Noted v.now 6 sides.old.many_roles sides.new.many_roles }
@@ -197,7 +197,7 @@ fn check_axioms(v: &[u32], sides: &mut Sides) -> Result<(), VocabularyFault>
 // The chain's first fault; then whether a role or a feature is said to be functional and many-valued.
 fn check_chain(v: &[u32]) -> Result<(), VocabularyFault>
     requires { (4 ≤ length v.now) × (headed_vocabulary v.now ≡ true) }
-    ensures { number_in vocabulary_number result ≡ chain_refusal v.now }
+    ensures { fault_in vocabulary_number result ≡ chain_refusal v.now }
 {
     let mut sides = Sides::NONE;
     check_axioms(v, &mut sides)?;
@@ -212,7 +212,7 @@ fn check_chain(v: &[u32]) -> Result<(), VocabularyFault>
 
 // The first fault: the operations that read a vocabulary first pass it on.
 pub fn check_vocabulary(v: &[u32]) -> Result<(), VocabularyFault>
-    ensures { number_in vocabulary_number result ≡ vocabulary_refusal v.now }
+    ensures { fault_in vocabulary_number result ≡ vocabulary_refusal v.now }
 {
     if !records::is_sized(4, MOST_VOCABULARY_WORDS, v.len()) {
         return Err(VocabularyFault::Length);

@@ -1,25 +1,21 @@
+use mathlib.Core.Path.{◌∙◌, sym}
 use native.Mathlib.Omega.{arith}
-use Rattle.name_table.proofs.Laws.{listed_at, listed_rest, repeating_ends, repeating_finds, repeating_on, repeating_starts}
+use Rattle.name_table.proofs.Laws.{listed_rest, repeating_ends, repeating_finds, repeating_on, repeating_starts}
 use Rattle.name_table.proofs.has_repeats.Goals as goal
 
 pub loop-k-init : goal.loop-k-init
 loop-k-init c = repeating_starts
 
 pub number-requires : goal.number-requires
-number-requires c =
-    let l = c.requires.0 in
-    let e = listed_at l c.loop-k-test.true in (
-      listed_rest l c.loop-k-test.true,
-      omega arith,
-      rw (c.place-from.ensures, c.place-to.ensures) e.rises,
-      rw c.place-to.ensures e.ends,
-    )
+number-requires c = (listed_rest c.requires.0 c.loop-k-test.true, omega arith)
 
-pub returns-then-number-ne0 : goal.returns-then-number-ne0
-returns-then-number-ne0 c = search repeating_finds
+pub returns-then-is_some : goal.returns-then-is_some
+returns-then-is_some c =
+    repeating_finds c.loop-k.invariant c.loop-k-test.true c.entry_name-name.ensures c.number.ensures (sym c.is_some.ensures ∙ c.if-is_some.true)
 
 pub loop-k-preserved : goal.loop-k-preserved
-loop-k-preserved c = search repeating_on
+loop-k-preserved c =
+    repeating_on c.loop-k.invariant c.loop-k-test.true c.entry_name-name.ensures c.number.ensures (sym c.is_some.ensures ∙ c.if-is_some.false)
 
 pub returns : goal.returns
 returns c = search repeating_ends

@@ -5,7 +5,11 @@ use Rattle.owl.proofs.Whole.{ready, table_fits}
 use Rattle.owl.proofs.fill.Goals as goal
 
 pub list_names-requires : goal.list_names-requires
-list_names-requires c = let p = c.requires in table_fits p.begins.0 p.begins.2 p.ok_value.0 p.ok_value.1 (length-replicate {A = ℕ} table_size 0) p.begins.1
+list_names-requires c =
+    let p = c.requires in
+    table_fits p.begins.0 p.begins.2 p.small (length-replicate {A = ℕ} table_size 0) p.begins.1
 
 pub finish-requires : goal.finish-requires
-finish-requires c = let p = c.requires in (ready p.begins.0 p.begins.2 p.ok_value.0 p.ok_value.1 c.list_names.ensures, p.begins.0, p.begins.1)
+finish-requires c =
+    let p = c.requires in
+    (record { ready = ready p.begins.0 p.begins.2 p.small c.list_names.ensures; begins = p.begins.0 }, p.begins.1)

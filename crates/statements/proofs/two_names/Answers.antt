@@ -1,17 +1,20 @@
 use Rattle.statements.proofs.Laws.{two_begins, two_closes, two_named, two_other, two_stands}
 use Rattle.statements.proofs.two_names.Goals as goal
 
-pub returns-then-not-open : goal.returns-then-not-open
-returns-then-not-open c = search two_begins
+pub returns-in_err-open : goal.returns-in_err-open
+returns-in_err-open c = rw c.from_residual.ensures (two_begins c.args.text.now c.args.at c.in_err-open.ensures)
 
-pub returns-then-not-name : goal.returns-then-not-name
-returns-then-not-name c = search two_named
+pub returns-in_err-first : goal.returns-in_err-first
+returns-in_err-first c = rw c.from_residual-in_err-first.ensures (two_named c.args.text.now c.args.at c.in_ok-open.ensures c.in_err-first.ensures)
 
-pub returns-then-not-other : goal.returns-then-not-other
-returns-then-not-other c = search two_other
+pub returns-in_err-second : goal.returns-in_err-second
+returns-in_err-second c =
+    rw c.from_residual-in_err-second.ensures (two_other c.args.text.now c.args.at c.in_ok-open.ensures c.in_ok-first.ensures c.in_err-second.ensures)
 
-pub returns-then-not-close : goal.returns-then-not-close
-returns-then-not-close c = search two_closes
+pub returns-in_err-next : goal.returns-in_err-next
+returns-in_err-next c =
+    rw c.from_residual-in_err-next.ensures
+    (two_closes c.args.text.now c.args.at c.in_ok-open.ensures c.in_ok-first.ensures c.in_ok-second.ensures c.in_err-next.ensures)
 
 pub returns : goal.returns
-returns c = two_stands c.requires c.begin-open.ensures c.if-not-open.false c.take_name-name.ensures c.if-not-name.false c.take_name-other.ensures c.if-not-other.false c.take-close.ensures c.if-not-close.false
+returns c = two_stands c.args.text.now c.args.at c.in_ok-open.ensures c.in_ok-first.ensures c.in_ok-second.ensures c.in_ok-next.ensures
