@@ -1,9 +1,9 @@
 -- Laws of the constraints of an individual, one after another: whether one lies inside whole.
-use Prim.Native.Nat.{◌+◌, ◌<◌, ◌≤◌, ℕ}
+use Prim.Native.Nat.{◌<◌, ◌≤◌, ℕ}
 use mathlib.Core.Bool.{Bool, false, true}
 use mathlib.Core.List.{List}
 use mathlib.Core.Logic.{⊎_elim}
-use mathlib.Core.Path.{◌∙◌, ◌≡◌, subst, sym}
+use mathlib.Core.Path.{◌∙◌, ◌≡◌, sym}
 use native.Mathlib.Omega.{arith}
 use borrow.Author.Tests.{eq-eqb, ne_eqb}
 use Rattle.layout.specs.Nesting.{Nested}
@@ -59,11 +59,3 @@ module _ {w : List ℕ} {t : Tables} {x f lo hi m : ℕ} (nest : Nested w t) (p 
       pub pieces_found : {r : Bool} → r ≡ true → one ≡ true → r ≡ has_whole w t.constraints x f lo hi
       unfolding has_piece
       pieces_found y h = y ∙ sym (some_below (is_piece_inside (constraint_at w) w x f lo hi) t.constraints m less (held ∙ h))
-
-      pub pieces_on : one ≡ false → Passed w t x f lo hi (m + 1)
-      pieces_on h = record {
-        within = omega arith;
-        none = λ i l. ⊎_elim (p.none i) (λ g. let z : m ≡ i = omega arith in
-            subst (λ (k : ℕ). is_piece_inside (constraint_at w) w x f lo hi k ≡ false) z (held ∙ h)) (order i m);
-        after = λ i g l. p.after i (omega arith) l;
-      }
