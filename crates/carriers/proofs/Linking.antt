@@ -2,18 +2,27 @@
 use Prim.Native.Nat.{◌-◌, ◌<◌, ◌≤◌, suc, ℕ}
 use mathlib.Core.List.{List}
 use mathlib.Core.Logic.{◌⊎◌, inl, inr}
-use mathlib.Core.Path.{◌∙◌, ◌≡◌, ap, subst, sym}
+use mathlib.Core.Path.{◌∙◌, ◌≡◌, ap, refl, subst, sym}
 use lib.ListN.{length}
 use native.Mathlib.Omega.{arith}
 use Rattle.carriers.proofs.Links.{beside_kept, linked_beside, linked_size, linked_slot, linked_under, lower_few, slot_kept}
 use Rattle.carriers.proofs.Links.{under_kept}
-use Rattle.carriers.proofs.Noting.{eq_cases}
-use Rattle.carriers.specs.Carriers.{Carrier, HasCarrier, Listed, Unlisted, UpTo, beside_of, carriers_end, linked, slot_of, under_of}
+use mathlib.Core.Bool.{Bool, false, true}
+use lib.Dec.{eqb}
+use borrow.Author.Tests.{eqb-false, eqb-true}
+use Rattle.carriers.specs.Carriers.{Carrier, HasCarrier, UpTo, beside_of, carriers_end, linked, slot_of, under_of}
 use Rattle.layout.specs.Nesting.{Nested}
 use Rattle.layout.specs.Tables.{Standing, parent_at}
 use Rattle.layout.specs.declared.Tables.{Tables}
 use Rattle.meaning.specs.Limits.{most_records}
 use Rattle.theory.proofs.Rules.{order}
+
+eq_cases : {A : Type 0} (m n : ℕ) → (m ≡ n → A) → ((m ≡ n → ⊥) → A) → A
+eq_cases {A} m n f g = go (eqb m n) refl
+  where
+    go : (b : Bool) → eqb m n ≡ b → A
+    go true e = f (eqb-true m n e)
+    go false e = g (eqb-false m n e)
 
 -- the rows from k on are listed, and no other
 pub record Linking (c w : List ℕ) (n k : ℕ) : Type 0 where
@@ -27,26 +36,6 @@ pub record Linking (c w : List ℕ) (n k : ℕ) : Type 0 where
   pub next : (i j : ℕ) → k ≤ i → i < j → j < n → (slot_of c (suc i) ≡ 0 → ⊥) → (slot_of c (suc j) ≡ 0 → ⊥) → parent_at w i ≡ parent_at w j →
       UpTo j (beside_of c (suc i))
 
-pub linking_starts : {c w : List ℕ} {n : ℕ} → Unlisted c n → Linking c w n n
-linking_starts u = record {
-  within = omega arith;
-  room = u.room;
-  few = u.few;
-  child = λ x h d. absurd (d (u.none x h));
-  first = λ j a b. absurd (omega arith);
-  sibling = λ j a b. absurd (omega arith);
-  next = λ i j a b e. absurd (omega arith);
-}
-
-pub linking_ends : {c w : List ℕ} {n k : ℕ} → k ≡ 0 → Linking c w n k → Listed c w n
-linking_ends z l = record {
-  few = l.few;
-  child = λ x h d. (l.child x h d).1;
-  first = λ j h. l.first j (omega arith) h;
-  sibling = λ j h. l.sibling j (omega arith) h;
-  next = λ i j a b. l.next i j (omega arith) a b;
-}
-
 -- row j, whose individual is suc j, after those behind it
 module _ {c w : List ℕ} {n j : ℕ} (l : Linking c w n (suc j)) where
   -- a row from j on is j, or one of those behind it
@@ -56,18 +45,6 @@ module _ {c w : List ℕ} {n j : ℕ} (l : Linking c w n (suc j)) where
       go : (j < i) ⊎ (i ≤ j) → A i
       go (inl a) = on i a
       go (inr a) = let e : j ≡ i = omega arith in subst A e here
-
-  -- it has no dial at or below, and is in no list
-  linking_over : slot_of c (suc j) ≡ 0 → Linking c w n j
-  linking_over none = record {
-    within = omega (arith, l.within);
-    room = l.room;
-    few = l.few;
-    child = λ x h d. let m = l.child x h d in (omega arith, m.1);
-    first = either (λ b d. absurd (d none)) l.first;
-    sibling = either (λ b d. absurd (d none)) l.sibling;
-    next = λ i m. either (λ a b d. absurd (d none)) (λ i. l.next i m) i;
-  }
 
   -- it goes to the front of its parent's list
   module _ {p : ℕ} (most : n ≤ most_records) (up : (i : ℕ) → i < n → parent_at w i ≤ i) (parent : p ≡ parent_at w j)
@@ -185,9 +162,6 @@ module _ {c w : List ℕ} {n k s : ℕ} (more : 0 < k) (l : Linking c w n k) (re
 
   own : s ≡ slot_of c (suc (k - 1))
   own = read ∙ ap (slot_of c) row
-
-  pub linking_none : s ≡ 0 → Linking c w n (k - 1)
-  linking_none e = linking_over behind (sym own ∙ e)
 
   pub linking_some : {c' : List ℕ} {p : ℕ} {t : Tables} → Standing w t → Nested w t → n ≡ t.individuals → (s ≡ 0 → ⊥) →
       p ≡ parent_at w (k - 1) → c' ≡ linked p k c → Linking c' w n (k - 1)

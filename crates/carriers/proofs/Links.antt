@@ -1,38 +1,20 @@
 -- Laws of one individual that goes to the front of its parent's list: what each of the three tables then holds.
-use Prim.Native.Nat.{◌*◌, ◌+◌, ◌<◌, ◌≤◌, ℕ}
-use mathlib.Core.Bool.{Bool, cond, false, true}
+use Prim.Native.Nat.{◌*◌, ◌+◌, ◌≤◌, ℕ}
 use mathlib.Core.List.{List}
 use mathlib.Core.Path.{◌∙◌, ◌≡◌}
-use lib.Dec.{eqb, ltb}
+use lib.Dec.{eqb}
 use lib.ListN.{get_or, length, length-set, set}
 use lib.Seq.{get_or-set_other, get_or-set_same}
 use native.Mathlib.Omega.{arith}
-use borrow.Author.Tests.{eq-eqb, le-ltb, lt-ltb, ne_eqb}
+use Rattle.theory.proofs.Links.{split}
 use Rattle.carriers.specs.Carriers.{HasCarrier, beside_of, linked, lower_slot, slot_of, under_of}
 use Rattle.meaning.specs.Limits.{most_records}
 
 -- ---- the lower of two slots
 
-pub lower_none : {a b : ℕ} → a ≡ 0 → b ≡ lower_slot a b
-unfolding lower_slot
-lower_none {a} e = rw (eq-eqb a 0 e)
-
-pub lower_second : {a b : ℕ} → (a ≡ 0 → ⊥) → b < a → b ≡ lower_slot a b
-unfolding lower_slot
-lower_second {a} {b} n h = rw (ne_eqb a 0 n, lt-ltb b a h)
-
-pub lower_first : {a b : ℕ} → (a ≡ 0 → ⊥) → a ≤ b → a ≡ lower_slot a b
-unfolding lower_slot
-lower_first {a} {b} n h = rw (ne_eqb a 0 n, le-ltb b a h)
-
 pub lower_few : (a b m : ℕ) → a ≤ m → b ≤ m → lower_slot a b ≤ m
 unfolding lower_slot
-lower_few a b m f g = go (eqb a 0) (ltb b a)
-  where
-    go : (s t : Bool) → cond s b (cond t b a) ≤ m
-    go true t = g
-    go false true = g
-    go false false = f
+lower_few a b m f g = split (λ s. s ≤ m) (eqb a 0) (λ _. g) (λ _. omega arith)
 
 -- ---- one individual linked
 

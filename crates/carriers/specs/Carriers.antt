@@ -1,5 +1,5 @@
 -- Of each individual of a term: the lowest dial at or below it, and its successors with a dial at or below, one linked to the next.
-use Rattle.std.specs.Prelude.{◌*◌, ◌+◌, ◌<◌, ◌≤◌, pred, suc, ℕ, cond, List, ◌≡◌, eqb, ltb, get_or, length, set}
+use Rattle.std.specs.Prelude.{◌*◌, ◌+◌, ◌<◌, ◌≤◌, min, pred, suc, ℕ, cond, List, Option, None, Some, ◌≡◌, eqb, get_or, length, set}
 use Rattle.layout.specs.Nesting.{Nested}
 use Rattle.layout.specs.Tables.{Standing, parent_at}
 use Rattle.layout.specs.declared.Tables.{Tables}
@@ -10,6 +10,10 @@ use Rattle.meaning.specs.Limits.{most_records}
 -- the lowest dial at or below individual x, plus 1; 0 for none
 abbrev pub slot_of : List ℕ → ℕ → ℕ
 slot_of c x = get_or c x 0
+
+-- the number that a word names, where 0 names none
+abbrev pub named : ℕ → Option ℕ
+named n = cond (eqb n 0) None (Some n)
 
 -- the first successor of individual x with a dial at or below, or 0
 abbrev pub under_of : List ℕ → ℕ → ℕ
@@ -66,7 +70,7 @@ pub record Unlisted (c : List ℕ) (n : ℕ) : Type 0 where
 
 -- the lower of two slots
 unfoldable pub lower_slot : ℕ → ℕ → ℕ
-lower_slot a b = cond (eqb a 0) b (cond (ltb b a) b a)
+lower_slot a b = cond (eqb a 0) b (min a b)
 
 -- individual y is put before the others in the list of individual p
 unfoldable pub linked : ℕ → ℕ → List ℕ → List ℕ

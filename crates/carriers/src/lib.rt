@@ -12,7 +12,7 @@
 #![tactic(auto)]
 
 ghost use Rattle.std.specs.Prelude.{◌≡◌, ◌≤◌, length};
-ghost use Rattle.carriers.specs.Carriers.{HasCarrier, Listable, Listed, Unlisted, beside_of, carriers_end, linked, lower_slot, slot_of};
+ghost use Rattle.carriers.specs.Carriers.{HasCarrier, Listable, Listed, Unlisted, beside_of, carriers_end, linked, lower_slot, named, slot_of};
 ghost use Rattle.carriers.specs.Carriers.{under_of};
 ghost use Rattle.layout.specs.Nesting.{Nested};
 ghost use Rattle.layout.specs.Tables.{Standing};
@@ -38,18 +38,25 @@ pub fn slot_of(carriers: &[u32], x: u32) -> u32
     word(carriers, place(x))
 }
 
-// The first successor of individual x with a dial at or below, or 0.
-pub fn first_carrier(carriers: &[u32], x: u32) -> u32
-    ensures { result ≡ under_of carriers.now x }
+// The number that a word of a table names, where 0 names none.
+pub fn named(word: u32) -> Option<u32>
+    ensures { result ≡ named word }
 {
-    word(carriers, UNDER + place(x))
+    if word == 0 { None } else { Some(word) }
 }
 
-// The next one beside individual y, with the same parent, or 0.
-pub fn next_carrier(carriers: &[u32], y: u32) -> u32
-    ensures { result ≡ beside_of carriers.now y }
+// The first successor of individual x with a dial at or below.
+pub fn first_carrier(carriers: &[u32], x: u32) -> Option<u32>
+    ensures { result ≡ named (under_of carriers.now x) }
 {
-    word(carriers, BESIDE + place(y))
+    named(word(carriers, UNDER + place(x)))
+}
+
+// The next one beside individual y, with the same parent.
+pub fn next_carrier(carriers: &[u32], y: u32) -> Option<u32>
+    ensures { result ≡ named (beside_of carriers.now y) }
+{
+    named(word(carriers, BESIDE + place(y)))
 }
 
 // ---- how they are made
@@ -59,29 +66,21 @@ fn note_dials(work: &[u32], t: Tables, dials: &[u32], carriers: &mut [u32])
     requires { Listable dials.now work.now t × Unlisted carriers.old t.individuals }
     ensures { Unlisted carriers.new t.individuals }
 {
-    let mut d = dials.len();
-    while 0 < d {
-        let slot = d as u32;
-        d -= 1;
-        let x = holder_of(work, place(dials[d]));
+    for (d, m) in dials.iter().enumerate().rev() {
+        let x = holder_of(work, place(*m));
         if t.individuals < x {
             continue;
         }
-        carriers[place(x)] = slot;
+        carriers[place(x)] = d as u32 + 1;
     }
 }
 
 // The lower of two slots, where 0 stands for none.
+#[tactic(auto, unfolding(crate::specs::Carriers::lower_slot))]
 fn lower(a: u32, b: u32) -> u32
     ensures { result ≡ lower_slot a b }
 {
-    if a == 0 {
-        return b;
-    }
-    if b < a {
-        return b;
-    }
-    a
+    if a == 0 { b } else { a.min(b) }
 }
 
 // Individual y goes to the front of its parent's list, and the parent's slot is no higher than its own.
@@ -89,7 +88,7 @@ fn link(carriers: &mut [u32], parent: u32, y: u32)
     requires { HasCarrier parent carriers.old × HasCarrier y carriers.old }
     ensures { carriers.new ≡ linked parent y carriers.old }
 {
-    let next = first_carrier(carriers, parent);
+    let next = word(carriers, UNDER + place(parent));
     let slot = lower(slot_of(carriers, parent), slot_of(carriers, y));
     carriers[BESIDE + place(y)] = next;
     carriers[UNDER + place(parent)] = y;
@@ -101,10 +100,8 @@ fn note_rows(work: &[u32], t: Tables, carriers: &mut [u32])
     requires { Standing work.now t × Nested work.now t × Unlisted carriers.old t.individuals }
     ensures { Listed carriers.new work.now t.individuals }
 {
-    let mut j = t.individuals;
-    while 0 < j {
-        let y = j;
-        j -= 1;
+    for j in (0..t.individuals).rev() {
+        let y = j + 1;
         if slot_of(carriers, y) == 0 {
             continue;
         }

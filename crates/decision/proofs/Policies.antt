@@ -1,5 +1,5 @@
 -- A policy: the first term to fail, the report, and one term of the loop.
-use Prim.Native.Nat.{◌*◌, ◌+◌, ◌<◌, ◌≤◌, suc, zero, ℕ}
+use Prim.Native.Nat.{◌*◌, ◌+◌, ◌<◌, ◌≤◌, suc, ℕ}
 use mathlib.Core.Bool.{Bool, ◌||◌, cond, false, true}
 use mathlib.Core.List.{List, [], ◌++◌, ◌∷◌}
 use mathlib.Core.Path.{◌∙◌, ◌≡◌, ap, refl, subst, sym}
@@ -13,7 +13,6 @@ use Rattle.frames.proofs.Frames.{only_then}
 use Rattle.frames.proofs.Work.{outputs_none}
 use Rattle.frames.specs.Frames.{Only}
 use Rattle.functional.specs.declared.Functional.{Functional}
-use Rattle.layout.specs.Combination.{Combined}
 use Rattle.layout.specs.Places.{InTables}
 use Rattle.layout.specs.Tables.{Standing}
 use Rattle.layout.specs.declared.Tables.{Tables}
@@ -34,7 +33,8 @@ use Rattle.meaning.specs.declared.Verdict.{Verdict}
 use Rattle.policy.proofs.Terms.{Asking, asking_found, asking_on, asking_term}
 use Rattle.preparation.specs.Prepared.{Prepared}
 use Rattle.short_way.proofs.Passing.{ready_still}
-use Rattle.short_way.specs.Stops.{Behind, LeftAt, PreparedPair, StopsBy}
+use Rattle.short_way.specs.Stops.{Behind, LeftAt, PreparedPair, Stops, StopsAt, StopsBy}
+use Rattle.std.specs.Prelude.{None, Option, Some}
 use Rattle.short_way.specs.declared.Stop.{Stop}
 use Rattle.tabulation.specs.Tabulation.{Tabulated}
 use Rattle.meaning.specs.declared.Verdict.TheVariants as verdict
@@ -50,21 +50,6 @@ use Rattle.theory.proofs.ShortWay.{decide_behind, resolve_decide, short_agrees, 
 use Rattle.theory.proofs.Wellformed.{accepted_counts}
 
 -- ---- the first term to fail
-
-module _ (K : Vocabulary) (Q : Policy) (c : Chain) (w : List ℕ) (t : Tables) where
-  pub fails_none : {r : ℕ} → r ≡ 0 → Failure K Q c w t r → first_failure K Q c ≡ nowhere
-  fails_none {r} z h = go r z h
-    where
-      go : (r : ℕ) → r ≡ 0 → Failure K Q c w t r → first_failure K Q c ≡ nowhere
-      go zero z h = h
-      go (suc k) z h = absurd (omega arith)
-
-  pub fails_some : {r : ℕ} → (r ≡ 0 → ⊥) → Failure K Q c w t r → (u : Form) × (first_failure K Q c ≡ found r u) × Combined K u w t
-  fails_some {r} z h = go r z h
-    where
-      go : (r : ℕ) → (r ≡ 0 → ⊥) → Failure K Q c w t r → (u : Form) × (first_failure K Q c ≡ found r u) × Combined K u w t
-      go zero z h = absurd (z refl)
-      go (suc k) z h = h
 
 found_in : {A : Type 0} (f : A → Bool) (s : ℕ) (l : List A) {k : ℕ} {x : A} → first_failing f s l ≡ found k x → x ∈ l
 found_in f s [] e = absurd (let z : ◌≡◌ {A = ℕ} 0 1 = cc in omega arith)
@@ -171,7 +156,7 @@ term_bounded v c h = chain_bounded (class_count v) (role_count v) (feature_count
 
 -- ---- one term of the loop
 
-module _ {c : Chain} {f : Functional} {Q : Policy} {w w' w'' : List ℕ} {t : Tables} {r : ℕ} (d : Tabulated c f w w' t) (g : Failed Q w' w'' t r) where
+module _ {c : Chain} {f : Functional} {Q : Policy} {w w' w'' : List ℕ} {t : Tables} {r : Option ℕ} (d : Tabulated c f w w' t) (g : Failed Q w' w'' t r) where
   pub term_standing : Standing w'' t
   term_standing =
       record { long = omega arith; individuals = d.standing.individuals; constraints = d.standing.constraints }
@@ -183,49 +168,52 @@ module _ {v p : List ℕ} (q : List ℕ) {s k : ℕ} (a : Asking (Undecided v p 
   pub term_few : exceeds (vocabulary_of v) (policy_of q) (term_at p k) ≡ false
   term_few = asking_found a n (λ l u. undecided_few v p q s (term_at p k) l u)
 
-  module _ {f : Functional} {w w' w'' : List ℕ} {t : Tables} {r : ℕ} (b : Prepared v w f) (d : Tabulated (term_at p k) f w w' t) (g : Failed (policy_of q) w' w'' t r) where
+  module _ {f : Functional} {w w' w'' : List ℕ} {t : Tables} {r : Option ℕ} (b : Prepared v w f) (d : Tabulated (term_at p k) f w w' t) (g : Failed (policy_of q) w' w'' t r) where
     abbrev failure : Failure (vocabulary_of v) (policy_of q) (term_at p k) w'' t r
     failure = g.told v (term_at p k) (d.impossible v b (asking_term a n).named) (d.tabled v b (asking_term a n).named)
 
-    pub term_fails : {o o₀ o' : List ℕ} {x : Result Verdict Refusal} → (r ≡ 0 → ⊥) → o ≡ o₀ → Reports s r w'' t o o' x → Delivers (decision v p q (length o₀)) o₀ o' x
-    term_fails {o} {o₀} {o'} {x} z e y =
-        let i = fails_some (vocabulary_of v) (policy_of q) (term_at p k) w'' t z failure in
+    pub term_fails : {o o₀ o' : List ℕ} {x : Result Verdict Refusal} {first : ℕ} → r ≡ Some first → o ≡ o₀ → Reports s first w'' t o o' x → Delivers (decision v p q (length o₀)) o₀ o' x
+    term_fails {o} {o₀} {o'} {x} {first} z e y =
+        let i = subst (Failure (vocabulary_of v) (policy_of q) (term_at p k) w'' t) z failure in
         let h = bounded v b.accepted in
-        let m = fails_normal (vocabulary_of v) h (policy_of q) (term_at p k) r i.0 (term_bounded v (term_at p k) (asking_term a n).named) i.1 in
+        let m = fails_normal (vocabulary_of v) h (policy_of q) (term_at p k) first i.0 (term_bounded v (term_at p k) (asking_term a n).named) i.1 in
         delivers_report (vocabulary_of v) (policy_of p) (policy_of q) o₀ (asking_found a n (λ l u. undecided_found v p q s (term_at p k) l u i.1))
-        (subst (λ (l : List ℕ). Delivers (written (length l) (outside s r) (countermodel (vocabulary_of v) i.0)) l o' x) e
+        (subst (λ (l : List ℕ). Delivers (written (length l) (outside s first) (countermodel (vocabulary_of v) i.0)) l o' x) e
         (y (vocabulary_of v) i.0 (record { few = few_classes v b.accepted; bounded = h; normal = m; combined = i.2 })))
 
-    pub term_passes : {j : ℕ} → r ≡ 0 → j ≡ next_of p k → Asking (Undecided v p q) v p (s + 1) j
-    term_passes z e = asking_on a n e (λ l u. undecided_on v p q s (term_at p k) l u (fails_none (vocabulary_of v) (policy_of q) (term_at p k) w'' t z failure))
+    pub term_passes : {j : ℕ} → r ≡ None → j ≡ next_of p k → Asking (Undecided v p q) v p (s + 1) j
+    term_passes z e = asking_on a n e (λ l u. undecided_on v p q s (term_at p k) l u (subst (Failure (vocabulary_of v) (policy_of q) (term_at p k) w'' t) z failure))
 
 -- ---- from the stop on
 
-pub pair_stopped : {v p q w w' : List ℕ} {f : Functional} {stop : Stop} → PreparedPair v p q w f → Only InTables w w' → StopsBy p q w f stop → StoppedPair v p q w' f stop
+pub pair_stopped : {v p q w w' : List ℕ} {f : Functional} {stop : Option Stop} → PreparedPair v p q w f → Only InTables w w' → StopsBy p q w f stop → StoppedPair v p q w' f stop
 pair_stopped {v} r o h = record { ready = ready_still r o; stops = h v r }
 
-module _ {v p q w : List ℕ} {f : Functional} {stop : Stop} (a : StoppedPair v p q w f stop) where
+module _ {v p q w : List ℕ} {f : Functional} {stop : Option Stop} (a : StoppedPair v p q w f stop) where
   abbrev K : Vocabulary
   K = vocabulary_of v
 
-  pub settles_short : (o : List ℕ) → stop.term ≡ 0 → Delivers (settled v p q (length o)) o o (Ok verdict.Compliant)
+  pub settles_short : (o : List ℕ) → stop ≡ None → Delivers (settled v p q (length o)) o o (Ok verdict.Compliant)
   unfolding compliance_of
   settles_short o z =
-      let e = a.stops.succeeds z in
+      let e = subst (Stops v p q) z a.stops in
       rw (short_uncrowded K (policy_of p) (policy_of q) e)
       (delivers_compliant K (policy_of p) (policy_of q) o refl (sym (short_agrees K (policy_of p) (policy_of q) e)))
 
-  module _ (n : stop.term ≡ 0 → ⊥) {b : Bool} (e : b ≡ too_many (vocabulary_of v) (policy_of p) (policy_of q)) where
+  module _ {at : Stop} (n : stop ≡ Some at) {b : Bool} (e : b ≡ too_many (vocabulary_of v) (policy_of p) (policy_of q)) where
+    stops_at : StopsAt v p q at
+    stops_at = subst (Stops v p q) n a.stops
+
     pub stopped_crowded : b ≡ crowded (vocabulary_of v) (policy_of p) (policy_of q)
-    stopped_crowded = e ∙ sym (split_crowded K (policy_of p) (policy_of q) (a.stops.fails n))
+    stopped_crowded = e ∙ sym (split_crowded K (policy_of p) (policy_of q) stops_at.fails)
 
     pub settles_22 : (o : List ℕ) → b ≡ true → Delivers (settled v p q (length o)) o o (Err refusal.Combinations)
     unfolding compliance_of
     settles_22 o h = rw (sym stopped_crowded ∙ h) (record { answer = refl; output = outputs_none o })
 
     module _ (h : b ≡ false) where
-      pub stopped_countable : {w' : List ℕ} → Only InTables w w' → Countable v p q w' f stop.place stop.term
-      stopped_countable o = record { ready = ready_still a.ready o; left = a.stops.left; few = sym e ∙ h }
+      pub stopped_countable : {w' : List ℕ} → Only InTables w w' → Countable v p q w' f at.place at.term
+      stopped_countable o = record { ready = ready_still a.ready o; left = stops_at.left; few = sym e ∙ h }
 
       pub settles_split : (o : List ℕ) {o' : List ℕ} {r : Result Verdict Refusal} → Delivers (decision v p q (length o)) o o' r → Delivers (settled v p q (length o)) o o' r
       unfolding compliance_of

@@ -1,5 +1,5 @@
 -- One term: whether it has too many combinations, and the first combination to fail.
-use Prim.Native.Nat.{◌<◌, ◌≤◌, min, suc, zero, ℕ}
+use Prim.Native.Nat.{◌<◌, ◌≤◌, min, suc, ℕ}
 use mathlib.Core.Bool.{Bool, ◌&&◌, ◌||◌, false, not, true}
 use mathlib.Core.List.{List, [], ◌∷◌}
 use mathlib.Core.Logic.{◌⊎◌, inl, inr}
@@ -7,6 +7,7 @@ use mathlib.Core.Path.{◌∙◌, ◌≡◌, ap, refl, subst, sym}
 use lib.Dec.{ltb}
 use native.Mathlib.Omega.{arith}
 use borrow.Author.Tests.{le-ltb, lt-ltb, ltb-false}
+use Rattle.std.specs.Prelude.{None, Option, Some}
 use Rattle.decision.specs.Decisions.{Failed, Failure, exceeds}
 use Rattle.frames.proofs.Frames.{only_none, only_wider}
 use Rattle.frames.specs.Frames.{Only}
@@ -149,17 +150,17 @@ module _ {v : List ℕ} {c : Chain} {f : Functional} {w w' : List ℕ} {t : Tabl
 -- ---- the first combination to fail, where the term is possible
 
 module _ (Q : Policy) {w : List ℕ} {t : Tables} where
-  pub failed_impossible : t.impossible ≡ true → Failed Q w w t 0
+  pub failed_impossible : t.impossible ≡ true → Failed Q w w t None
   unfolding first_failure
   failed_impossible h = record { told = λ v c e s. rw (is_false_lem (possible (vocabulary_of v) c) e h); only = only_none }
 
-  pub failed_tried : {w' : List ℕ} {r : ℕ} → t.impossible ≡ false → Tried Q w w' t r → Failed Q w w' t r
+  pub failed_tried : {w' : List ℕ} {r : Option ℕ} → t.impossible ≡ false → Tried Q w w' t r → Failed Q w w' t r
   unfolding first_failure
   failed_tried {w'} {r} h y = record { told = λ v c e s. go r (vocabulary_of v) c (is_true_lem (possible (vocabulary_of v) c) e h) (y.told (vocabulary_of v) (normal_form (vocabulary_of v) c) s); only = y.only }
     where
-      go : (r : ℕ) (K : Vocabulary) (c : Chain) → possible K c ≡ true → Tries.Failure K Q (normal_form K c) w' t r → Failure K Q c w' t r
-      go zero K c e y = rw e y
-      go (suc k) K c e y = (y.0, rw e y.1, y.2)
+      go : (r : Option ℕ) (K : Vocabulary) (c : Chain) → possible K c ≡ true → Tries.Failure K Q (normal_form K c) w' t r → Failure K Q c w' t r
+      go None K c e y = rw e y
+      go (Some k) K c e y = (y.0, rw e y.1, y.2)
 
 -- the pieces stand in the tables
 pub pieces_tables : {n : ℕ} {w w' : List ℕ} → n ≤ most_records → Only (Pieces n) w w' → Only InTables w w'

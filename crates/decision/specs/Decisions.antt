@@ -1,5 +1,5 @@
 -- What a decision asks of its caller, and what it tells.
-use Rattle.std.specs.Prelude.{suc, zero, ℕ, Bool, ◌&&◌, false, not, List, Result, ◌≡◌, ltb, length}
+use Rattle.std.specs.Prelude.{ℕ, Option, None, Some, Bool, ◌&&◌, false, not, List, Result, ◌≡◌, ltb, length}
 use Rattle.countermodel.specs.Facts.{Modelled}
 use Rattle.frames.specs.Frames.{Only}
 use Rattle.functional.specs.declared.Functional.{Functional}
@@ -30,7 +30,7 @@ pub record Delivers (x : Outcome VerdictResult) (o o' : List ℕ) (r : Result Ve
   pub output : o' ≡ output_after x.words o
 
 -- the pair is prepared, and the short way stopped there
-pub record StoppedPair (v p q w : List ℕ) (f : Functional) (stop : Stop) : Type 0 where
+pub record StoppedPair (v p q w : List ℕ) (f : Functional) (stop : Option Stop) : Type 0 where
   pub ready : PreparedPair v p q w f
   pub stops : Stops v p q stop
 
@@ -70,16 +70,16 @@ abbrev pub settled : List ℕ → List ℕ → List ℕ → ℕ → Outcome Verd
 settled v p q o = compliance_of (vocabulary_of v) (policy_of p) (policy_of q) o
 
 -- that is delivered, by whatever vocabulary
-abbrev pub SettlesFrom : List ℕ → List ℕ → List ℕ → Functional → Stop → List ℕ → List ℕ → Result Verdict Refusal → Type 0
+abbrev pub SettlesFrom : List ℕ → List ℕ → List ℕ → Functional → Option Stop → List ℕ → List ℕ → Result Verdict Refusal → Type 0
 SettlesFrom p q w f stop o o' r = (v : List ℕ) → StoppedPair v p q w f stop → Delivers (settled v p q (length o)) o o' r
 
--- the first combination of a term to fail, counted from 1, which the tables hold; 0 for none
-abbrev pub Failure : Vocabulary → Policy → Chain → List ℕ → Tables → ℕ → Type 0
-Failure K Q c w t zero = first_failure K Q c ≡ nowhere
-Failure K Q c w t (suc k) = (u : Form) × (first_failure K Q c ≡ found (suc k) u) × Combined K u w t
+-- the first combination of a term to fail, counted from 1, which the tables hold, or none
+abbrev pub Failure : Vocabulary → Policy → Chain → List ℕ → Tables → Option ℕ → Type 0
+Failure K Q c w t None = first_failure K Q c ≡ nowhere
+Failure K Q c w t (Some k) = (u : Form) × (first_failure K Q c ≡ found k u) × Combined K u w t
 
 -- the answer is that for whatever term the tables hold; nothing but pieces has changed
-pub record Failed (Q : Policy) (w w' : List ℕ) (t : Tables) (r : ℕ) : Type 0 where
+pub record Failed (Q : Policy) (w w' : List ℕ) (t : Tables) (r : Option ℕ) : Type 0 where
   pub told : (v : List ℕ) (c : Chain) → t.impossible ≡ not (possible (vocabulary_of v) c) → Tabled (vocabulary_of v) (normal_form (vocabulary_of v) c) w t →
       Failure (vocabulary_of v) Q c w' t r
   pub only : Only (Pieces t.constraints) w w'

@@ -64,14 +64,14 @@ pub fn has_too_many(p: &[u32], work: &mut [u32], f: Functional, ends: &[u64]) ->
     false
 }
 
-// The first combination to fail of the term that the tables hold, counted from 1; 0 where it is impossible or all pass. Where it is known
+// The first combination to fail of the term that the tables hold, counted from 1; none where it is impossible or all pass. Where it is known
 // that no term takes it whole, none is asked again.
-fn failure_of(q: &[u32], work: &mut [u32], ends: &[u64], t: Tables, known: bool) -> u32
+fn failure_of(q: &[u32], work: &mut [u32], ends: &[u64], t: Tables, known: bool) -> Option<u32>
     requires { t.impossible ≡ false → Triable q.now ends.now work.old t }
     ensures { Failed (policy_of q.now) work.old work.new t result }
 {
     if t.impossible {
-        return 0;
+        return None;
     }
     if known {
         return first_split_failure(q, work, ends, t);
@@ -116,8 +116,7 @@ pub fn decide(
     let mut k = first;
     while k != 0 {
         let t = tabulate(p, work, f, k);
-        let c = failure_of(q, work, ends, t, k == first);
-        if c != 0 {
+        if let Some(c) = failure_of(q, work, ends, t, k == first) {
             return report(work, t, s, c, out);
         }
         s += 1;
@@ -126,14 +125,14 @@ pub fn decide(
     Ok(Verdict::Compliant)
 }
 
-// What Compliance answers once the work slice is full, from where the short way of p in q stopped: compliant where it succeeds; else
-// too many combinations are refused, for every term before any verdict, and then comes the verdict.
+// What Compliance answers once the work slice is full, from where the short way of p in q stopped, if it did: compliant where it succeeds;
+// else too many combinations are refused, for every term before any verdict, and then comes the verdict.
 pub fn settle_from(
     p: &[u32],
     q: &[u32],
     work: &mut [u32],
     f: Functional,
-    stop: Stop,
+    stop: Option<Stop>,
     out: &mut [u32],
 ) -> Result<Verdict, Refusal>
     requires { (v : List ℕ) × StoppedPair v p.now q.now work.old f stop }
@@ -142,9 +141,9 @@ pub fn settle_from(
     ensures only { Only InTables work.old work.new }
     ensures out_len_unchanged { length out.new ≡ length out.old }
 {
-    if stop.term == 0 {
+    let Some(stop) = stop else {
         return Ok(Verdict::Compliant);
-    }
+    };
     let mut space = [0; ENDS];
     let n = collect(q, &mut space);
     let ends = &space[..n];

@@ -9,7 +9,7 @@ use lib.ListN.{length}
 use native.Mathlib.Omega.{arith}
 use Rattle.decision.proofs.Policies.{pair_stopped, stopped_countable, stopped_crowded, taken}
 use Rattle.decision.specs.Decisions.{Countable, Delivers, StoppedPair, decision, settled}
-use Rattle.equality.specs.Comparisons.{BothFail, BothStopped, Comparable, Compares, ComparisonTested, EqualityPost}
+use Rattle.equality.specs.Comparisons.{BothStopped, Comparable, Compares, ComparisonTested, EqualityPost}
 use Rattle.equality.specs.Comparisons.{compared, difference, reverse, sided_answer}
 use Rattle.frames.proofs.Frames.{only_then}
 use Rattle.frames.proofs.Work.{Done, outputs_none}
@@ -27,8 +27,9 @@ use Rattle.meaning.specs.Vocabulary.{Vocabulary, vocabulary_of}
 use Rattle.meaning.specs.declared.Comparison.{Comparison}
 use Rattle.meaning.specs.declared.Verdict.{Verdict}
 use Rattle.short_way.proofs.Passing.{ready_back, ready_still}
-use Rattle.short_way.specs.Stops.{PreparedPair, StopsBy}
+use Rattle.short_way.specs.Stops.{PreparedPair, Stops, StopsBy}
 use Rattle.short_way.specs.declared.Stop.{Stop}
+use Rattle.std.specs.Prelude.{None, Option, Some}
 use Rattle.meaning.specs.declared.Comparison.TheVariants as comparison
 use Rattle.meaning.specs.declared.Verdict.TheVariants as verdict
 use Rattle.meaning.specs.declared.refusals.Refusal.{Refusal}
@@ -124,18 +125,22 @@ module _ (v p q : List ℕ) where
 
 -- ---- from the stops on
 
-module _ {v p q : List ℕ} {f : Functional} {forth back : Stop} where
+module _ {v p q : List ℕ} {f : Functional} {forth back : Option Stop} where
   pub both_stopped : {w w' w'' : List ℕ} → PreparedPair v p q w f → Only InTables w w' → Only InTables w' w'' → StopsBy p q w f forth → StopsBy q p w' f back →
       BothStopped v p q w'' f forth back
   both_stopped r o o' h i = record { first = pair_stopped r (only_then o o') h; second = pair_stopped (ready_back (ready_still r o)) o' i }
 
+  -- the second direction, while the first is worked on
   module _ {w : List ℕ} where
-    -- the second direction, while the first is worked on
     pub second_still : {w' : List ℕ} → BothStopped v p q w f forth back → Only InTables w w' → StoppedPair v q p w' f back
     second_still b o = record { ready = ready_still b.second.ready o; stops = b.second.stops }
 
-    pub back_countable : {w' : List ℕ} → Comparable v p q w f forth back → Only InTables w w' → Countable v q p w' f back.place back.term
-    back_countable h o = record { ready = ready_still h.second.ready o; left = h.second.left; few = h.second.few }
+pub both_found : {v p q w : List ℕ} {f : Functional} {forth back : Option Stop} {first second : Stop} → BothStopped v p q w f forth back → forth ≡ Some first → back ≡ Some second →
+    BothStopped v p q w f (Some first) (Some second)
+both_found {v} {p} {q} {w} {f} b e g = subst₂ (BothStopped v p q w f) e g b
+
+pub back_countable : {v p q w w' : List ℕ} {f : Functional} {forth back : Stop} → Comparable v p q w f forth back → Only InTables w w' → Countable v q p w' f back.place back.term
+back_countable h o = record { ready = ready_still h.second.ready o; left = h.second.left; few = h.second.few }
 
 -- ---- where one direction's short way succeeds
 
@@ -152,34 +157,34 @@ module _ (K : Vocabulary) {o o' : List ℕ} {r : Result Verdict Refusal} {x : Re
     output = h.output ∙ ap (λ (l : List ℕ). output_after l o) (side_words K o o' side d);
   }
 
-module _ {v p q w : List ℕ} {f : Functional} {forth back : Stop} (s : BothStopped v p q w f forth back) {o o' : List ℕ} {r : Result Verdict Refusal} {x : Result Comparison Refusal} where
+module _ {v p q w : List ℕ} {f : Functional} {forth back : Option Stop} (s : BothStopped v p q w f forth back) {o o' : List ℕ} {r : Result Verdict Refusal} {x : Result Comparison Refusal} where
   -- the first direction's: the answer is the second's
-  pub compares_second : forth.term ≡ 0 → Delivers (settled v q p (length o)) o o' r → comparison_answer x ≡ sided_answer 2 (verdict_answer r) →
+  pub compares_second : forth ≡ None → Delivers (settled v q p (length o)) o o' r → comparison_answer x ≡ sided_answer 2 (verdict_answer r) →
       Compares (compared v p q (length o)) o o' x
   unfolding compliance_of equality_of
   compares_second z h e =
-      let t = s.first.stops.succeeds z in
+      let t = subst (Stops v p q) z s.first.stops in
       rw (short_uncrowded (vocabulary_of v) (policy_of p) (policy_of q) t, resolve_decide (vocabulary_of v) (policy_of p) (policy_of q) ∙ short_agrees (vocabulary_of v) (policy_of p) (policy_of q) t)
       (sided_settled (vocabulary_of v) 2 (crowded (vocabulary_of v) (policy_of q) (policy_of p)) (resolve (vocabulary_of v) (policy_of q) (policy_of p)) h e)
 
   -- the second direction's: the answer is the first's
-  pub compares_first : back.term ≡ 0 → Delivers (settled v p q (length o)) o o' r → comparison_answer x ≡ sided_answer 1 (verdict_answer r) →
+  pub compares_first : back ≡ None → Delivers (settled v p q (length o)) o o' r → comparison_answer x ≡ sided_answer 1 (verdict_answer r) →
       Compares (compared v p q (length o)) o o' x
   unfolding compliance_of equality_of
   compares_first z h e =
-      let t = s.second.stops.succeeds z in
+      let t = subst (Stops v q p) z s.second.stops in
       rw (short_uncrowded (vocabulary_of v) (policy_of q) (policy_of p) t, resolve_decide (vocabulary_of v) (policy_of q) (policy_of p) ∙ short_agrees (vocabulary_of v) (policy_of q) (policy_of p) t, or_false (crowded (vocabulary_of v) (policy_of p) (policy_of q)))
       (sided_settled (vocabulary_of v) 1 (crowded (vocabulary_of v) (policy_of p) (policy_of q)) (resolve (vocabulary_of v) (policy_of p) (policy_of q)) h e)
 
 -- ---- 22 looks at both directions
 
-module _ {v p q : List ℕ} (o : List ℕ) {w : List ℕ} {f : Functional} {forth back : Stop} (s : BothStopped v p q w f forth back) (n : BothFail forth back)
+module _ {v p q : List ℕ} (o : List ℕ) {w : List ℕ} {f : Functional} {forth back : Stop} (s : BothStopped v p q w f (Some forth) (Some back))
     {a b : Bool} (e : a ≡ too_many (vocabulary_of v) (policy_of p) (policy_of q)) (g : b ≡ too_many (vocabulary_of v) (policy_of q) (policy_of p)) where
   many : a ≡ crowded (vocabulary_of v) (policy_of p) (policy_of q)
-  many = stopped_crowded s.first n.first e
+  many = stopped_crowded s.first refl e
 
   more : b ≡ crowded (vocabulary_of v) (policy_of q) (policy_of p)
-  more = stopped_crowded s.second n.second g
+  more = stopped_crowded s.second refl g
 
   pub compares_22 : (a || b) ≡ true → Compares (compared v p q (length o)) o o (Err refusal.Combinations)
   unfolding equality_of
@@ -188,8 +193,8 @@ module _ {v p q : List ℕ} (o : List ℕ) {w : List ℕ} {f : Functional} {fort
   module _ (h : (a || b) ≡ false) where
     pub compares_none : {w' : List ℕ} → Only InTables w w' → Comparable v p q w' f forth back
     compares_none k = record {
-      first = stopped_countable s.first n.first e (go a b h).0 k;
-      second = stopped_countable s.second n.second g (go a b h).1 k;
+      first = stopped_countable s.first refl e (go a b h).0 k;
+      second = stopped_countable s.second refl g (go a b h).1 k;
     }
       where
         go : (a b : Bool) → (a || b) ≡ false → (a ≡ false) × (b ≡ false)

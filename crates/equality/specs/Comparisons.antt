@@ -1,5 +1,5 @@
 -- What Equality answers after 21, and what its answers say of interpretations.
-use Rattle.std.specs.Prelude.{ℕ, List, ◌⊎◌, ◌≡◌, length, take, Err, Ok, Result}
+use Rattle.std.specs.Prelude.{ℕ, Err, List, Ok, Option, Result, Some, ◌⊎◌, ◌≡◌, length, take}
 use Rattle.decision.specs.Decisions.{Countable, StoppedPair}
 use Rattle.functional.specs.declared.Functional.{Functional}
 use Rattle.meaning.specs.Answers.{Answer, ComparisonResult, VerdictResult, comparison_answer, compliant, differs, equal, outside, refused}
@@ -50,19 +50,14 @@ pub record Comparable (v p q w : List ℕ) (f : Functional) (forth back : Stop) 
 abbrev pub DifferenceBy : List ℕ → List ℕ → List ℕ → Functional → Stop → Stop → List ℕ → List ℕ → Result Comparison Refusal → Type 0
 DifferenceBy p q w f forth back o o' r = (v : List ℕ) → Comparable v p q w f forth back → Compares (difference v p q (length o)) o o' r
 
--- the short way stopped there in either direction
-pub record BothStopped (v p q w : List ℕ) (f : Functional) (forth back : Stop) : Type 0 where
+-- the short way stopped there in either direction, if it did
+pub record BothStopped (v p q w : List ℕ) (f : Functional) (forth back : Option Stop) : Type 0 where
   pub first : StoppedPair v p q w f forth
   pub second : StoppedPair v q p w f back
 
--- it fails in both
-pub record BothFail (forth back : Stop) : Type 0 where
-  pub first : forth.term ≡ 0 → ⊥
-  pub second : back.term ≡ 0 → ⊥
-
 -- what Equality tells after 21, from the stops on, by whatever vocabulary, and from the beginning
 abbrev pub ComparedFrom : List ℕ → List ℕ → List ℕ → Functional → Stop → Stop → List ℕ → List ℕ → Result Comparison Refusal → Type 0
-ComparedFrom p q w f forth back o o' r = (v : List ℕ) → BothStopped v p q w f forth back → Compares (compared v p q (length o)) o o' r
+ComparedFrom p q w f forth back o o' r = (v : List ℕ) → BothStopped v p q w f (Some forth) (Some back) → Compares (compared v p q (length o)) o o' r
 
 abbrev pub ComparedBy : List ℕ → List ℕ → List ℕ → Functional → List ℕ → List ℕ → Result Comparison Refusal → Type 0
 ComparedBy p q w f o o' r = (v : List ℕ) → PreparedPair v p q w f → Compares (compared v p q (length o)) o o' r

@@ -1,8 +1,8 @@
 // The operation Equality.
 #![tactic(auto)]
 
-ghost use Rattle.std.specs.Prelude.{List, ◌≡◌, ℕ, length};
-ghost use Rattle.equality.specs.Comparisons.{BothEnds, BothFail, BothStopped, Comparable, ComparedBy, ComparedFrom};
+ghost use Rattle.std.specs.Prelude.{List, Some, ◌≡◌, ℕ, length};
+ghost use Rattle.equality.specs.Comparisons.{BothEnds, BothStopped, Comparable, ComparedBy, ComparedFrom};
 ghost use Rattle.equality.specs.Comparisons.{DifferenceBy, EqualityPost, sided_answer};
 ghost use Rattle.frames.specs.Frames.{Only};
 ghost use Rattle.layout.specs.Places.{InTables};
@@ -66,7 +66,7 @@ fn compare_split(
     back: Stop,
     out: &mut [u32],
 ) -> Result<Comparison, Refusal>
-    requires { ((v : List ℕ) × BothStopped v p.now q.now work.old f forth back) × BothFail forth back }
+    requires { (v : List ℕ) × BothStopped v p.now q.now work.old f (Some forth) (Some back) }
     ensures compared_from { ComparedFrom p.now q.now work.old f forth back
         out.old out.new result }
     ensures only { Only InTables work.old work.new }
@@ -102,13 +102,13 @@ fn compare(
 {
     let forth = find_stop(p, q, work, f);
     let back = find_stop(q, p, work, f);
-    if forth.term == 0 {
+    let Some(first) = forth else {
         return sided(2, settle_from(q, p, work, f, back, out));
-    }
-    if back.term == 0 {
+    };
+    let Some(second) = back else {
         return sided(1, settle_from(p, q, work, f, forth, out));
-    }
-    compare_split(p, q, work, f, forth, back, out)
+    };
+    compare_split(p, q, work, f, first, second, out)
 }
 
 // Equality: the same refusals in the same order, too many combinations of each direction whose short way fails; then the first

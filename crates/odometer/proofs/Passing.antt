@@ -18,6 +18,7 @@ use Rattle.odometer.proofs.Dials.{one_piece}
 use Rattle.odometer.proofs.Digits.{covers_drops, mask_in, mask_out}
 use Rattle.odometer.proofs.Weights.{pieces_any, product_span, span_most, span_skip, span_some}
 use Rattle.odometer.specs.Digits.{Covers, in_mask, span}
+use Rattle.std.specs.Prelude.{None}
 use Rattle.odometer.specs.Odometer.{Dialled, Skippable, Skipped, Split, Standing, StandsAt}
 use Rattle.splitting.proofs.Callers.{splittable_kept}
 use Rattle.splitting.proofs.Storing.{constraint_kept, constraints_kept}
@@ -158,11 +159,11 @@ module _ {e dials counts earlier₀ u : List ℕ} {n q : ℕ} (pre : Skippable e
 
   -- none is left: all pass
   pub passing_ends : {reason : ℕ} {earlier w : List ℕ} {mask weight d : ℕ} → Passing e dials earlier₀ earlier u w n reason q mask weight d → d ≤ 0 →
-      Skipped e dials earlier₀ earlier n reason q u w 0
+      Skipped e dials earlier₀ earlier n reason q u w None
   passing_ends {reason} {earlier} {w} {mask} {weight} {d} g z = record {
     told = λ Q P c ends s h f v. (g.covers Q P c ends s h).pass f (λ j l. rw (sym (ap (λ x. length (pieces Q x)) (constraint_kept g.only j))) (v j l))
         (λ j l t. let a = mask_in dials mask j t in absurd (before j l a.0 a.1 a.2));
-    rises = λ off. absurd (off refl);
+    rises = tt;
     only = g.only;
     size = g.size;
   }

@@ -1,5 +1,5 @@
 -- From the last dial back: those that are passed start again, and what is known to pass stays known.
-use Prim.Native.Nat.{◌%◌, ◌*◌, ◌+◌, ◌-◌, ◌<◌, ◌≤◌, pred, suc, zero, ℕ}
+use Prim.Native.Nat.{◌%◌, ◌*◌, ◌+◌, ◌-◌, ◌<◌, ◌≤◌, pred, suc, ℕ}
 use mathlib.Core.Bool.{Bool, cond, false, true}
 use mathlib.Core.List.{List}
 use mathlib.Core.Logic.{◌⊎◌, inl, inr, ⊎_elim}
@@ -25,7 +25,8 @@ use Rattle.odometer.proofs.Passing.{Passing, alone, behind, between, bound, boun
 use Rattle.odometer.proofs.Passing.{restarted, restarted_high, restarted_low, small, weight_some, wide}
 use Rattle.odometer.proofs.Weights.{pieces_any, product_span, span_front, span_most}
 use Rattle.odometer.specs.Digits.{Behind, Covers, Known, in_mask, span, value}
-use Rattle.odometer.specs.Odometer.{Outcome, Skippable, Skipped, Standing, StandsAt, Turned, next_number}
+use Rattle.std.specs.Prelude.{Some}
+use Rattle.odometer.specs.Odometer.{Skippable, Skipped, Standing, StandsAt, Turned, next_number}
 use Rattle.splitting.proofs.Storing.{constraint_kept}
 use Rattle.splitting.specs.Ends.{Ends}
 use Rattle.splitting.specs.Constraints.{piece_count}
@@ -209,15 +210,10 @@ module _ {e dials counts earlier₀ u : List ℕ} {n q : ℕ} (pre : Skippable e
         let m = mod-le (pred q) weight in
         omega (arith, pre.number.0)
 
-    pub passing_done : {r : ℕ} → r ≡ next_number q weight → Skipped e dials earlier₀ (set earlier k mask') n reason q u w' r
+    pub passing_done : {r : ℕ} → r ≡ next_number q weight → Skipped e dials earlier₀ (set earlier k mask') n reason q u w' (Some r)
     passing_done {r} z = record {
-      told = λ Q P c ends s h. go r z Q P c ends s h;
-      rises = λ _. rw z rising;
+      told = λ Q P c ends s h. (moved c (get_or dials k 0), subst (λ (y : ℕ). Standing Q P dials (set earlier k mask') w' n (moved c (get_or dials k 0)) y) (sym z) (now_standing Q P c ends s h));
+      rises = rw z rising;
       only = kept;
       size = length-set earlier k mask' ∙ g.size;
     }
-      where
-        go : (r : ℕ) → r ≡ next_number q weight → (Q : Policy) (P : (ℕ → ℕ) → Bool) (c : ℕ → ℕ) → Ends Q e → Standing Q P dials earlier₀ u n c q →
-            Covers (piece_count Q u) n P c n (in_mask dials reason) → Outcome Q P dials (set earlier k mask') w' n r
-        go zero z Q P c ends s h = let a = rising in absurd (omega arith)
-        go (suc x) z Q P c ends s h = (moved c (get_or dials k 0), subst (λ (y : ℕ). Standing Q P dials (set earlier k mask') w' n (moved c (get_or dials k 0)) y) (sym z) (now_standing Q P c ends s h))

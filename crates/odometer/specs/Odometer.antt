@@ -1,5 +1,5 @@
 -- The dials of a term, and the way from a combination that passes to the next that has to be looked at.
-use Rattle.std.specs.Prelude.{◌%◌, ◌+◌, ◌-◌, ◌<◌, ◌≤◌, pred, suc, zero, ℕ, Bool, false, true, List, ◌≡◌, get_or, length, take}
+use Rattle.std.specs.Prelude.{◌%◌, ◌+◌, ◌-◌, ◌<◌, ◌≤◌, pred, suc, ℕ, Bool, false, true, List, Option, IfSome, None, Some, ◌≡◌, get_or, length, take}
 use Rattle.frames.specs.Frames.{Only, Span}
 use Rattle.layout.specs.Places.{constraint_place}
 use Rattle.layout.specs.Tables.{Pieces, constraint_at, piece_at}
@@ -72,16 +72,16 @@ pub record Standing (Q : Policy) (P : (ℕ → ℕ) → Bool) (dials earlier w :
   pub number : suc (value (piece_count Q w) c n) ≡ q
   pub known : Known (piece_count Q w) n P dials earlier c
 
--- the answer of a skip: 0 where all pass; else the number of the next combination, at which the tables stand
-abbrev pub Outcome : Policy → ((ℕ → ℕ) → Bool) → List ℕ → List ℕ → List ℕ → ℕ → ℕ → Type 0
-Outcome Q P dials earlier w n zero = (e : ℕ → ℕ) → Valid (piece_count Q w) n e → P e ≡ true
-Outcome Q P dials earlier w n (suc q) = (c : ℕ → ℕ) × Standing Q P dials earlier w n c (suc q)
+-- the answer of a skip: none where all pass; else the number of the next combination, at which the tables stand
+abbrev pub Outcome : Policy → ((ℕ → ℕ) → Bool) → List ℕ → List ℕ → List ℕ → ℕ → Option ℕ → Type 0
+Outcome Q P dials earlier w n None = (e : ℕ → ℕ) → Valid (piece_count Q w) n e → P e ≡ true
+Outcome Q P dials earlier w n (Some q) = (c : ℕ → ℕ) × Standing Q P dials earlier w n c q
 
 -- from combination q, which passes by the dials of the mask: for whatever is asked of combinations by their digits
-pub record Skipped (e dials earlier earlier' : List ℕ) (n mask q : ℕ) (w w' : List ℕ) (r : ℕ) : Type 0 where
+pub record Skipped (e dials earlier earlier' : List ℕ) (n mask q : ℕ) (w w' : List ℕ) (r : Option ℕ) : Type 0 where
   pub told : (Q : Policy) (P : (ℕ → ℕ) → Bool) (c : ℕ → ℕ) → Ends Q e → Standing Q P dials earlier w n c q →
       Covers (piece_count Q w) n P c n (in_mask dials mask) → Outcome Q P dials earlier' w' n r
-  pub rises : (r ≡ 0 → ⊥) → q < r
+  pub rises : IfSome r (λ s. q < s)
   pub only : Only (Pieces n) w w'
   pub size : length earlier' ≡ length earlier
 

@@ -22,6 +22,7 @@ pub fn find_dials(work: &[u32], n: usize, dials: &mut [u32]) -> usize
     ensures { DialsFound work.now n dials.old dials.new result }
 {
     let mut found: usize = 0;
+    // By index: the constraints stand in the middle of the work slice, and m is what is noted.
     for m in 0..n {
         if layout::hi_of(work, m) <= layout::lo_of(work, m) {
             continue;
@@ -37,8 +38,9 @@ pub fn count_pieces(ends: &[u64], work: &[u32], n: usize, dials: &[u32], counts:
     requires { PiecesCountable ends.now dials.now work.now counts.old n }
     ensures { Counted ends.now dials.now work.now counts.new }
 {
-    for d in 0..dials.len() {
-        let m = place(dials[d]);
+    // counts by index: no proof knows what an adapter of iter_mut wrote.
+    for (d, m) in dials.iter().enumerate() {
+        let m = place(*m);
         counts[d] = count(
             ends,
             feature_of(work, m),
@@ -71,18 +73,17 @@ fn turn(ends: &[u64], work: &mut [u32], n: usize, m: usize, relied: bool) -> boo
     let lo = layout::lo_of(work, m);
     let hi = layout::hi_of(work, m);
     let p = piece_hi(work, m);
-    if relied {
-        if p < hi {
-            let up = next_upper(ends, feature_of(work, m), hi, p);
-            put_piece(work, m, p + 1, up);
-            return true;
-        }
+    if relied && p < hi {
+        let up = next_upper(ends, feature_of(work, m), hi, p);
+        put_piece(work, m, p + 1, up);
+        return true;
     }
     put_piece(work, m, lo, lo);
     false
 }
 
 // The number of the next combination, counted from 1, where those behind a dial have so many: the next multiple of that.
+#[tactic(auto, unfolding(crate::specs::Odometer::next_number))]
 fn onward(q: u32, weight: u32) -> u32
     requires { (1 ≤ q) × (q ≤ most_combinations) × (1 ≤ weight) × (weight ≤ most_combinations) }
     ensures { result ≡ next_number q weight }
@@ -91,8 +92,8 @@ fn onward(q: u32, weight: u32) -> u32
     k - k % weight + weight + 1
 }
 
-// From combination q, counted from 1, which passes by the dials of the mask, to the next that has to be looked at, whose number is told; 0
-// where all pass. Dials that are not relied on start again; the last of the others that has a next piece takes it, and keeps what its
+// From combination q, counted from 1, which passes by the dials of the mask, to the next that has to be looked at, whose number is told;
+// none where all pass. Dials that are not relied on start again; the last of the others that has a next piece takes it, and keeps what its
 // earlier pieces relied on; one that has none hands that on.
 pub fn skip(
     ends: &[u64],
@@ -103,24 +104,23 @@ pub fn skip(
     earlier: &mut [u32],
     reason: u32,
     q: u32,
-) -> u32
+) -> Option<u32>
     requires { Skippable ends.now dials.now counts.now earlier.old work.old n q }
     ensures { Skipped ends.now dials.now earlier.old earlier.new n reason q
         work.old work.new result }
 {
     let mut mask = reason;
     let mut weight: u32 = 1;
-    let mut d = dials.len();
-    while 0 < d {
-        d -= 1;
+    // By index: d is the dial's bit in the mask.
+    for d in (0..dials.len()).rev() {
         let relied = has_dial(mask, d as u32);
         mask = joined(mask, earlier[d], relied);
         if turn(ends, work, n, place(dials[d]), relied) {
             earlier[d] = mask;
-            return onward(q, weight);
+            return Some(onward(q, weight));
         }
         earlier[d] = 0;
-        weight = weight * counts[d];
+        weight *= counts[d];
     }
-    0
+    None
 }

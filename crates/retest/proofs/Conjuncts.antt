@@ -1,5 +1,5 @@
 -- Laws of the conjuncts from a record on: one after another, one by its kind, and what is told of them.
-use Prim.Native.Nat.{◌-◌, ◌<◌, ◌≤◌, pred, ℕ}
+use Prim.Native.Nat.{◌-◌, ◌≤◌, pred, ℕ}
 use mathlib.Core.Bool.{Bool, ◌&&◌, ◌||◌, and-true, cond, false, not, true}
 use mathlib.Core.List.{List, [], ◌∷◌}
 use mathlib.Core.Path.{◌∙◌, ◌≡◌, ap, refl, sym}
@@ -20,6 +20,9 @@ use Rattle.policy.specs.Terms.{conjunct_of, conjuncts_at}
 use Rattle.retest.proofs.Masks.{agrees_left, agrees_right}
 use Rattle.retest.proofs.Memory.{recall_sure, settled_known, sure_remembered, tells_always}
 use Rattle.retest.specs.Memory.{Asked, Below, Pending, Sure, TellsAll, TellsCarried, TellsOne, TellsStill, Testable, recalled, remembered}
+use Rattle.retest.specs.declared.State.TheVariants.{Fails, Passes, Rests}
+use Rattle.retest.specs.declared.State.{State}
+use Rattle.std.specs.Prelude.{Option, Some}
 use Rattle.retest.specs.Reasons.{Agrees, Choice, has_carried, has_still, is_carried, is_still}
 use Rattle.retest.specs.declared.Reason.{Reason}
 use Rattle.subsumption.proofs.Conjuncts.{holds_first}
@@ -109,7 +112,7 @@ all_successors c w n x r p = go (counting 0 n)
     go [] = refl
     go (j ∷ l) = ap (λ (b : Bool). is_passing w x r p j || b) (go l) ∙ move (eqb (slot_of c _) 0) (is_passing w x r p j) (any (is_still c w x r p) l) (any (is_carried c w x r p) l)
 
-module _ {q dials c w : List ℕ} {t : Tables} {s : List ℕ} {left k x slot state : ℕ} (g : Pending q dials c w t s left k x slot state) (own : kind_of q k ≡ 3)
+module _ {q dials c w : List ℕ} {t : Tables} {s : List ℕ} {left k x slot : ℕ} {state : Option State} (g : Pending q dials c w t s left k x slot state) (own : kind_of q k ≡ 3)
     {r y : ℕ} (er : r ≡ name_of q k) (ey : y ≡ child_of q k) where
   -- the child chain is held to the individual's successors
   pub role_below : {s' : List ℕ} → Sure q c w t s' → Below q dials c w t s' left y x
@@ -128,7 +131,7 @@ module _ {q dials c w : List ℕ} {t : Tables} {s : List ℕ} {left k x slot sta
   conjunct : (v : ℕ → Constraint) → holds_at v w t (conjunct_of q k) x ≡ still v || carries v
   conjunct v = rw (own, and-true, ← er, ← ey) (all_successors c w t.individuals x r (holds_at v w t (conjuncts_at q y)))
 
-  pub role_open : {s' : List ℕ} {b : Reason} → state ≡ 3 → TellsCarried q dials c w t y x r s' b → TellsOne q dials c w t k x s' b
+  pub role_open : {s' : List ℕ} {b : Reason} → state ≡ Some Rests → TellsCarried q dials c w t y x r s' b → TellsOne q dials c w t k x s' b
   role_open e f = record {
     tells = record {
       same = λ v a d.
@@ -149,13 +152,13 @@ module _ {q dials c w : List ℕ} {t : Tables} {s : List ℕ} {left k x slot sta
     pub role_still : one.holds ≡ true → TellsOne q dials c w t k x s₁ one
     role_still h = record { tells = record { same = λ v a d. conjunct v ∙ rw (f.tells.same v a d, h) }; sure = f.sure }
 
-    pub role_noted : {s₂ : List ℕ} → one.holds ≡ false → s₂ ≡ cond (eqb one.dials 0) (remembered s₁ k slot x 3) s₁ → Sure q c w t s₂
+    pub role_noted : {s₂ : List ℕ} → one.holds ≡ false → s₂ ≡ cond (eqb one.dials 0) (remembered s₁ k slot x Rests) s₁ → Sure q c w t s₂
     role_noted {s₂} h e = go (eqb one.dials 0) refl e
       where
-        go : (b : Bool) → eqb one.dials 0 ≡ b → s₂ ≡ cond b (remembered s₁ k slot x 3) s₁ → Sure q c w t s₂
-        go true eb e = sure_remembered f.sure k slot g.slotted (omega arith) (record {
-          passes = λ z. absurd (omega arith);
-          fails = λ z. absurd (omega arith);
+        go : (b : Bool) → eqb one.dials 0 ≡ b → s₂ ≡ cond b (remembered s₁ k slot x Rests) s₁ → Sure q c w t s₂
+        go true eb e = sure_remembered f.sure k slot g.slotted (record {
+          passes = λ (z : Some Rests ≡ Some Passes). cc;
+          fails = λ (z : Some Rests ≡ Some Fails). cc;
           rests = λ _. record { role = λ _ v a. rw (← er, ← ey) (tells_always f.tells (eqb-true one.dials 0 eb) v a ∙ h); feature = λ n. absurd (n own) };
         }) e
         go false eb e = rw e f.sure
@@ -173,26 +176,22 @@ module _ {q dials c w : List ℕ} {t : Tables} {s : List ℕ} {left k x slot sta
 
 -- ---- by what is remembered
 
-pub settled_small : {n : ℕ} (b : Bool) → n ≡ cond b 1 2 → n < 4
-settled_small true e = omega arith
-settled_small false e = omega arith
-
 pub individual_few : {q dials c w : List ℕ} {t : Tables} {s : List ℕ} {left k x : ℕ} → Asked q dials c w t s left k x → x ≤ most_records
 individual_few g = omega (arith, g.individual.within, g.testing.standing.individuals)
 
-module _ {q dials c w : List ℕ} {t : Tables} {s : List ℕ} {left k x slot state : ℕ} (g : Asked q dials c w t s left k x) (es : slot ≡ slot_of c x) (ek : state ≡ recalled s k slot x) where
+module _ {q dials c w : List ℕ} {t : Tables} {s : List ℕ} {left k x slot : ℕ} {state : Option State} (g : Asked q dials c w t s left k x) (es : slot ≡ slot_of c x) (ek : state ≡ recalled s k slot x) where
   few : slot ≤ 16
   few = omega (arith, g.listed.few x g.individual.within)
 
-  pub recalled_passes : {r : Reason} → state ≡ 1 → r.holds ≡ true → TellsOne q dials c w t k x s r
+  pub recalled_passes : {r : Reason} → state ≡ Some Passes → r.holds ≡ true → TellsOne q dials c w t k x s r
   recalled_passes e y = record { tells = record { same = λ v a d. (recall_sure g.sure k slot few g.individual ek).passes e v a ∙ sym y }; sure = g.sure }
 
-  pub recalled_fails : {r : Reason} → state ≡ 2 → r.holds ≡ false → TellsOne q dials c w t k x s r
+  pub recalled_fails : {r : Reason} → state ≡ Some Fails → r.holds ≡ false → TellsOne q dials c w t k x s r
   recalled_fails e z = record { tells = record { same = λ v a d. (recall_sure g.sure k slot few g.individual ek).fails e v a ∙ sym z }; sure = g.sure }
 
   pub recalled_pending : (kind_of q k ≡ 1 → ⊥) → (kind_of q k ≡ 2 → ⊥) → Pending q dials c w t s left k x slot state
   recalled_pending a b = record { asked = g; other = (a, b); slotted = few; known = recall_sure g.sure k slot few g.individual ek }
 
-  pub recalled_noted : {s₁ s₂ : List ℕ} {one : Reason} {code : ℕ} → TellsOne q dials c w t k x s₁ one → one.dials ≡ 0 → code ≡ cond one.holds 1 2 →
+  pub recalled_noted : {s₁ s₂ : List ℕ} {one : Reason} {code : State} → TellsOne q dials c w t k x s₁ one → one.dials ≡ 0 → code ≡ cond one.holds Passes Fails →
       s₂ ≡ remembered s₁ k slot x code → TellsOne q dials c w t k x s₂ one
-  recalled_noted {one = one} f z e h = record { tells = f.tells; sure = sure_remembered f.sure k slot few (settled_small one.holds e) (settled_known f.tells z e) h }
+  recalled_noted {one = one} f z e h = record { tells = f.tells; sure = sure_remembered f.sure k slot few (settled_known f.tells z e) h }

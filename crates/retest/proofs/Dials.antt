@@ -1,18 +1,15 @@
 -- Laws of the dials of an individual: where no constraint lies inside whole, a piece of a dial does, or none does.
-use Prim.Native.Nat.{◌%◌, ◌*◌, ◌+◌, ◌<◌, ◌^◌, ◌≤◌, ℕ}
-use mathlib.Core.Bool.{Bool, ◌&&◌, ◌||◌, false, not, true}
+use Prim.Native.Nat.{◌+◌, ◌<◌, ◌≤◌, ℕ}
+use mathlib.Core.Bool.{Bool, ◌&&◌, ◌||◌, false, true}
 use mathlib.Core.List.{List}
 use mathlib.Core.Logic.{◌⊎◌, inl, inr, ⊎_elim}
 use mathlib.Core.Path.{◌∙◌, ◌≡◌, ap, refl, subst, sym}
 use lib.Bits.{bit_or}
-use lib.Pow.{shl_exact}
-use native.Mathlib.Nat.{one-mul}
 use native.Mathlib.Omega.{arith}
-use borrow.Author.Tests.{eq-eqb, not-false, not-true}
 use lib.Dec.{T, eqb, eqb→eq, leb, leb→le}
 use lib.ListN.{get_or, length}
 use Rattle.intervals.specs.Touching.{touches}
-use Rattle.layout.specs.Tables.{HasEntry, constraint_at, holder_at, piece_at}
+use Rattle.layout.specs.Tables.{constraint_at, holder_at, piece_at}
 use Rattle.layout.specs.declared.Tables.{Tables}
 use Rattle.meaning.specs.Intervals.{Constraint, is_inside}
 use Rattle.meaning.specs.Subsumption.{includes}
@@ -23,30 +20,8 @@ use Rattle.retest.specs.declared.Reason.{Reason}
 use Rattle.theory.proofs.Counting.{none_below, some_below}
 use Rattle.theory.proofs.Intervals.{inside_of}
 use Rattle.theory.proofs.Rules.{T_and, and_T, eqb_of, is_true, order, same_test}
-use Rattle.words.proofs.Bits.{bit_or_lem, bit_pow}
+use Rattle.words.proofs.Bits.{bit_or_lem}
 use Rattle.words.specs.Sets.{test_bit}
-
--- ---- one dial
-
-module _ {w : List ℕ} {m d x f lo hi : ℕ} {r : Reason} {b : Bool} (eb : b ≡ may_pass w x f lo hi m) where
-  pub dial_other : r.holds ≡ false → not b ≡ true → TellsDial w m d x f lo hi r
-  dial_other z n =
-      let no : may_pass w x f lo hi m ≡ true → ⊥ = λ y. subst T (sym y ∙ sym eb ∙ not-true b n) tt in
-      record { may = λ y. absurd (subst T (sym y ∙ z) tt); inside = λ y. absurd (no y); named = λ y. absurd (no y) }
-
-  pub dial_own : {from to : ℕ} → d < 16 → not b ≡ false → from ≡ (piece_at w m).lo → to ≡ (piece_at w m).hi → r.holds ≡ is_inside lo hi from to →
-      r.dials ≡ 1 * 2 ^ d % 4294967296 → TellsDial w m d x f lo hi r
-  dial_own few n ef et h e = record {
-    may = λ y. sym eb ∙ not-false b n;
-    inside = λ y. sym (rw (ef, et) at h);
-    named = λ y.
-        let one : 1 * 2 ^ d % 2 ^ 32 ≡ 2 ^ d = shl_exact 1 d 32 (omega arith) (omega arith) ∙ one-mul (2 ^ d) in
-        ap (λ (n : ℕ). test_bit n d) (e ∙ one) ∙ bit_pow d d ∙ eq-eqb d d refl;
-  }
-
--- a dial has an entry in the tables
-pub dial_entry : {dials w : List ℕ} {t : Tables} {d m : ℕ} → Testing dials w t → d < length dials → m ≡ get_or dials d 0 → HasEntry m w
-dial_entry {d = d} s less e = (omega (arith, s.placed d less, s.standing.constraints), s.standing.long)
 
 -- ---- one dial after another
 
@@ -54,9 +29,6 @@ dial_entry {d = d} s less e = (omega (arith, s.placed d less, s.standing.constra
 pub record Missed (dials w : List ℕ) (x f lo hi mask d : ℕ) : Type 0 where
   pub noted : (e : ℕ) → e < d → may_pass w x f lo hi (get_or dials e 0) ≡ true → test_bit mask e ≡ true
   pub outside : (e : ℕ) → e < d → may_pass w x f lo hi (get_or dials e 0) ≡ true → is_inside lo hi (piece_at w (get_or dials e 0)).lo (piece_at w (get_or dials e 0)).hi ≡ false
-
-pub missed_starts : (dials w : List ℕ) (x f lo hi : ℕ) → Missed dials w x f lo hi 0 0
-missed_starts dials w x f lo hi = record { noted = λ e h. absurd (omega arith); outside = λ e h. absurd (omega arith) }
 
 module _ {dials w : List ℕ} {x f lo hi mask d : ℕ} (p : Missed dials w x f lo hi mask d) {m : ℕ} {r : Reason} (em : m ≡ get_or dials d 0) (g : TellsDial w m d x f lo hi r) where
   here : TellsDial w (get_or dials d 0) d x f lo hi r

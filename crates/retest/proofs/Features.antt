@@ -3,7 +3,6 @@ use Prim.Native.Nat.{ℕ}
 use mathlib.Core.Bool.{and-true, false, true}
 use mathlib.Core.List.{List}
 use mathlib.Core.Path.{◌∙◌, ◌≡◌, sym}
-use native.Mathlib.Omega.{arith}
 use borrow.Author.Tests.{ne_eqb}
 use lib.Dec.{T, eqb, eqb→eq}
 use Rattle.layout.specs.Tables.{constraint_at, holder_at}
@@ -15,6 +14,9 @@ use Rattle.policy.specs.Terms.{conjunct_of}
 use Rattle.retest.proofs.Memory.{sure_remembered}
 use Rattle.retest.proofs.Spans.{none_passes}
 use Rattle.retest.specs.Memory.{Pending, Sure, TellsOne, remembered}
+use Rattle.retest.specs.declared.State.TheVariants.{Fails, Passes, Rests}
+use Rattle.retest.specs.declared.State.{State}
+use Rattle.std.specs.Prelude.{Option, Some}
 use Rattle.retest.specs.Reasons.{Choice, Spanned, TellsPiece}
 use Rattle.subsumption.specs.Tests.{has_piece, has_whole, holds_at, is_piece_inside}
 use Rattle.retest.specs.declared.Reason.{Reason}
@@ -39,33 +41,30 @@ whole_always w n x f lo hi h v c =
     some_below (is_piece_inside v w x f lo hi) n m.0 m.1
     (same_test _ true (λ _. tt) (λ _. and_T (eqb (holder_at w m.0) x) _ s.0 (inside_includes f lo hi (constraint_at w m.0) (v m.0) s.1 (c.inside m.0 m.1))))
 
-module _ {q dials c w : List ℕ} {t : Tables} {s : List ℕ} {left k x slot state : ℕ} (g : Pending q dials c w t s left k x slot state) (other : kind_of q k ≡ 3 → ⊥)
+module _ {q dials c w : List ℕ} {t : Tables} {s : List ℕ} {left k x slot : ℕ} {state : Option State} (g : Pending q dials c w t s left k x slot state) (other : kind_of q k ≡ 3 → ⊥)
     {f lo hi : ℕ} (ef : f ≡ name_of q k) (el : lo ≡ lo_of q k) (eh : hi ≡ hi_of q k) where
   conjunct : (v : ℕ → Constraint) → has_piece v w t.constraints x f lo hi ≡ holds_at v w t (conjunct_of q k) x
   conjunct v = rw (ne_eqb (kind_of q k) 1 g.other.0, ne_eqb (kind_of q k) 2 g.other.1, ne_eqb (kind_of q k) 3 other, ef, el, eh, and-true)
 
-  pub feature_open : state ≡ 3 → has_whole w t.constraints x f lo hi ≡ false
-  feature_open e = rw (ef, el, eh) ((g.known.rests e).feature other)
-
   pub feature_told : {s' : List ℕ} {r : Reason} → Sure q c w t s' → TellsPiece dials w t x f lo hi r → TellsOne q dials c w t k x s' r
   feature_told m h = record { tells = record { same = λ v a d. sym (conjunct v) ∙ h.tells.same v a d }; sure = m }
 
-  module _ {now : ℕ} (h : Spanned w t.constraints x f lo hi now) where
-    pub feature_whole : {r : Reason} → now ≡ 1 → r.holds ≡ true → TellsOne q dials c w t k x s r
+  module _ {now : State} (h : Spanned w t.constraints x f lo hi now) where
+    pub feature_whole : {r : Reason} → now ≡ Passes → r.holds ≡ true → TellsOne q dials c w t k x s r
     feature_whole e y = record {
       tells = record { same = λ v a d. sym (conjunct v) ∙ whole_always w t.constraints x f lo hi (h.passes e) v a ∙ sym y };
       sure = g.asked.sure;
     }
 
-    pub feature_fails : {r : Reason} → now ≡ 2 → r.holds ≡ false → TellsOne q dials c w t k x s r
+    pub feature_fails : {r : Reason} → now ≡ Fails → r.holds ≡ false → TellsOne q dials c w t k x s r
     feature_fails e z = record {
       tells = record { same = λ v a d. sym (conjunct v) ∙ none_passes v w t.constraints x f lo hi a (h.fails e) ∙ sym z };
       sure = g.asked.sure;
     }
 
-    pub feature_noted : {s' : List ℕ} → (now ≡ 1 → ⊥) → s' ≡ remembered s k slot x 3 → Sure q c w t s'
-    feature_noted n e = sure_remembered g.asked.sure k slot g.slotted (omega arith) (record {
-      passes = λ z. absurd (omega arith);
-      fails = λ z. absurd (omega arith);
-      rests = λ _. record { role = λ z. absurd (other z); feature = λ _. rw (← ef, ← el, ← eh) (h.none n) };
+    pub feature_noted : {s' : List ℕ} → now ≡ Rests → s' ≡ remembered s k slot x Rests → Sure q c w t s'
+    feature_noted n e = sure_remembered g.asked.sure k slot g.slotted (record {
+      passes = λ (z : Some Rests ≡ Some Passes). cc;
+      fails = λ (z : Some Rests ≡ Some Fails). cc;
+      rests = λ _. record { role = λ z. absurd (other z); feature = λ _. rw (← ef, ← el, ← eh) (h.none (λ z. cc)) };
     }) e

@@ -1,5 +1,5 @@
 -- What is remembered of the pairs of a conjunct and an individual, and the contracts of the test that remembers.
-use Rattle.std.specs.Prelude.{◌%◌, ◌*◌, ◌+◌, ◌-◌, ◌/◌, ◌≤◌, pred, ℕ, Bool, ◌&&◌, cond, false, true, List, ◌≡◌, eqb, get_or, set}
+use Rattle.std.specs.Prelude.{◌%◌, ◌*◌, ◌+◌, ◌-◌, ◌/◌, ◌≤◌, pred, ℕ, Bool, ◌&&◌, cond, false, true, List, Option, None, Some, ◌≡◌, eqb, get_or, set}
 use Rattle.carriers.specs.Carriers.{Listed}
 use Rattle.layout.specs.Tables.{role_at}
 use Rattle.layout.specs.declared.Tables.{Tables}
@@ -9,6 +9,8 @@ use Rattle.meaning.specs.Policy.{child_of, hi_of, kind_of, lo_of, name_of}
 use Rattle.policy.specs.Terms.{ConjunctOf, conjunct_of, conjuncts_at}
 use Rattle.retest.specs.Reasons.{Choice, Tells, Testing, has_carried, has_still}
 use Rattle.retest.specs.declared.Reason.{Reason}
+use Rattle.retest.specs.declared.State.TheVariants.{Fails, Passes, Rests}
+use Rattle.retest.specs.declared.State.{State}
 use Rattle.subsumption.specs.Tests.{Individual, has_whole, holds_at}
 
 -- ---- the words: for each record and each place by a dial, an individual and what is known of the pair
@@ -19,11 +21,20 @@ memory_place k slot = k * 17 + slot
 abbrev pub entry_of : List ℕ → ℕ → ℕ → ℕ
 entry_of s k slot = get_or s (memory_place k slot) 0
 
-abbrev pub recalled : List ℕ → ℕ → ℕ → ℕ → ℕ
-recalled s k slot x = cond (eqb (entry_of s k slot / 4) x) (entry_of s k slot % 4) 0
+-- the state that a number is kept for; 0 is kept for none
+abbrev pub state_of : ℕ → Option State
+state_of n = cond (eqb n 1) (Some Passes) (cond (eqb n 2) (Some Fails) (cond (eqb n 3) (Some Rests) None))
 
-abbrev pub remembered : List ℕ → ℕ → ℕ → ℕ → ℕ → List ℕ
-remembered s k slot x state = set s (memory_place k slot) (4 * x + state)
+abbrev pub number_of : State → ℕ
+number_of Passes = 1
+number_of Fails = 2
+number_of Rests = 3
+
+abbrev pub recalled : List ℕ → ℕ → ℕ → ℕ → Option State
+recalled s k slot x = cond (eqb (entry_of s k slot / 4) x) (state_of (entry_of s k slot % 4)) None
+
+abbrev pub remembered : List ℕ → ℕ → ℕ → ℕ → State → List ℕ
+remembered s k slot x state = set s (memory_place k slot) (4 * x + number_of state)
 
 -- ---- what they mean
 
@@ -37,15 +48,15 @@ pub record Open (q c w : List ℕ) (t : Tables) (k x : ℕ) : Type 0 where
       has_still c w t.individuals x (name_of q k) (holds_at v w t (conjuncts_at q (child_of q k))) ≡ false
   pub feature : (kind_of q k ≡ 3 → ⊥) → has_whole w t.constraints x (name_of q k) (lo_of q k) (hi_of q k) ≡ false
 
--- 1: passes; 2: fails; 3: open
-pub record State (q c w : List ℕ) (t : Tables) (k x state : ℕ) : Type 0 where
-  pub passes : state ≡ 1 → Always q w t k x true
-  pub fails : state ≡ 2 → Always q w t k x false
-  pub rests : state ≡ 3 → Open q c w t k x
+-- what is known of the conjunct at record k and individual x, if anything, is so
+pub record Holds (q c w : List ℕ) (t : Tables) (k x : ℕ) (state : Option State) : Type 0 where
+  pub passes : state ≡ Some Passes → Always q w t k x true
+  pub fails : state ≡ Some Fails → Always q w t k x false
+  pub rests : state ≡ Some Rests → Open q c w t k x
 
 -- all that is remembered of the tables' individuals is so
 pub record Sure (q c w : List ℕ) (t : Tables) (s : List ℕ) : Type 0 where
-  pub known : (k slot : ℕ) → slot ≤ 16 → Individual t (entry_of s k slot / 4) → State q c w t k (entry_of s k slot / 4) (entry_of s k slot % 4)
+  pub known : (k slot : ℕ) → slot ≤ 16 → Individual t (entry_of s k slot / 4) → Holds q c w t k (entry_of s k slot / 4) (state_of (entry_of s k slot % 4))
 
 -- ---- contracts
 
@@ -73,11 +84,11 @@ pub record Asked (q dials c w : List ℕ) (t : Tables) (s : List ℕ) (left k x 
   pub individual : Individual t x
 
 -- the same, and record k is a role's or a feature's, of which and of individual x this much is known
-pub record Pending (q dials c w : List ℕ) (t : Tables) (s : List ℕ) (left k x slot state : ℕ) : Type 0 where
+pub record Pending (q dials c w : List ℕ) (t : Tables) (s : List ℕ) (left k x slot : ℕ) (state : Option State) : Type 0 where
   pub asked : Asked q dials c w t s left k x
   pub other : (kind_of q k ≡ 1 → ⊥) × (kind_of q k ≡ 2 → ⊥)
   pub slotted : slot ≤ 16
-  pub known : State q c w t k x state
+  pub known : Holds q c w t k x state
 
 -- what is told of individual x, and what is remembered afterwards is so: the conjuncts from record k on; record k's conjunct alone; individual x
 -- alone as a successor by a role; some successor of it by a role, of those in no list, and of those in one

@@ -9,6 +9,8 @@ use Rattle.meaning.specs.Intervals.{Constraint, NonEmpty, is_inside}
 use Rattle.meaning.specs.Lists.{any, counting}
 use Rattle.meaning.specs.Subsumption.{includes}
 use Rattle.retest.specs.declared.Reason.{Reason}
+use Rattle.retest.specs.declared.State.TheVariants.{Fails, Passes}
+use Rattle.retest.specs.declared.State.{State}
 use Rattle.subsumption.specs.Tests.{has_piece, has_whole, is_passing, is_piece_inside}
 use Rattle.words.specs.Sets.{test_bit}
 
@@ -67,18 +69,17 @@ pub record TellsDial (w : List ℕ) (m d x f lo hi : ℕ) (r : Reason) : Type 0 
   pub inside : may_pass w x f lo hi m ≡ true → is_inside lo hi (piece_at w m).lo (piece_at w m).hi ≡ r.holds
   pub named : may_pass w x f lo hi m ≡ true → test_bit r.dials d ≡ true
 
--- of individual x's constraints on f, whatever the pieces: 1 where one lies inside whole, 2 where none of them may pass
-pub record Spanned (w : List ℕ) (n x f lo hi r : ℕ) : Type 0 where
-  pub passes : r ≡ 1 → has_whole w n x f lo hi ≡ true
-  pub fails : r ≡ 2 → (m : ℕ) → m < n → may_pass w x f lo hi m ≡ false
-  pub none : (r ≡ 1 → ⊥) → has_whole w n x f lo hi ≡ false
+-- of individual x's constraints on f, whatever the pieces: it passes where one lies inside whole, and fails where none of them may pass
+pub record Spanned (w : List ℕ) (n x f lo hi : ℕ) (r : State) : Type 0 where
+  pub passes : r ≡ Passes → has_whole w n x f lo hi ≡ true
+  pub fails : r ≡ Fails → (m : ℕ) → m < n → may_pass w x f lo hi m ≡ false
+  pub none : (r ≡ Passes → ⊥) → has_whole w n x f lo hi ≡ false
 
 -- of constraint m alone
-pub record SpannedBy (w : List ℕ) (x f lo hi m r : ℕ) : Type 0 where
-  pub passes : r ≡ 1 → is_piece_inside (constraint_at w) w x f lo hi m ≡ true
-  pub fails : r ≡ 2 → may_pass w x f lo hi m ≡ false
-  pub none : (r ≡ 1 → ⊥) → is_piece_inside (constraint_at w) w x f lo hi m ≡ false
-  pub known : (r ≡ 1 → ⊥) → 2 ≤ r
+pub record SpannedBy (w : List ℕ) (x f lo hi m : ℕ) (r : State) : Type 0 where
+  pub passes : r ≡ Passes → is_piece_inside (constraint_at w) w x f lo hi m ≡ true
+  pub fails : r ≡ Fails → may_pass w x f lo hi m ≡ false
+  pub none : (r ≡ Passes → ⊥) → is_piece_inside (constraint_at w) w x f lo hi m ≡ false
 
 -- of individual x: some constraint on f
 pub record TellsPiece (dials w : List ℕ) (t : Tables) (x f lo hi : ℕ) (r : Reason) : Type 0 where

@@ -7,13 +7,14 @@
 // that none takes another's place. An empty memory remembers nothing.
 #![tactic(auto)]
 
-ghost use Rattle.std.specs.Prelude.{cond, false, ◌≡◌, ◌-◌, ◌<◌, ◌≤◌, max, eqb};
+ghost use Rattle.std.specs.Prelude.{cond, false, ◌≡◌, ◌-◌, ◌<◌, ◌≤◌, eqb};
 ghost use Rattle.layout.specs.Nesting.{Nested};
 ghost use Rattle.layout.specs.Tables.{HasEntry, Standing, holder_at};
 ghost use Rattle.meaning.specs.Limits.{most_records};
 ghost use Rattle.meaning.specs.Policy.{kind_of};
 ghost use Rattle.retest.specs.Memory.{Asked, Below, Pending, TellsAll, TellsCarried, TellsOne, TellsRow, TellsStill, Testable};
-ghost use Rattle.retest.specs.Memory.{memory_place, recalled, remembered};
+ghost use Rattle.retest.specs.Memory.{memory_place, recalled, remembered, state_of};
+ghost use Rattle.retest.specs.declared.State.TheVariants.{Fails, Passes, Rests};
 ghost use Rattle.retest.specs.Reasons.{Spanned, SpannedBy, TellsDial, TellsPiece, Testing, may_pass};
 ghost use Rattle.subsumption.specs.Tests.{Individual, has_whole};
 
@@ -55,14 +56,25 @@ const WIDTH: usize = 17;
 pub const MEMORY: usize = WIDTH * (MOST_RECORDS + 1);
 
 // What is known of a conjunct and an individual.
-const NOTHING: u32 = 0;
+#[derive(Clone, Copy, PartialEq, Eq)]
+pub enum State {
+    Passes = 1,
+    Fails = 2,
+    // Nothing that has no dial makes it pass.
+    Rests = 3,
+}
 
-const PASSES: u32 = 1;
-
-const FAILS: u32 = 2;
-
-// Nothing that has no dial makes it pass.
-const OPEN: u32 = 3;
+// The state that a number is kept for; 0 is kept for none.
+fn state_of(number: u32) -> Option<State>
+    ensures { result ≡ state_of number }
+{
+    match number {
+        1 => Some(State::Passes),
+        2 => Some(State::Fails),
+        3 => Some(State::Rests),
+        _ => None,
+    }
+}
 
 fn memory_place(k: u32, slot: u32) -> usize
     ensures { result ≡ memory_place k slot }
@@ -71,35 +83,39 @@ fn memory_place(k: u32, slot: u32) -> usize
 }
 
 // What is remembered of record k and individual x.
-fn recall(memory: &[u32], k: u32, slot: u32, x: u32) -> u32
+fn recall(memory: &[u32], k: u32, slot: u32, x: u32) -> Option<State>
     ensures { result ≡ recalled memory.now k slot x }
 {
     let known = word(memory, memory_place(k, slot));
-    if known / 4 == x { known % 4 } else { NOTHING }
+    if known / 4 == x {
+        state_of(known % 4)
+    } else {
+        None
+    }
 }
 
-fn remember(memory: &mut [u32], k: u32, slot: u32, x: u32, state: u32)
-    requires { (x ≤ most_records) × (state < 4) }
+fn remember(memory: &mut [u32], k: u32, slot: u32, x: u32, state: State)
+    requires { x ≤ most_records }
     ensures { memory.new ≡ remembered memory.old k slot x state }
 {
-    put_word(memory, memory_place(k, slot), 4 * x + state);
+    put_word(memory, memory_place(k, slot), 4 * x + state as u32);
 }
 
 // That nothing without a dial makes it pass, where that relies on none of the dials.
 fn remember_open(memory: &mut [u32], k: u32, slot: u32, x: u32, dials: u32)
     requires { x ≤ most_records }
-    ensures { memory.new ≡ cond (eqb dials 0) (remembered memory.old k slot x 3) memory.old }
+    ensures { memory.new ≡ cond (eqb dials 0) (remembered memory.old k slot x Rests) memory.old }
 {
     if dials == 0 {
-        remember(memory, k, slot, x, OPEN);
+        remember(memory, k, slot, x, State::Rests);
     }
 }
 
 // What is remembered of an answer that relies on no dial.
-fn settled(holds: bool) -> u32
-    ensures { result ≡ cond holds 1 2 }
+fn settled(holds: bool) -> State
+    ensures { result ≡ cond holds Passes Fails }
 {
-    if holds { PASSES } else { FAILS }
+    if holds { State::Passes } else { State::Fails }
 }
 
 // ---- constraints
@@ -110,52 +126,40 @@ fn may_pass(work: &[u32], m: usize, x: u32, f: FeatureNo, lo: u32, hi: u32) -> b
     ensures { result ≡ may_pass work.now x f.0 lo hi m }
 {
     let g = feature_of(work, m);
-    if holder_of(work, m) != x {
-        return false;
-    }
-    if g.0 != f.0 {
-        return false;
-    }
-    does_touch(lo, hi, layout::lo_of(work, m), layout::hi_of(work, m))
+    holder_of(work, m) == x
+        && g.0 == f.0
+        && does_touch(lo, hi, layout::lo_of(work, m), layout::hi_of(work, m))
 }
 
 // Of one constraint of individual x: it lies from lo to hi whole; or it has no value there, or is on another feature; or a piece may.
-fn constraint_state(work: &[u32], m: usize, x: u32, f: FeatureNo, lo: u32, hi: u32) -> u32
+fn constraint_state(work: &[u32], m: usize, x: u32, f: FeatureNo, lo: u32, hi: u32) -> State
     requires { HasEntry m work.now × (holder_at work.now m ≡ x) }
     ensures { SpannedBy work.now x f.0 lo hi m result }
 {
     if is_whole_inside(work, m, f, lo, hi) {
-        return PASSES;
+        return State::Passes;
     }
     if may_pass(work, m, x, f, lo, hi) {
-        return OPEN;
+        return State::Rests;
     }
-    FAILS
-}
-
-fn greater(a: u32, b: u32) -> u32
-    ensures { result ≡ max a b }
-{
-    if a < b { b } else { a }
+    State::Fails
 }
 
 // Line 4, whatever the pieces: some constraint of individual x lies inside whole, none of them may pass, or a dial's piece may.
-fn span_state(work: &[u32], t: Tables, x: u32, f: FeatureNo, lo: u32, hi: u32) -> u32
+fn span_state(work: &[u32], t: Tables, x: u32, f: FeatureNo, lo: u32, hi: u32) -> State
     requires { Standing work.now t × Nested work.now t }
     ensures { Spanned work.now t.constraints x f.0 lo hi result }
 {
-    let mut state = FAILS;
-    let mut m = first_constraint(work, t, x);
-    while m < t.constraints {
+    let mut state = State::Fails;
+    for m in first_constraint(work, t, x)..t.constraints {
         if holder_of(work, m) != x {
             return state;
         }
-        let one = constraint_state(work, m, x, f, lo, hi);
-        if one == PASSES {
-            return PASSES;
+        match constraint_state(work, m, x, f, lo, hi) {
+            State::Passes => return State::Passes,
+            State::Fails => {}
+            State::Rests => state = State::Rests,
         }
-        state = greater(state, one);
-        m += 1;
     }
     state
 }
@@ -188,12 +192,12 @@ fn test_dials(
     ensures { TellsPiece dials.now work.now t x f.0 lo hi result }
 {
     let mut all: u32 = 0;
-    for d in 0..dials.len() {
-        let one = test_dial(work, place(dials[d]), d, x, f, lo, hi);
+    for (d, m) in dials.iter().enumerate() {
+        let one = test_dial(work, place(*m), d, x, f, lo, hi);
         if one.holds {
             return one;
         }
-        all = all | one.dials;
+        all |= one.dials;
     }
     Reason {
         holds: false,
@@ -213,7 +217,7 @@ fn test_feature(
     k: u32,
     x: u32,
     slot: u32,
-    state: u32,
+    state: Option<State>,
 ) -> Reason
     requires pending { Pending q.now dials.now carriers.now work.now t memory.old left k x slot state }
     requires fact { kind_of q.now k ≡ 3 → ⊥ }
@@ -223,18 +227,17 @@ fn test_feature(
     let f = FeatureNo(name_of(q, k));
     let lo = lo_of(q, k);
     let hi = hi_of(q, k);
-    if state == OPEN {
+    if let Some(State::Rests) = state {
         return test_dials(work, dials, t, x, f, lo, hi);
     }
-    let now = span_state(work, t, x, f, lo, hi);
-    if now == PASSES {
-        return YES;
+    match span_state(work, t, x, f, lo, hi) {
+        State::Passes => YES,
+        State::Fails => NO,
+        State::Rests => {
+            remember(memory, k, slot, x, State::Rests);
+            test_dials(work, dials, t, x, f, lo, hi)
+        }
     }
-    if now == FAILS {
-        return NO;
-    }
-    remember(memory, k, slot, x, OPEN);
-    test_dials(work, dials, t, x, f, lo, hi)
 }
 
 // ---- the levels
@@ -295,7 +298,7 @@ fn test_still(
         if one.holds {
             return one;
         }
-        all = all | one.dials;
+        all |= one.dials;
     }
     Reason {
         holds: false,
@@ -322,14 +325,14 @@ fn test_carriers(
         t k x r.0 memory.new result }
 {
     let mut all: u32 = 0;
-    let mut y = first_carrier(carriers, x);
-    while y != 0 {
+    let mut next = first_carrier(carriers, x);
+    while let Some(y) = next {
         let one = test_row(q, work, dials, carriers, memory, t, left, k, y, r);
         if one.holds {
             return one;
         }
-        all = all | one.dials;
-        y = next_carrier(carriers, y);
+        all |= one.dials;
+        next = next_carrier(carriers, y);
     }
     Reason {
         holds: false,
@@ -350,7 +353,7 @@ fn test_role(
     k: u32,
     x: u32,
     slot: u32,
-    state: u32,
+    state: Option<State>,
 ) -> Reason
     requires pending { Pending q.now dials.now carriers.now work.now t memory.old left k x slot state }
     requires k_value { kind_of q.now k ≡ 3 }
@@ -359,7 +362,7 @@ fn test_role(
 {
     let r = RoleNo(name_of(q, k));
     let child = child_of(q, k);
-    if state == OPEN {
+    if let Some(State::Rests) = state {
         return test_carriers(q, work, dials, carriers, memory, t, left, child, x, r);
     }
     let still = test_still(q, work, dials, carriers, memory, t, left, child, x, r);
@@ -390,7 +393,7 @@ fn test_anew(
     k: u32,
     x: u32,
     slot: u32,
-    state: u32,
+    state: Option<State>,
 ) -> Reason
     requires { Pending q.now dials.now carriers.now work.now t memory.old left k x slot state }
     ensures { TellsOne q.now dials.now carriers.now work.now
@@ -422,11 +425,10 @@ fn test_recalled(
 {
     let slot = slot_of(carriers, x);
     let state = recall(memory, k, slot, x);
-    if state == PASSES {
-        return YES;
-    }
-    if state == FAILS {
-        return NO;
+    match state {
+        Some(State::Passes) => return YES,
+        Some(State::Fails) => return NO,
+        _ => {}
     }
     let one = test_anew(q, work, dials, carriers, memory, t, left, k, x, slot, state);
     if one.dials == 0 {
@@ -488,7 +490,7 @@ pub fn test(
         if !one.holds {
             return one;
         }
-        all = all | one.dials;
+        all |= one.dials;
         at = next_of(q, at);
     }
     Reason {

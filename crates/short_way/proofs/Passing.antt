@@ -2,7 +2,7 @@
 use Prim.Native.Nat.{◌+◌, ℕ}
 use mathlib.Core.Bool.{Bool, ◌||◌, false, not, true}
 use mathlib.Core.List.{List, [], ◌++◌, ◌∷◌, append_assoc, append-nil}
-use mathlib.Core.Path.{◌∙◌, ◌≡◌, ap, refl, subst, sym}
+use mathlib.Core.Path.{◌∙◌, ◌≡◌, ap, refl, sym}
 use lib.ListN.{length-append}
 use native.Mathlib.Omega.{arith}
 use Rattle.frames.specs.Frames.{Only}
@@ -20,6 +20,7 @@ use Rattle.meaning.specs.Vocabulary.{vocabulary_of}
 use Rattle.policy.proofs.Terms.{Asking, asking_ends, asking_found, asking_on, asking_term}
 use Rattle.preparation.proofs.Laws.{prepared_kept}
 use Rattle.preparation.specs.Prepared.{Accepting, Prepared}
+use Rattle.std.specs.Prelude.{None, Some}
 use Rattle.short_way.specs.Stops.{Askable, Behind, LeftAt, PreparedPair, Stops}
 use Rattle.splitting.proofs.Callers.{constraints_at_lem, whole_form}
 use Rattle.subsumption.specs.Tests.{holds_whole}
@@ -119,18 +120,13 @@ module _ {v p q : List ℕ} {s k : ℕ} where
   left_of a = record { left = a.walk.left; along = a.walk.along; room = a.walk.holds.0; behind = a.walk.holds.1 }
 
   module _ (a : Asking (Behind v p q) v p s k) where
-    pub stops_ended : k ≡ 0 → Stops v p q (record { term = 0; place = s })
-    stops_ended z = record {
-      succeeds = λ _. behind_ends v p q (asking_ends a z);
-      fails = λ n. absurd (n refl);
-      left = subst (LeftAt v p q s) z (left_of a);
-    }
+    pub stops_ended : k ≡ 0 → Stops v p q None
+    stops_ended z = behind_ends v p q (asking_ends a z)
 
     module _ (n : k ≡ 0 → ⊥) {b : Bool} (e : b ≡ passes_whole (vocabulary_of v) (policy_of q) (term_at p k)) where
-      pub stops_found : b ≡ false → Stops v p q (record { term = k; place = s })
+      pub stops_found : b ≡ false → Stops v p q (Some (record { term = k; place = s }))
       stops_found h = record {
-        succeeds = λ z. absurd (n z);
-        fails = λ _. asking_found a n (λ l u. behind_fails v p q s (term_at p k) l u (sym e ∙ h));
+        fails = asking_found a n (λ l u. behind_fails v p q s (term_at p k) l u (sym e ∙ h));
         left = left_of a;
       }
 

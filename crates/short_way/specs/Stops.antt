@@ -1,5 +1,5 @@
 -- The short way, SPECIFICATION 7.7: what it asks of its caller, where it stops, and what is then left to be decided.
-use Rattle.std.specs.Prelude.{◌+◌, ◌≤◌, suc, ℕ, Bool, false, true, List, ◌++◌, ◌≡◌, T, length}
+use Rattle.std.specs.Prelude.{◌+◌, ◌≤◌, suc, ℕ, Bool, false, true, List, Option, None, Some, ◌++◌, ◌≡◌, T, length}
 use Rattle.functional.specs.declared.Functional.{Functional}
 use Rattle.meaning.specs.Accepted.{ChainOf}
 use Rattle.meaning.specs.Containment.{passes_whole, short_way}
@@ -45,12 +45,16 @@ pub record LeftAt (v p q : List ℕ) (s k : ℕ) : Type 0 where
   pub room : s + length left ≤ suc most_records
   pub behind : Behind v p q s left
 
--- at term 0 the short way of p in q succeeds; else it fails, and what is left begins at the stop
-pub record Stops (v p q : List ℕ) (stop : Stop) : Type 0 where
-  pub succeeds : stop.term ≡ 0 → short_way (vocabulary_of v) (policy_of p) (policy_of q) ≡ true
-  pub fails : (stop.term ≡ 0 → ⊥) → short_way (vocabulary_of v) (policy_of p) (policy_of q) ≡ false
+-- the short way of p in q fails, and what is left begins at the stop
+pub record StopsAt (v p q : List ℕ) (stop : Stop) : Type 0 where
+  pub fails : short_way (vocabulary_of v) (policy_of p) (policy_of q) ≡ false
   pub left : LeftAt v p q stop.place stop.term
 
+-- where there is no stop, it succeeds
+abbrev pub Stops : List ℕ → List ℕ → List ℕ → Option Stop → Type 0
+Stops v p q None = short_way (vocabulary_of v) (policy_of p) (policy_of q) ≡ true
+Stops v p q (Some stop) = StopsAt v p q stop
+
 -- the same, by whatever vocabulary is prepared
-abbrev pub StopsBy : List ℕ → List ℕ → List ℕ → Functional → Stop → Type 0
+abbrev pub StopsBy : List ℕ → List ℕ → List ℕ → Functional → Option Stop → Type 0
 StopsBy p q w f stop = (v : List ℕ) → PreparedPair v p q w f → Stops v p q stop

@@ -12,7 +12,7 @@ use policy::{first_term, next_of};
 use tabulation::{is_clean, shape};
 use trial::is_taken_whole;
 
-// The first term that does not pass whole, and its place among the terms, counted from 1; term 0 stands for none.
+// The first term that does not pass whole, and its place among the terms, counted from 1.
 #[derive(Clone, Copy)]
 pub struct Stop {
     pub term: u32,
@@ -36,8 +36,8 @@ fn does_pass(p: &[u32], q: &[u32], work: &mut [u32], f: Functional, k: u32) -> b
     !is_clean(work, t)
 }
 
-// Where the short way of p in q stops.
-pub fn find_stop(p: &[u32], q: &[u32], work: &mut [u32], f: Functional) -> Stop
+// Where the short way of p in q stops, if it does.
+pub fn find_stop(p: &[u32], q: &[u32], work: &mut [u32], f: Functional) -> Option<Stop>
     requires { (v : List ℕ) × PreparedPair v p.now q.now work.old f }
     ensures stops_by { StopsBy p.now q.now work.old f result }
     ensures only { Only InTables work.old work.new }
@@ -46,10 +46,10 @@ pub fn find_stop(p: &[u32], q: &[u32], work: &mut [u32], f: Functional) -> Stop
     let mut k = first_term(p);
     while k != 0 {
         if !does_pass(p, q, work, f, k) {
-            return Stop { term: k, place: s };
+            return Some(Stop { term: k, place: s });
         }
         s += 1;
         k = next_of(p, k);
     }
-    Stop { term: 0, place: s }
+    None
 }

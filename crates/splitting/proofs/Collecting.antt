@@ -1,20 +1,17 @@
 -- The keys of a chain, one conjunct after another.
-use Prim.Native.Nat.{◌*◌, ◌+◌, ◌-◌, ◌<◌, ◌≤◌, ℕ}
-use mathlib.Core.List.{List, [], ◌++◌, ◌∷◌, append-nil}
-use mathlib.Core.Path.{◌∙◌, ◌≡◌, refl, sym}
+use Prim.Native.Nat.{◌*◌, ◌+◌, ◌≤◌, ℕ}
+use mathlib.Core.List.{List, ◌++◌, append-nil}
+use mathlib.Core.Path.{◌≡◌, refl}
 use native.Mathlib.Omega.{arith}
-use lib.Dec.{eqb}
 use lib.ListN.{length}
-use borrow.Author.Tests.{eqb-false}
 use Rattle.keys.proofs.Adding.{gathered_none, gathered_then}
-use Rattle.keys.specs.Keys.{Gathered, key_of}
+use Rattle.keys.specs.Keys.{Gathered}
 use Rattle.meaning.specs.Accepted.{count, depth}
-use Rattle.meaning.specs.Policy.{Chain, child_of, conjunct_at, hi_of, kind_of, lo_of, name_of, next_of}
-use Rattle.policy.proofs.Conjuncts.{Going, child_level, conjunct_kinds, depth_first, going_conjunct, going_ends, going_found, going_on, going_starts}
+use Rattle.meaning.specs.Policy.{Chain, child_of, conjunct_at, next_of}
+use Rattle.policy.proofs.Conjuncts.{Going, conjunct_kinds, depth_first, going_conjunct, going_ends, going_found, going_on, going_starts}
 use Rattle.policy.specs.Terms.{conjunct_of, conjuncts_at}
 use Rattle.splitting.proofs.Keys.{keys_few}
 use Rattle.splitting.specs.Ends.{Chained, Single, keys_of}
-use Rattle.theory.proofs.Links.{split}
 
 -- ---- a conjunct and what is after it
 
@@ -28,45 +25,6 @@ module _ (q : List ℕ) (k : ℕ) (c : Chain) where
   pub count_first : count (conjunct_at q k child c) ≡ count (conjunct_of q k) + count c
   count_first =
       conjunct_kinds (λ here all. count all ≡ count here + count c) q k child c (λ a. omega arith) (omega arith) (λ r. omega arith) (λ f lo hi. omega arith)
-
--- ---- one conjunct
-
-module _ {q e : List ℕ} {left k n : ℕ} (s : Single q e left k n) {kind : ℕ} (ek : kind ≡ kind_of q k) where
-  -- a role: its child chain
-  module _ (i : kind ≡ 3) where
-    below : (1 ≤ left) × (depth (conjuncts_at q (child_of q k)) ≤ left - 1)
-    below = child_level q k (sym ek ∙ i) s.shallow
-
-    pub role_level : 1 ≤ left
-    role_level = below.0
-
-    pub role_falls : {t : ℕ} → 2 * left ≡ t → 2 * (left - 1) + 1 < t
-    role_falls h = omega (arith, below.0)
-
-    module _ {y : ℕ} (ey : y ≡ child_of q k) where
-      pub child_chained : Chained q e (left - 1) y n
-      child_chained =
-          let c : count (conjunct_of q k) ≡ 1 + count (conjuncts_at q (child_of q k)) = rw (← ek, i) (omega arith) in
-          rw ey (record { reads = s.conjunct.child (sym ek ∙ i); shallow = below.1; room = omega (arith, s.room) })
-
-      pub role_gathered : {e' : List ℕ} {r : ℕ} → Gathered (keys_of (conjuncts_at q y)) n e e' r → Gathered (keys_of (conjunct_of q k)) n e e' r
-      role_gathered p = rw (← ek, i, ← ey, append-nil) p
-
-  -- a constraint: its two keys
-  module _ (i : kind ≡ 4) where
-    pub ends_fit : n + 2 ≤ length e
-    ends_fit = let c : count (conjunct_of q k) ≡ 1 = rw (← ek, i) in omega (arith, s.room)
-
-    pub constraint_gathered : {f lo hi r : ℕ} {e' : List ℕ} → f ≡ name_of q k → lo ≡ lo_of q k → hi ≡ hi_of q k →
-        Gathered (key_of f lo ∷ (key_of f hi ∷ [])) n e e' r → Gathered (keys_of (conjunct_of q k)) n e e' r
-    constraint_gathered ef el eh p = rw (← ek, i, ← ef, ← el, ← eh) p
-
-  -- a conjunct with no end
-  pub other_gathered : (kind ≡ 3 → ⊥) → (kind ≡ 4 → ⊥) → Gathered (keys_of (conjunct_of q k)) n e e n
-  other_gathered i j =
-      split (λ c. Gathered (keys_of c) n e e n) (eqb (kind_of q k) 1) (λ _. gathered_none n e) (λ a.
-      let b : kind_of q k ≡ 2 = omega (arith, s.conjunct.kind, eqb-false (kind_of q k) 1 a) in
-      rw b (gathered_none n e))
 
 -- ---- one after another
 

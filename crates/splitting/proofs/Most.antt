@@ -15,7 +15,6 @@ use Rattle.meaning.specs.Lists.{◌∈◌, cons, filter, here, nil, there}
 use Rattle.meaning.specs.Policy.{Policy}
 use Rattle.meaning.specs.Splitting.{Sorted, insert, pieces, points, product}
 use Rattle.splitting.proofs.Pieces.{filtered}
-use Rattle.splitting.specs.Constraints.{Few}
 use Rattle.splitting.specs.Ends.{Ends, ends_on}
 use Rattle.theory.proofs.Count.{count_pieces}
 use Rattle.theory.proofs.Most.{insert_most, neighbours_most}
@@ -75,10 +74,6 @@ room_fits a d h = omega (arith, mul-le-mul_right d h, div-mul-le_self most_combi
 abbrev pub Within : List ℕ → ℕ → ℕ → Type 0
 Within e i a = (Q : Policy) → Ends Q e → (l : List Constraint) → length l ≤ i → product Q l ≤ a
 
-pub within_none : (e : List ℕ) → Within e 0 1
-within_none e Q n [] h = omega arith
-within_none e Q n (s ∷ l) h = absurd (omega arith)
-
 pub within_more : (e : List ℕ) (i a most : ℕ) → 2 * length e + 3 ≤ most → Within e i a → Within e (i + 1) (a * most)
 within_more e i a most b h Q n [] k =
     let c : 1 ≤ most = omega arith in
@@ -86,6 +81,3 @@ within_more e i a most b h Q n [] k =
 within_more e i a most b h Q n (s ∷ l) k =
     let c : length (pieces Q s) ≤ most = omega (arith, pieces_within Q e s n) in
     rw (mul_comm a most) (mul-le-mul c (h Q n l (omega arith)))
-
-pub within_few : (e : List ℕ) (i n a : ℕ) → n ≤ i → a ≤ most_combinations → Within e i a → Few e n
-within_few e i n a q b h Q m l k = omega (arith, h Q m l (omega arith))

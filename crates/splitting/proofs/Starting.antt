@@ -5,7 +5,7 @@ use mathlib.Core.Logic.{⊎_elim}
 use mathlib.Core.Path.{◌∙◌, ◌≡◌, ap₂, subst}
 use native.Mathlib.Numerals.{add-one}
 use native.Mathlib.Omega.{arith}
-use Rattle.frames.proofs.Frames.{only_none, only_then}
+use Rattle.frames.proofs.Frames.{only_then}
 use Rattle.layout.specs.Tables.{PiecePut, constraint_at, interval_of, piece_at}
 use Rattle.meaning.specs.Lists.{At}
 use Rattle.meaning.specs.Policy.{Policy}
@@ -14,9 +14,6 @@ use Rattle.splitting.proofs.Pieces.{piece_first}
 use Rattle.splitting.proofs.Storing.{constraint_kept, piece_other, pieces_more, put_kept}
 use Rattle.splitting.specs.Constraints.{Splittable, Started}
 use Rattle.theory.proofs.Rules.{order}
-
-pub started_none : (w : List ℕ) → Started 0 w w
-started_none w = record { first = λ Q m h. absurd (omega arith); only = only_none }
 
 module _ {u w v : List ℕ} {n i lo : ℕ} (split : Splittable u n) (few : i < n) (s : Started i u w) (el : lo ≡ (constraint_at w i).lo) (p : PiecePut i lo lo w v) where
   abbrev First : Policy → ℕ → Type 0

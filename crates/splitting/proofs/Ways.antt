@@ -2,16 +2,16 @@
 use Prim.Native.Nat.{◌*◌, ◌+◌, ◌-◌, ◌<◌, ◌≤◌, min, suc, zero, ℕ}
 use mathlib.Core.List.{List, [], ◌∷◌}
 use mathlib.Core.Path.{◌∙◌, ◌≡◌, ap, ap₂, refl, subst, sym}
-use native.Mathlib.Nat.{mul-le-mul_left, mul-le-mul_right, mul-one, suc-add, zero-add}
+use native.Mathlib.Nat.{mul-le-mul_left, mul-one, suc-add, zero-add}
 use native.Mathlib.Numerals.{add-one}
 use native.Mathlib.Omega.{arith}
 use lib.ListN.{length}
 use Rattle.layout.specs.Tables.{constraint_at, interval_of}
-use Rattle.meaning.specs.Intervals.{Constraint, NonEmpty}
+use Rattle.meaning.specs.Intervals.{Constraint}
 use Rattle.meaning.specs.Limits.{most_combinations}
 use Rattle.meaning.specs.Policy.{Policy}
 use Rattle.meaning.specs.Splitting.{pieces, product}
-use Rattle.splitting.specs.Constraints.{Splittable, first_constraints, piece_count}
+use Rattle.splitting.specs.Constraints.{first_constraints, piece_count}
 use Rattle.theory.proofs.Count.{pieces_some, product_append}
 use Rattle.theory.proofs.Counting.{counted_more}
 
@@ -32,13 +32,6 @@ ways_product Q w (suc i) =
 read_at : (w : List ℕ) (i : ℕ) {f lo hi : ℕ} → f ≡ (constraint_at w i).feature → lo ≡ (constraint_at w i).lo → hi ≡ (constraint_at w i).hi →
     interval_of f lo hi ≡ constraint_at w i
 read_at w i p q r = rw (p, q, r)
-
-pub full_at : {w : List ℕ} {n i lo hi : ℕ} → Splittable w n → i < n → lo ≡ (constraint_at w i).lo → hi ≡ (constraint_at w i).hi → NonEmpty lo hi
-full_at {i = i} s h p q = rw (p, q) (s.full i h)
-
--- a product that was not too large, times the pieces of one constraint, fits
-pub product_fits : (a b : ℕ) → a ≤ most_combinations → b ≤ 4294967296 → a * b ≤ 281474976710656
-product_fits a b p q = let x = mul-le-mul_right b p in omega arith
 
 module _ (Q : Policy) (w : List ℕ) where
   pub ways_more : (i a c : ℕ) {f lo hi : ℕ} → a ≡ ways Q w i → f ≡ (constraint_at w i).feature → lo ≡ (constraint_at w i).lo → hi ≡ (constraint_at w i).hi →

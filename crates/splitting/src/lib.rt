@@ -36,14 +36,11 @@ fn collect_at(q: &[u32], ends: &mut [u64], left: u32, k: u32, n: usize) -> usize
     requires { Single q.now ends.old left k n }
     ensures { Gathered (keys_of (conjunct_of q.now k)) n ends.old ends.new result }
 {
-    let kind = kind_of(q, k);
-    if kind == 3 {
-        return collect_from(q, ends, left - 1, child_of(q, k), n);
+    match kind_of(q, k) {
+        3 => collect_from(q, ends, left - 1, child_of(q, k), n),
+        4 => add_ends(ends, n, FeatureNo(name_of(q, k)), lo_of(q, k), hi_of(q, k)),
+        _ => n,
     }
-    if kind == 4 {
-        return add_ends(ends, n, FeatureNo(name_of(q, k)), lo_of(q, k), hi_of(q, k));
-    }
-    n
 }
 
 // The keys of the chain from record first on, among the first m. left counts the levels of conjuncts that may still stand. It ends,
@@ -86,12 +83,12 @@ fn next_end(ends: &[u64], f: FeatureNo, x: u32, hi: u32) -> u32
     ensures next_end { NextEnd ends.now f.0 x hi result }
 {
     let base = key(f, 0);
-    let at = rank(ends, ends.len(), base + x as u64 + 1);
+    let at = rank(ends, ends.len(), base + u64::from(x) + 1);
     if ends.len() <= at {
         return hi;
     }
     let y = ends[at];
-    if base + hi as u64 <= y {
+    if base + u64::from(hi) <= y {
         return hi;
     }
     (y - base) as u32
@@ -125,20 +122,18 @@ pub fn count(ends: &[u64], f: FeatureNo, lo: u32, hi: u32) -> usize
     c
 }
 
+// It is a walk of its own, and not collect_at with a closure: one hands on a slice of keys, the other a number.
 // How many intervals record k has: its own, or those of its child chain, with a level less.
 #[cycle(intervals_at_intervals_from)]
 fn intervals_at(p: &[u32], left: u32, k: u32) -> usize
     requires { OneCounted p.now left k }
     ensures { result ≡ interval_count (conjunct_of p.now k) }
 {
-    let kind = kind_of(p, k);
-    if kind == 3 {
-        return intervals_from(p, left - 1, child_of(p, k));
+    match kind_of(p, k) {
+        3 => intervals_from(p, left - 1, child_of(p, k)),
+        4 => 1,
+        _ => 0,
     }
-    if kind == 4 {
-        return 1;
-    }
-    0
 }
 
 // How many intervals the chain from record first on has. left counts the levels of conjuncts that may still stand. It ends as
@@ -173,11 +168,11 @@ pub fn may_exceed(ends: &[u64], n: usize) -> bool
     let most = 2 * ends.len() + 3;
     let room = MOST_COMBINATIONS / most;
     let mut all: usize = 1;
-    for i in 0..n {
+    for _constraint in 0..n {
         if room < all {
             return true;
         }
-        all = all * most;
+        all *= most;
     }
     false
 }
@@ -188,11 +183,12 @@ pub fn combinations(ends: &[u64], work: &[u32], n: usize) -> usize
     ensures { Multiplied ends.now work.now n result }
 {
     let mut all: usize = 1;
+    // By index: the constraints stand in the middle of the work slice.
     for i in 0..n {
         let f = feature_of(work, i);
         let lo = layout::lo_of(work, i);
         let hi = layout::hi_of(work, i);
-        all = all * count(ends, f, lo, hi);
+        all *= count(ends, f, lo, hi);
         if MOST_COMBINATIONS < all {
             return MOST_COMBINATIONS + 1;
         }
@@ -205,6 +201,7 @@ pub fn start(work: &mut [u32], n: usize)
     requires { Splittable work.old n }
     ensures { Started n work.old work.new }
 {
+    // By index: the constraints stand in the middle of the work slice.
     for i in 0..n {
         let lo = layout::lo_of(work, i);
         put_piece(work, i, lo, lo);

@@ -4,15 +4,15 @@ use mathlib.Core.Bool.{Bool, ◌&&◌, and-true, false, not, true}
 use mathlib.Core.List.{List}
 use mathlib.Core.Path.{◌∙◌, ◌≡◌, ap, refl, sym}
 use native.Mathlib.Omega.{arith}
-use borrow.Author.Tests.{ne_eqb, not-false, not-true}
+use borrow.Author.Tests.{not-false, not-true}
 use Rattle.layout.specs.Tables.{set_at}
 use Rattle.layout.specs.declared.Tables.{Tables}
 use Rattle.meaning.specs.Accepted.{depth}
 use Rattle.meaning.specs.Intervals.{Constraint}
-use Rattle.meaning.specs.Policy.{Chain, child_of, conjunct_at, end, hi_of, kind_of, lo_of, name_of, next_of}
-use Rattle.policy.proofs.Conjuncts.{Going, child_level, conjunct_kinds, depth_first, going_conjunct, going_ends, going_found, going_on, going_starts}
+use Rattle.meaning.specs.Policy.{Chain, conjunct_at, end, kind_of, name_of, next_of}
+use Rattle.policy.proofs.Conjuncts.{Going, conjunct_kinds, depth_first, going_conjunct, going_ends, going_found, going_on, going_starts}
 use Rattle.policy.specs.Terms.{conjunct_of, conjuncts_at}
-use Rattle.subsumption.specs.Tests.{Asked, Testable, has_successor, has_whole, holds_at, holds_whole}
+use Rattle.subsumption.specs.Tests.{Asked, Testable, holds_at, holds_whole}
 use Rattle.words.specs.Sets.{in_set}
 
 -- ---- the first conjunct and the rest
@@ -60,31 +60,11 @@ module _ {q w : List ℕ} {t : Tables} {left first x k : ℕ} (g : Going (Rest q
 -- ---- one, by its kind
 
 module _ {q w : List ℕ} {t : Tables} {left k : ℕ} (s : Asked q w t left k) {kind : ℕ} (ek : kind ≡ kind_of q k) where
-  module _ (h : kind ≡ 3) where
-    pub some_level : 1 ≤ left
-    some_level = (child_level q k (sym ek ∙ h) s.shallow).0
-
-    pub some_testable : {y : ℕ} → y ≡ child_of q k → Testable q w t (left - 1) y
-    some_testable e = rw e (record {
-      standing = s.standing;
-      nested = s.nested;
-      reads = s.conjunct.child (sym ek ∙ h);
-      shallow = (child_level q k (sym ek ∙ h) s.shallow).1;
-    })
-
   module _ (x : ℕ) {a : ℕ} (ea : a ≡ name_of q k) where
     pub class_told : {r : Bool} {i : ℕ} → kind ≡ 1 → i ≡ x - 1 → r ≡ in_set (set_at w i) a → r ≡ holds_whole w t (conjunct_of q k) x
     class_told {i = i} h er f =
         let j : i ≡ pred x = omega arith in
         f ∙ ap (λ (i : ℕ). in_set (set_at w i) a) j ∙ rw (← ek, h, ea, and-true)
-
-    pub some_told : {y : ℕ} {r : Bool} → kind ≡ 3 → y ≡ child_of q k → r ≡ has_successor w t.individuals x a (holds_whole w t (conjuncts_at q y)) →
-        r ≡ holds_whole w t (conjunct_of q k) x
-    some_told h ey f = f ∙ ap (λ (j : ℕ). has_successor w t.individuals x a (holds_whole w t (conjuncts_at q j))) ey ∙ rw (← ek, h, ea, and-true)
-
-    pub interval_told : {lo hi : ℕ} {r : Bool} → (kind ≡ 1 → ⊥) → (kind ≡ 2 → ⊥) → (kind ≡ 3 → ⊥) → lo ≡ lo_of q k → hi ≡ hi_of q k →
-        r ≡ has_whole w t.constraints x a lo hi → r ≡ holds_whole w t (conjunct_of q k) x
-    interval_told n₁ n₂ n₃ el eh f = f ∙ rw (← ek, ne_eqb kind 1 n₁, ne_eqb kind 2 n₂, ne_eqb kind 3 n₃, ea, el, eh, and-true)
 
   pub impossible_told : (x : ℕ) {r : Bool} → r ≡ false → kind ≡ 2 → r ≡ holds_whole w t (conjunct_of q k) x
   impossible_told x n h = n ∙ rw (← ek, h)

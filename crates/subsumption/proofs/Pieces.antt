@@ -1,29 +1,18 @@
 -- Laws of the constraints of an individual, one after another: whether one lies inside whole.
-use Prim.Native.Nat.{◌+◌, ◌-◌, ◌/◌, ◌<◌, ◌≤◌, ℕ}
+use Prim.Native.Nat.{◌<◌, ◌≤◌, ℕ}
 use mathlib.Core.Bool.{Bool, false, true}
 use mathlib.Core.List.{List}
 use mathlib.Core.Logic.{⊎_elim}
-use mathlib.Core.Path.{◌∙◌, ◌≡◌, subst, sym}
+use mathlib.Core.Path.{◌∙◌, ◌≡◌, sym}
 use native.Mathlib.Omega.{arith}
 use borrow.Author.Tests.{eq-eqb, ne_eqb}
 use Rattle.layout.specs.Nesting.{Nested}
 use Rattle.layout.specs.Tables.{constraint_at, holder_at}
 use Rattle.layout.specs.declared.Tables.{Tables}
-use Rattle.meaning.specs.Intervals.{is_inside}
 use Rattle.meaning.specs.Subsumption.{includes}
 use Rattle.subsumption.specs.Tests.{FirstOf, has_piece, has_whole, is_piece_inside}
 use Rattle.theory.proofs.Counting.{none_below, some_below}
 use Rattle.theory.proofs.Rules.{order}
-
--- ---- one constraint
-
-module _ (w : List ℕ) (m f lo hi : ℕ) {g : ℕ} (eg : g ≡ (constraint_at w m).feature) where
-  pub whole_other : {r : Bool} → r ≡ false → (g ≡ f → ⊥) → r ≡ includes f lo hi (constraint_at w m)
-  whole_other z n = z ∙ rw (ne_eqb f (constraint_at w m).feature (λ e. n (eg ∙ sym e)))
-
-  pub whole_own : {r : Bool} {low high : ℕ} → g ≡ f → low ≡ (constraint_at w m).lo → high ≡ (constraint_at w m).hi → r ≡ is_inside lo hi low high →
-      r ≡ includes f lo hi (constraint_at w m)
-  whole_own e el eh h = h ∙ rw (eq-eqb f (constraint_at w m).feature (sym e ∙ eg), el, eh)
 
 -- ---- one after another
 
@@ -32,28 +21,6 @@ pub record Halving (w : List ℕ) (n x low high : ℕ) : Type 0 where
   pub within : (low ≤ high) × (high ≤ n)
   pub before : (m : ℕ) → m < low → holder_at w m < x
   pub after : (m : ℕ) → high ≤ m → m < n → x ≤ holder_at w m
-
-pub halving_starts : (w : List ℕ) (n x : ℕ) → Halving w n x 0 n
-halving_starts w n x = record { within = (omega arith, omega arith); before = λ m h. absurd (omega arith); after = λ m h l. absurd (omega arith) }
-
-module _ {w : List ℕ} {t : Tables} {x low high : ℕ} (nest : Nested w t) (h : Halving w t.constraints x low high) where
-  pub halving_ends : high ≤ low → FirstOf w t.constraints x low
-  halving_ends e = record { within = omega arith; before = h.before; after = λ m a b. h.after m (omega arith) b }
-
-  module _ {middle y : ℕ} (less : low < high) (em : middle ≡ low + (high - low) / 2) (ey : y ≡ holder_at w middle) where
-    pub halving_later : y < x → Halving w t.constraints x (middle + 1) high
-    halving_later e = record {
-      within = (omega arith, omega arith);
-      before = λ m a. let r = nest.rising m middle (omega arith) (omega arith) in omega arith;
-      after = h.after;
-    }
-
-    pub halving_earlier : x ≤ y → Halving w t.constraints x low middle
-    halving_earlier e = record {
-      within = (omega arith, omega arith);
-      before = h.before;
-      after = λ m a b. let r = nest.rising middle m a b in omega arith;
-    }
 
 -- none of those before m lies inside
 pub record Passed (w : List ℕ) (t : Tables) (x f lo hi m : ℕ) : Type 0 where
@@ -92,11 +59,3 @@ module _ {w : List ℕ} {t : Tables} {x f lo hi m : ℕ} (nest : Nested w t) (p 
       pub pieces_found : {r : Bool} → r ≡ true → one ≡ true → r ≡ has_whole w t.constraints x f lo hi
       unfolding has_piece
       pieces_found y h = y ∙ sym (some_below (is_piece_inside (constraint_at w) w x f lo hi) t.constraints m less (held ∙ h))
-
-      pub pieces_on : one ≡ false → Passed w t x f lo hi (m + 1)
-      pieces_on h = record {
-        within = omega arith;
-        none = λ i l. ⊎_elim (p.none i) (λ g. let z : m ≡ i = omega arith in
-            subst (λ (k : ℕ). is_piece_inside (constraint_at w) w x f lo hi k ≡ false) z (held ∙ h)) (order i m);
-        after = λ i g l. p.after i (omega arith) l;
-      }

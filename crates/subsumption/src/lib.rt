@@ -19,6 +19,7 @@ pub fn first_constraint(work: &[u32], t: Tables, x: u32) -> usize
     requires { Standing work.now t × Nested work.now t }
     ensures { FirstOf work.now t.constraints x result }
 {
+    // By hand: the constraints stand in the middle of the work slice, six words each, and are no slice of their own to be parted.
     let mut low: usize = 0;
     let mut high = t.constraints;
     while low < high {
@@ -38,10 +39,7 @@ pub fn is_whole_inside(work: &[u32], m: usize, f: FeatureNo, lo: u32, hi: u32) -
     ensures { result ≡ includes f.0 lo hi (constraint_at work.now m) }
 {
     let g = feature_of(work, m);
-    if g.0 != f.0 {
-        return false;
-    }
-    is_inside(lo, hi, lo_of(work, m), hi_of(work, m))
+    g.0 == f.0 && is_inside(lo, hi, lo_of(work, m), hi_of(work, m))
 }
 
 // Line 4: some constraint of individual x.
@@ -49,15 +47,13 @@ fn test_constraints(work: &[u32], t: Tables, x: u32, f: FeatureNo, lo: u32, hi: 
     requires { Standing work.now t × Nested work.now t }
     ensures { result ≡ has_whole work.now t.constraints x f.0 lo hi }
 {
-    let mut m = first_constraint(work, t, x);
-    while m < t.constraints {
+    for m in first_constraint(work, t, x)..t.constraints {
         if holder_of(work, m) != x {
             return false;
         }
         if is_whole_inside(work, m, f, lo, hi) {
             return true;
         }
-        m += 1;
     }
     false
 }
@@ -74,10 +70,8 @@ fn test_successors(q: &[u32], work: &[u32], t: Tables, left: u32, k: u32, x: u32
     while j < n {
         let y = j as u32 + 1;
         let role = role_of(work, j);
-        if role.0 == r.0 {
-            if test(q, work, t, left - 1, k, y) {
-                return true;
-            }
+        if role.0 == r.0 && test(q, work, t, left - 1, k, y) {
+            return true;
         }
         j = next_successor(work, n, x, j + 1);
     }

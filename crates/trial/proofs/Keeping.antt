@@ -21,7 +21,9 @@ use Rattle.meaning.specs.Policy.{Chain, child_of, class, end, hi_of, impossible,
 use Rattle.meaning.specs.Subsumption.{includes}
 use Rattle.policy.specs.Terms.{conjunct_of, conjuncts_at}
 use Rattle.splitting.proofs.Storing.{constraint_kept}
-use Rattle.retest.specs.Memory.{State, Sure, memory_place}
+use Rattle.std.specs.Prelude.{Option}
+use Rattle.retest.specs.declared.State.{State}
+use Rattle.retest.specs.Memory.{Holds, Sure, memory_place}
 use Rattle.subsumption.specs.Tests.{Individual}
 use Rattle.retest.specs.Reasons.{Choice, has_still, is_still}
 use Rattle.subsumption.specs.Tests.{has_piece, has_successor, holds_at, is_passing, is_piece_inside}
@@ -77,7 +79,7 @@ module _ {w w' : List ℕ} (t : Tables) (k : Only (Pieces t.constraints) w w') (
     next = λ i j h n a b e. l.next i j h n a b (sym (parent_kept k i (omega arith)) ∙ e ∙ parent_kept k j (omega arith));
   }
 
-  state_kept : {q c : List ℕ} {j x state : ℕ} → Individual t x → State q c w t j x state → State q c w' t j x state
+  state_kept : {q c : List ℕ} {j x : ℕ} {state : Option State} → Individual t x → Holds q c w t j x state → Holds q c w' t j x state
   unfolding has_still
   state_kept {q} {c} {j} {x} i f = record {
     passes = λ e v a. holds_kept v (conjunct_of q j) x i ∙ f.passes e v (choice_back a);

@@ -17,7 +17,8 @@ use Rattle.subsumption.specs.Tests as Whole
 use Rattle.subsumption.specs.Tests.{Individual, holds_at, holds_whole}
 use Rattle.retest.specs.declared.Reason.{Reason}
 use Rattle.theory.proofs.Rules.{all_of, head, tail}
-use Rattle.trial.specs.Trials.{Askable, Formed, Known, TakenBy, Taker, Taking, Term}
+use Rattle.std.specs.Prelude.{IfSome, None, Option, Some, is_some}
+use Rattle.trial.specs.Trials.{Askable, Formed, TakenBy, Taker, Taking, Term}
 use Rattle.trial.specs.declared.Taken.{Taken}
 
 -- the rest are terms of q, and what they tell is what all tell
@@ -30,12 +31,12 @@ module _ {q dials c w : List ℕ} {t : Tables} {s : List ℕ} (a : Askable q dia
   pub first_individual : Individual t 1
   first_individual = record { some = omega arith; within = a.some }
 
-  none_told : {s' : List ℕ} {r : Taken} → r.term ≡ 0 → Sure q c w t s' → Taking q dials c w t s' r
-  none_told z m = record { known = λ n. absurd (n z); takes = λ n. absurd (n z); sure = m }
+  none_told : {s' : List ℕ} → Sure q c w t s' → Taking q dials c w t s' None
+  none_told m = record { taken = tt; sure = m }
 
   -- no term is asked
-  pub none_taken : {k : ℕ} {r : Taken} → k ≡ 0 → r.term ≡ 0 → TakenBy q dials c w t s k r
-  none_taken e z = record { taking = none_told z a.sure; refused = λ n. absurd (n e) }
+  pub none_taken : TakenBy q dials c w t s None None
+  none_taken = record { taking = none_told a.sure; refused = λ _. tt }
 
   module _ (k : ℕ) {j : ℕ} (e : j ≡ child_of q k) where
     pub term_testable : Term q k → Testable q dials c w t s most_depth j
@@ -45,26 +46,32 @@ module _ {q dials c w : List ℕ} {t : Tables} {s : List ℕ} (a : Askable q dia
       tells : one.holds ≡ holds_at (piece_at w) w t (term_at q k) 1
       tells = sym (f.tells.same (piece_at w) a.testing.chosen (record { same = λ d l h. refl })) ∙ ap (λ (i : ℕ). holds_at (piece_at w) w t (conjuncts_at q i) 1) e
 
-      pub term_takes : {r : Taken} → (k ≡ 0 → ⊥) → Term q k → r.term ≡ k → r.dials ≡ one.dials → one.holds ≡ true → TakenBy q dials c w t s' k r
-      term_takes {r} n m et ed h = record {
+      pub term_takes : {r : Taken} → Term q k → r.term ≡ k → r.dials ≡ one.dials → one.holds ≡ true → TakenBy q dials c w t s' (Some k) (Some r)
+      term_takes {r} m et ed h = record {
         taking = record {
-          known = λ _. rw et m;
-          takes = λ _ v d g. rw et (ap (λ (i : ℕ). holds_at v w t (conjuncts_at q i) 1) (sym e) ∙ f.tells.same v d (rw ed at g) ∙ h);
+          taken = record {
+            known = rw et m;
+            takes = λ v d g. rw et (ap (λ (i : ℕ). holds_at v w t (conjuncts_at q i) 1) (sym e) ∙ f.tells.same v d (rw ed at g) ∙ h);
+          };
           sure = f.sure;
         };
-        refused = λ _ z. absurd (n (sym et ∙ z));
+        refused = λ z. cc;
       }
 
-      pub term_refuses : {r : Taken} → r.term ≡ 0 → one.holds ≡ false → TakenBy q dials c w t s' k r
-      term_refuses z h = record { taking = none_told z f.sure; refused = λ _ _. sym tells ∙ h }
+      pub term_refuses : one.holds ≡ false → TakenBy q dials c w t s' (Some k) None
+      term_refuses h = record { taking = none_told f.sure; refused = λ _. sym tells ∙ h }
 
   -- what is asked next, with what is remembered by then
-  pub taking_askable : {s' : List ℕ} {k : ℕ} {r : Taken} → TakenBy q dials c w t s' k r → Askable q dials c w t s'
+  pub taking_askable : {s' : List ℕ} {k : Option ℕ} {r : Option Taken} → TakenBy q dials c w t s' k r → Askable q dials c w t s'
   taking_askable f = record { testing = a.testing; listed = a.listed; sure = f.taking.sure; some = a.some; policy = a.policy }
 
 -- one takes it
-pub taking_taker : {q dials c w : List ℕ} {t : Tables} {s : List ℕ} {k : ℕ} {r : Taken} → TakenBy q dials c w t s k r → (r.term ≡ 0 → ⊥) → Taker q dials c w t s r
-taking_taker f n = record { taking = f.taking; none = λ z. absurd (n z) }
+pub taking_taker : {q dials c w : List ℕ} {t : Tables} {s : List ℕ} {k : Option ℕ} {r : Option Taken} → TakenBy q dials c w t s k r → {b : Bool} → b ≡ is_some r → b ≡ true → Taker q dials c w t s r
+taking_taker f e n = record { taking = f.taking; none = λ z. cc }
+
+none_of : (r : Option Taken) → is_some r ≡ false → r ≡ None
+none_of None h = refl
+none_of (Some r) h = cc
 
 -- the terms from record k on are still to be asked
 pub record Seeking (q dials c w : List ℕ) (t : Tables) (s : List ℕ) (k : ℕ) : Type 0 where
@@ -82,24 +89,24 @@ seeking_starts {q} a e = record {
 }
 
 module _ {q dials c w : List ℕ} {t : Tables} {s : List ℕ} {k : ℕ} (g : Seeking q dials c w t s k) where
-  pub seeking_ends : {r : Taken} → r.term ≡ 0 → k ≡ 0 → Taker q dials c w t s r
-  seeking_ends z h = record { taking = none_told g.askable z g.askable.sure; none = λ _. sym (asking_ends g.asking h).told }
+  pub seeking_ends : k ≡ 0 → Taker q dials c w t s None
+  seeking_ends h = record { taking = none_told g.askable g.askable.sure; none = λ _. sym (asking_ends g.asking h).told }
 
   module _ (n : k ≡ 0 → ⊥) where
-    pub seeking_known : Known q k
-    seeking_known _ = asking_found g.asking n (λ l r. record { reads = (asking_term g.asking n).reads; shallow = (asking_term g.asking n).shallow; within = head r.within })
+    pub seeking_known : IfSome (Some k) (Term q)
+    seeking_known = asking_found g.asking n (λ l r. record { reads = (asking_term g.asking n).reads; shallow = (asking_term g.asking n).shallow; within = head r.within })
 
     pub seeking_falls : {x : ℕ} → x ≡ next_of q k → falling (last_of 6 q) x < falling (last_of 6 q) k
     seeking_falls e = asking_falls g.asking n e
 
-    pub seeking_on : {s' : List ℕ} {one : Taken} {x : ℕ} → TakenBy q dials c w t s' k one → one.term ≡ 0 → x ≡ next_of q k → Seeking q dials c w t s' x
-    seeking_on f h z = record {
+    pub seeking_on : {s' : List ℕ} {one : Option Taken} {x : ℕ} → TakenBy q dials c w t s' (Some k) one → {b : Bool} → b ≡ is_some one → b ≡ false → x ≡ next_of q k → Seeking q dials c w t s' x
+    seeking_on {one = one} f e h z = record {
       askable = taking_askable g.askable f;
       vocabulary = g.vocabulary;
       place = g.place + 1;
       asking = asking_on g.asking n z (λ l r. record {
         within = tail r.within;
-        told = ap (λ (b : Bool). b || any (λ c. holds_at (piece_at w) w t c 1) l) (sym (f.refused n h)) ∙ r.told;
+        told = ap (λ (b : Bool). b || any (λ c. holds_at (piece_at w) w t c 1) l) (sym (f.refused (none_of one (sym e ∙ h)))) ∙ r.told;
       });
     }
 

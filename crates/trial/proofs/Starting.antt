@@ -26,6 +26,7 @@ use Rattle.theory.proofs.Picks.{AllNonEmpty}
 use Rattle.theory.proofs.Whole.{whole_passes}
 use Rattle.trial.proofs.Keeping.{none_listed, none_sure, none_terms}
 use Rattle.trial.proofs.Trying.{passes_held}
+use Rattle.std.specs.Prelude.{None, Option}
 use Rattle.trial.specs.Trials.{Blank, Formed, Positive, Remembers, Searchable, Triable, Tried, Turnable}
 
 constraints_non_empty : (w : List ℕ) (n : ℕ) → Full w n → AllNonEmpty (first_constraints w n)
@@ -48,7 +49,7 @@ module _ {q e w : List ℕ} {t : Tables} (r : Triable q e w t) where
   pub triable_formed : Formed q w t
   triable_formed = record { standing = r.standing; nested = r.nested; some = r.some; policy = r.policy }
 
-  pub whole_taken : {b : Bool} → b ≡ any (λ c. holds_whole w t c 1) (policy_of q) → b ≡ true → Tried (policy_of q) w w t 0
+  pub whole_taken : {b : Bool} → b ≡ any (λ c. holds_whole w t c 1) (policy_of q) → b ≡ true → Tried (policy_of q) w w t None
   whole_taken e h = record {
     told = λ K F g.
         let same : fill (constraint_at w) F ≡ F = whole_form w t.constraints F (sym (constraints_at_lem g)) in
@@ -81,7 +82,7 @@ module _ {q e dials w : List ℕ} {t : Tables} (r : Turnable q e dials w t) wher
       few = r.few;
     }
 
-    pub tried_kept : {w'' : List ℕ} {c : ℕ} → Tried (policy_of q) w' w'' t c → Tried (policy_of q) w w'' t c
+    pub tried_kept : {w'' : List ℕ} {c : Option ℕ} → Tried (policy_of q) w' w'' t c → Tried (policy_of q) w w'' t c
     tried_kept y = record {
       told = λ K F h. y.told K F (tabled_turned h k (r.triable.standing.individuals, r.triable.standing.constraints));
       only = only_then k y.only;

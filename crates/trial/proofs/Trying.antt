@@ -1,6 +1,6 @@
 -- Laws of the trial: what is known at the combination that the tables stand at, and how the search goes on and ends.
 use Prim.Native.Nat.{◌+◌, ◌-◌, ◌<◌, ◌≤◌, suc, zero, ℕ}
-use mathlib.Core.Bool.{Bool, ◌||◌, false, true}
+use mathlib.Core.Bool.{Bool, ◌||◌, cond, false, true}
 use mathlib.Core.List.{List, [], ◌∷◌}
 use mathlib.Core.Logic.{⊎_elim}
 use mathlib.Core.Path.{◌∙◌, ◌≡◌, ap, ap₂, fun_ext, refl, subst, sym}
@@ -44,7 +44,9 @@ use Rattle.theory.proofs.Points.{Inside, pieces_part}
 use Rattle.theory.proofs.Rules.{and_T, any_in, at_any, eqb_of, head, is_true, order, same_test, tail}
 use Rattle.trial.proofs.Keeping.{remembers_kept}
 use Rattle.trial.proofs.Searching.{Passes, at_same, chosen, chosen_at, placed, search_ends, search_fails}
-use Rattle.trial.specs.Trials.{Askable, Failure, Known, Remembers, Searchable, Taker, Taking, Tried}
+use Rattle.std.specs.Prelude.{IfSome, None, Option, Some}
+use Rattle.carriers.specs.Carriers.{named}
+use Rattle.trial.specs.Trials.{Askable, Failure, Known, Remembers, Searchable, Taker, Takes, Term, Tried}
 use Rattle.trial.specs.declared.Taken.{Taken}
 
 at_all : {A : Type 0} {P : A → Type 0} {x : A} {l : List A} {i : ℕ} → All P l → At x l i → P x
@@ -68,11 +70,11 @@ unfolding passes
 passes_held [] h v = refl
 passes_held (c ∷ l) h v = ap₂ (λ (a b : Bool). a || b) (holds_filled h v c) (passes_held l h v)
 
-pub taken_any : {q dials c w : List ℕ} {t : Tables} {s : List ℕ} {taken : Taken} → Taking q dials c w t s taken → (taken.term ≡ 0 → ⊥) → (v : ℕ → Constraint) → Choice v w t.constraints →
+pub taken_any : {q dials w : List ℕ} {t : Tables} {taken : Taken} → Takes q dials w t taken → (v : ℕ → Constraint) → Choice v w t.constraints →
     Agrees dials w taken.dials v → any (λ c. holds_at v w t c 1) (policy_of q) ≡ true
-taken_any {q} {w = w} {t = t} a some v c g =
+taken_any {q} {w = w} {t = t} a v c g =
     same_test (any (λ c. holds_at v w t c 1) (policy_of q)) true (λ _. tt)
-    (λ _. any_in (λ c. holds_at v w t c 1) (at_any (a.known some).within (is_true (a.takes some v c g))))
+    (λ _. any_in (λ c. holds_at v w t c 1) (at_any a.known.within (is_true (a.takes v c g))))
 
 -- ---- the first combination
 
@@ -87,18 +89,18 @@ abbrev Admits : List ℕ → List ℕ → Tables → ((ℕ → ℕ) → Bool) �
 Admits q w₀ t P = (w : List ℕ) → Only (Pieces t.constraints) w₀ w → (e : ℕ → ℕ) → Valid (piece_count (policy_of q) w₀) t.constraints e →
     any (λ c. holds_at (chosen (policy_of q) w₀ e) w t c 1) (policy_of q) ≡ true → P e ≡ true
 
--- at counter c, counted from 1, the tables stand at that combination, and those before it are known to pass; at 0 all are. Term k took the last one
-pub record Trying (q dials earlier carriers memory takers w₀ w : List ℕ) (t : Tables) (c k : ℕ) : Type 0 where
+-- at counter c, counted from 1, the tables stand at that combination, and those before it are known to pass; at none all are. Term k took the last one
+pub record Trying (q dials earlier carriers memory takers w₀ w : List ℕ) (t : Tables) (c k : Option ℕ) : Type 0 where
   pub only : Only (Pieces t.constraints) w₀ w
   pub size : length earlier ≡ length dials
-  pub last : Known q k
+  pub last : IfSome k (Term q)
   pub remembers : Remembers q carriers w t memory takers
   pub state : (P : (ℕ → ℕ) → Bool) → Admits q w₀ t P → Outcome (policy_of q) P dials earlier w t.constraints c
 
 -- how many may be left
-abbrev pub left : ℕ → ℕ
-left zero = 0
-left (suc k) = suc (most_combinations - k)
+abbrev pub left : Option ℕ → ℕ
+left None = 0
+left (Some k) = suc (suc most_combinations - k)
 
 module _ {q e dials counts earlier₀ w₀ : List ℕ} {t : Tables} (r : Searchable q e dials counts earlier₀ w₀ t) where
   abbrev Q : Policy
@@ -107,11 +109,11 @@ module _ {q e dials counts earlier₀ w₀ : List ℕ} {t : Tables} (r : Searcha
   abbrev n : ℕ
   n = t.constraints
 
-  pub trying_starts : {carriers memory takers : List ℕ} → Remembers q carriers w₀ t memory takers → Trying q dials earlier₀ carriers memory takers w₀ w₀ t 1 0
+  pub trying_starts : {carriers memory takers : List ℕ} → Remembers q carriers w₀ t memory takers → Trying q dials earlier₀ carriers memory takers w₀ w₀ t (Some 1) None
   trying_starts m = record {
     only = only_none;
     size = r.size;
-    last = λ z. absurd (z refl);
+    last = tt;
     remembers = m;
     state = λ P a. (
       λ i. 0,
@@ -123,7 +125,7 @@ module _ {q e dials counts earlier₀ w₀ : List ℕ} {t : Tables} (r : Searcha
     );
   }
 
-  module _ {earlier carriers memory takers w : List ℕ} {c k : ℕ} (y : Trying q dials earlier carriers memory takers w₀ w t c k) where
+  module _ {earlier carriers memory takers w : List ℕ} {c k : Option ℕ} (y : Trying q dials earlier carriers memory takers w₀ w t c k) where
     sizes : piece_count Q w ≡ piece_count Q w₀
     sizes = fun_ext (λ j. ap (λ x. length (pieces Q x)) (constraint_kept y.only j))
 
@@ -162,10 +164,14 @@ module _ {q e dials counts earlier₀ w₀ : List ℕ} {t : Tables} (r : Searcha
       admits w o e v h = sym (passes_held Q (tabled_now w o) (chosen Q w₀ e)) ∙ h
 
     -- whoever took one that ended alike is a term
-    pub trying_alike : (at : ℕ) {i : ℕ} → i ≡ get_or takers at 0 → Known q i
-    trying_alike at e = rw e (y.remembers.terms at)
+    pub trying_alike : (at : ℕ) {i : ℕ} {o : Option ℕ} → i ≡ get_or takers at 0 → o ≡ named i → IfSome o (Term q)
+    trying_alike at {i} e h = rw h (go (eqb i 0) refl)
+      where
+        go : (b : Bool) → eqb i 0 ≡ b → IfSome (cond b None (Some i)) (Term q)
+        go true n = tt
+        go false n = rw e (y.remembers.terms at (λ z. eqb-false i 0 n (e ∙ z)))
 
-    pub trying_ends : c ≡ 0 → Tried Q w₀ w t 0
+    pub trying_ends : c ≡ None → Tried Q w₀ w t None
     trying_ends z = record {
       told = λ K F h. search_ends K Q F w₀ n (same K F h) (λ e v. subst (Outcome Q (Passes K Q F w₀ n (same K F h)) dials earlier w n) z (y.state _ (admits K F h)) e (back e v));
       only = y.only;
@@ -173,15 +179,11 @@ module _ {q e dials counts earlier₀ w₀ : List ℕ} {t : Tables} (r : Searcha
 
     -- ---- at a combination
 
-    module _ (z : c ≡ 0 → ⊥) where
-      standing : (P : (ℕ → ℕ) → Bool) → Admits q w₀ t P → (d : ℕ → ℕ) × Standing Q P dials earlier w n d c
-      standing P a = go c z (y.state P a)
-        where
-          go : (c : ℕ) → (c ≡ 0 → ⊥) → Outcome Q P dials earlier w n c → (d : ℕ → ℕ) × Standing Q P dials earlier w n d c
-          go zero z o = absurd (z refl)
-          go (suc c) z o = o
+    module _ {i : ℕ} (z : c ≡ Some i) where
+      standing : (P : (ℕ → ℕ) → Bool) → Admits q w₀ t P → (d : ℕ → ℕ) × Standing Q P dials earlier w n d i
+      standing P a = subst (Outcome Q P dials earlier w n) z (y.state P a)
 
-      plain : (d : ℕ → ℕ) × Standing Q (λ e. true) dials earlier w n d c
+      plain : (d : ℕ → ℕ) × Standing Q (λ e. true) dials earlier w n d i
       plain = standing (λ e. true) (λ w o e v h. refl)
 
       chosen_now : (v : ℕ → Constraint) (d : ℕ → ℕ) → ((m : ℕ) → m < n → At (v m) (pieces Q (constraint_at w m)) (d m)) → Choice v w n
@@ -209,7 +211,7 @@ module _ {q e dials counts earlier₀ w₀ : List ℕ} {t : Tables} (r : Searcha
       few_now : product Q (first_constraints w n) ≤ most_combinations
       few_now = rw (constraints_kept y.only n) r.turnable.triable.few
 
-      below : c ≤ most_combinations
+      below : i ≤ most_combinations
       below =
           let d = plain.0 in
           let s = piece_count Q w in
@@ -220,29 +222,28 @@ module _ {q e dials counts earlier₀ w₀ : List ℕ} {t : Tables} (r : Searcha
           let b = ap (value s d) x in
           omega (arith, a, l, b, zero-mul (span s 0 n), plain.1.number, product_span Q w n, few_now)
 
-      pub trying_skippable : Skippable e dials counts earlier w n c
+      pub trying_skippable : Skippable e dials counts earlier w n i
       trying_skippable = record {
         split = record { splittable = splittable_kept y.only r.turnable.triable.splittable; policy = Q; ends = r.turnable.triable.ends; few = few_now };
         dialled = now_dialled;
         few = r.turnable.few;
         counted = record { size = r.counted.size; count = λ P a d h. r.counted.count P a d h ∙ ap (λ x. length (pieces P x)) (sym (constraint_kept y.only (get_or dials d 0))) };
         size = y.size;
-        number = (omega arith, below);
+        number = (omega (arith, plain.1.number), below);
       }
 
       -- no term takes it
-      pub trying_fails : {memory' : List ℕ} {taken : Taken} → Taker q dials carriers w t memory' taken → taken.term ≡ 0 → Tried Q w₀ w t c
-      trying_fails a h = record { told = λ K F g. go K F g c z refl; only = y.only }
+      pub trying_fails : {memory' : List ℕ} {taken : Option Taken} → Taker q dials carriers w t memory' taken → taken ≡ None → Tried Q w₀ w t (Some i)
+      trying_fails a h = record { told = go; only = y.only }
         where
-          go : (K : Vocabulary) (F : Form) → Tabled K F w₀ t → (i : ℕ) → (i ≡ 0 → ⊥) → i ≡ c → Failure K Q F w t i
-          go K F g zero f e = absurd (f refl)
-          go K F g (suc i) f e =
+          go : (K : Vocabulary) (F : Form) → Tabled K F w₀ t → Failure K Q F w t (Some i)
+          go K F g =
               let s = standing (Passes K Q F w₀ n (same K F g)) (admits K F g) in
               let d = s.0 in
               let u = fill (piece_at w) F in
               let here : (j : ℕ) → j < n → At (piece_at w j) (pieces Q (constraint_at w₀ j)) (d j) =
               λ j l. subst (λ x. At (piece_at w j) (pieces Q x) (d j)) (constraint_kept y.only j) (s.1.stands j l) in
-              let k : suc (value (piece_count Q w₀) d n) ≡ suc i = ap (λ (x : ℕ → ℕ). suc (value x d n)) (sym sizes) ∙ s.1.number ∙ sym e in
+              let k : suc (value (piece_count Q w₀) d n) ≡ i = ap (λ (x : ℕ → ℕ). suc (value x d n)) (sym sizes) ∙ s.1.number in
               let known : Digits.Known (piece_count Q w₀) n (Passes K Q F w₀ n (same K F g)) dials earlier d =
               subst (λ (x : ℕ → ℕ). Digits.Known x n (Passes K Q F w₀ n (same K F g)) dials earlier d) sizes s.1.known in (
                 u,
@@ -253,7 +254,10 @@ module _ {q e dials counts earlier₀ w₀ : List ℕ} {t : Tables} (r : Searcha
               )
 
       -- a term takes it: the search goes on behind what that covers
-      module _ {memory' : List ℕ} {taken : Taken} (a : Taker q dials carriers w t memory' taken) (some : taken.term ≡ 0 → ⊥) where
+      module _ {memory' : List ℕ} {told : Option Taken} (a : Taker q dials carriers w t memory' told) {taken : Taken} (some : told ≡ Some taken) where
+        takes : Takes q dials w t taken
+        takes = subst (λ o. IfSome o (Takes q dials w t)) some a.taking.taken
+
         covers : (P : (ℕ → ℕ) → Bool) → Admits q w₀ t P → (d : ℕ → ℕ) → StandsAt Q w n d → Covers (piece_count Q w) n P d n (in_mask dials taken.dials)
         covers P admit d stands = record { pass = λ e v agree. admit w y.only e (there e v) (held e v agree) }
           where
@@ -262,40 +266,39 @@ module _ {q e dials counts earlier₀ w₀ : List ℕ} {t : Tables} (r : Searcha
             held e v agree =
                 let at : (j : ℕ) → j < n → At (chosen Q w₀ e j) (pieces Q (constraint_at w j)) (e j) =
                 λ j l. subst (λ x. At (chosen Q w₀ e j) (pieces Q x) (e j)) (sym (constraint_kept y.only j)) (chosen_at Q w₀ n e (there e v) j l) in
-                taken_any a.taking some (chosen Q w₀ e) (chosen_now (chosen Q w₀ e) e at)
+                taken_any takes (chosen Q w₀ e) (chosen_now (chosen Q w₀ e) e at)
                 (record {
                   same = λ f l m. let g = now_dialled.dial f l in
                       at_same (at (get_or dials f 0) g.0) (subst (At (piece_at w (get_or dials f 0)) (pieces Q (constraint_at w (get_or dials f 0))))
                       (sym (agree (get_or dials f 0) g.0 (mask_bit dials taken.dials (get_or dials f 0) f l refl m))) (stands (get_or dials f 0) g.0));
                 })
 
-        module _ {w' earlier' : List ℕ} {c' : ℕ} (s : Skipped e dials earlier earlier' n taken.dials c w w' c') where
-          pub trying_on : {k' : ℕ} (at : ℕ) {takers' : List ℕ} → k' ≡ taken.term → takers' ≡ set takers at k' → Trying q dials earlier' carriers memory' takers' w₀ w' t c' k'
-          trying_on {k'} at {takers'} z e = record {
+        module _ {w' earlier' : List ℕ} {c' : Option ℕ} (s : Skipped e dials earlier earlier' n taken.dials i w w' c') where
+          pub trying_on : (at : ℕ) {takers' : List ℕ} → takers' ≡ set takers at taken.term → Trying q dials earlier' carriers memory' takers' w₀ w' t c' (Some taken.term)
+          trying_on at {takers'} e = record {
             only = only_then y.only s.only;
             size = s.size ∙ y.size;
-            last = here;
+            last = takes.known;
             remembers = remembers_kept t s.only r.turnable.triable.standing.individuals (record { listed = y.remembers.listed; sure = a.taking.sure; terms = λ i. rw e (noted i) });
             state = λ P admit. let x = standing P admit in s.told Q P x.0 r.turnable.triable.ends x.1 (covers P admit x.0 x.1.stands);
           }
             where
-              here : Known q k'
-              here f = rw z (a.taking.known (λ v. f (z ∙ v)))
+              here : Known q taken.term
+              here _ = takes.known
 
-              noted : (i : ℕ) → Known q (get_or (set takers at k') i 0)
+              noted : (i : ℕ) → Known q (get_or (set takers at taken.term) i 0)
               noted i = ⊎_elim
                   (λ l. go (eqb i at) refl l)
-                  (λ l. let e : get_or (set takers at k') i 0 ≡ 0 = get_or-eq_default (set takers at k') 0 (omega (arith, length-set takers at k')) in λ f. absurd (f e))
+                  (λ l. let e : get_or (set takers at taken.term) i 0 ≡ 0 = get_or-eq_default (set takers at taken.term) 0 (omega (arith, length-set takers at taken.term)) in λ f. absurd (f e))
                   (order i (length takers))
                 where
-                  go : (b : Bool) → eqb i at ≡ b → i < length takers → Known q (get_or (set takers at k') i 0)
-                  go true eb l = rw (eqb-true i at eb, get_or-set_same takers at k' 0 (rw (← eqb-true i at eb) l)) here
-                  go false eb l = rw (get_or-set_other takers at i k' 0 (eqb-false i at eb)) (y.remembers.terms i)
+                  go : (b : Bool) → eqb i at ≡ b → i < length takers → Known q (get_or (set takers at taken.term) i 0)
+                  go true eb l = rw (eqb-true i at eb, get_or-set_same takers at taken.term 0 (rw (← eqb-true i at eb) l)) here
+                  go false eb l = rw (get_or-set_other takers at i taken.term 0 (eqb-false i at eb)) (y.remembers.terms i)
 
           pub trying_falls : left c' < left c
-          trying_falls = go c z below c' s.rises
+          trying_falls = rw z (go c' s.rises)
             where
-              go : (c : ℕ) → (c ≡ 0 → ⊥) → c ≤ most_combinations → (d : ℕ) → ((d ≡ 0 → ⊥) → c < d) → left d < left c
-              go zero f b d h = absurd (f refl)
-              go (suc c) f b zero h = omega arith
-              go (suc c) f b (suc d) h = let l = h (λ v. omega arith) in omega arith
+              go : (d : Option ℕ) → IfSome d (λ j. i < j) → left d < left (Some i)
+              go None h = omega (arith, below)
+              go (Some j) h = omega (arith, below)

@@ -1,5 +1,5 @@
 -- Trying the combinations of a term: what is asked, and what the answer says.
-use Rattle.std.specs.Prelude.{◌<◌, ◌≤◌, suc, zero, ℕ, false, true, List, ◌≡◌, get_or, length}
+use Rattle.std.specs.Prelude.{◌<◌, ◌≤◌, ℕ, false, true, List, Option, IfSome, None, Some, ◌≡◌, get_or, length}
 use Rattle.carriers.specs.Carriers.{Listed}
 use Rattle.frames.specs.Frames.{Only}
 use Rattle.layout.specs.Combination.{Combined}
@@ -53,22 +53,25 @@ pub record Term (q : List ℕ) (k : ℕ) : Type 0 where
 abbrev pub Known : List ℕ → ℕ → Type 0
 Known q k = (k ≡ 0 → ⊥) → Term q k
 
--- a term of q that takes the combination that the tables hold, relying on these dials alone; what is remembered is so
-pub record Taking (q dials c w : List ℕ) (t : Tables) (s : List ℕ) (r : Taken) : Type 0 where
-  pub known : Known q r.term
-  pub takes : (r.term ≡ 0 → ⊥) → (v : ℕ → Constraint) → Choice v w t.constraints → Agrees dials w r.dials v →
-      holds_at v w t (term_at q r.term) 1 ≡ true
+-- a term of q takes the combination that the tables hold, relying on these dials alone
+pub record Takes (q dials w : List ℕ) (t : Tables) (r : Taken) : Type 0 where
+  pub known : Term q r.term
+  pub takes : (v : ℕ → Constraint) → Choice v w t.constraints → Agrees dials w r.dials v → holds_at v w t (term_at q r.term) 1 ≡ true
+
+-- what is told takes it, and what is remembered is so
+pub record Taking (q dials c w : List ℕ) (t : Tables) (s : List ℕ) (r : Option Taken) : Type 0 where
+  pub taken : IfSome r (Takes q dials w t)
   pub sure : Sure q c w t s
 
--- term k, where it takes the combination; term 0 takes none
-pub record TakenBy (q dials c w : List ℕ) (t : Tables) (s : List ℕ) (k : ℕ) (r : Taken) : Type 0 where
+-- term k, where one is asked of and it takes the combination
+pub record TakenBy (q dials c w : List ℕ) (t : Tables) (s : List ℕ) (k : Option ℕ) (r : Option Taken) : Type 0 where
   pub taking : Taking q dials c w t s r
-  pub refused : (k ≡ 0 → ⊥) → r.term ≡ 0 → holds_at (piece_at w) w t (term_at q k) 1 ≡ false
+  pub refused : r ≡ None → IfSome k (λ k. holds_at (piece_at w) w t (term_at q k) 1 ≡ false)
 
--- the same, and 0 is told where none does
-pub record Taker (q dials c w : List ℕ) (t : Tables) (s : List ℕ) (r : Taken) : Type 0 where
+-- the same of any term, and none is told where none does
+pub record Taker (q dials c w : List ℕ) (t : Tables) (s : List ℕ) (r : Option Taken) : Type 0 where
   pub taking : Taking q dials c w t s r
-  pub none : r.term ≡ 0 → any (λ c. holds_at (piece_at w) w t c 1) (policy_of q) ≡ false
+  pub none : r ≡ None → any (λ c. holds_at (piece_at w) w t c 1) (policy_of q) ≡ false
 
 -- the tables are a term's, with few enough combinations, and e has the ends of the other policy q
 pub record Triable (q e w : List ℕ) (t : Tables) : Type 0 where
@@ -107,12 +110,12 @@ pub record Remembers (q c w : List ℕ) (t : Tables) (s takers : List ℕ) : Typ
   pub sure : Sure q c w t s
   pub terms : (i : ℕ) → Known q (get_or takers i 0)
 
--- the answer for a form's combinations: 0 where none fails; else the first to fail, counted from 1, which the tables hold
-abbrev pub Failure : Vocabulary → Policy → Form → List ℕ → Tables → ℕ → Type 0
-Failure K Q F w t zero = first_failing (passes K Q) 1 (combinations Q F) ≡ nowhere
-Failure K Q F w t (suc k) = (u : Form) × (first_failing (passes K Q) 1 (combinations Q F) ≡ found (suc k) u) × Combined K u w t
+-- the answer for a form's combinations: none where none fails; else the first to fail, counted from 1, which the tables hold
+abbrev pub Failure : Vocabulary → Policy → Form → List ℕ → Tables → Option ℕ → Type 0
+Failure K Q F w t None = first_failing (passes K Q) 1 (combinations Q F) ≡ nowhere
+Failure K Q F w t (Some k) = (u : Form) × (first_failing (passes K Q) 1 (combinations Q F) ≡ found k u) × Combined K u w t
 
 -- the answer is that for whatever form the tables hold, by whatever vocabulary; nothing but pieces has changed
-pub record Tried (Q : Policy) (w w' : List ℕ) (t : Tables) (r : ℕ) : Type 0 where
+pub record Tried (Q : Policy) (w w' : List ℕ) (t : Tables) (r : Option ℕ) : Type 0 where
   pub told : (K : Vocabulary) (F : Form) → Tabled K F w t → Failure K Q F w' t r
   pub only : Only (Pieces t.constraints) w w'

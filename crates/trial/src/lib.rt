@@ -5,15 +5,15 @@
 // 46 KB of stack, and 15 KB for a policy of at most 119 records.
 #![tactic(auto)]
 
-ghost use Rattle.std.specs.Prelude.{◌≡◌, ◌≤◌, length};
+ghost use Rattle.std.specs.Prelude.{IfSome, ◌≡◌, ◌≤◌, length};
 ghost use Rattle.carriers.specs.Carriers.{carriers_end};
 ghost use Rattle.meaning.specs.Lists.{any};
 ghost use Rattle.meaning.specs.Policy.{policy_of};
 ghost use Rattle.subsumption.specs.Tests.{holds_whole};
-ghost use Rattle.trial.specs.Trials.{Askable, Blank, Formed, Known, Positive, Remembers, Searchable};
-ghost use Rattle.trial.specs.Trials.{TakenBy, Taker, Triable, Tried, Turnable};
+ghost use Rattle.trial.specs.Trials.{Askable, Blank, Formed, Positive, Remembers, Searchable};
+ghost use Rattle.trial.specs.Trials.{TakenBy, Taker, Term, Triable, Tried, Turnable};
 
-use carriers::{CARRIERS, list_carriers};
+use carriers::{CARRIERS, list_carriers, named};
 use layout::Tables;
 use meaning::limits::MOST_DEPTH;
 use odometer::{DIALS, count_pieces, find_dials, skip};
@@ -23,19 +23,17 @@ use retest::{MEMORY, test};
 use splitting::start;
 use words::place;
 
-// A term that takes a combination, and the dials that it relies on; term 0 stands for none.
+// A term that takes a combination, and the dials that it relies on.
 #[derive(Clone, Copy)]
 pub struct Taken {
     pub term: u32,
     pub dials: u32,
 }
 
-const NONE: Taken = Taken { term: 0, dials: 0 };
-
 // The individual that is asked of.
 const FIRST: u32 = 1;
 
-// Term k of q, where it takes the combination that the tables hold; term 0 takes none.
+// Term k of q, where one is asked of and it takes the combination that the tables hold.
 fn taken_by(
     q: &[u32],
     work: &[u32],
@@ -43,15 +41,13 @@ fn taken_by(
     carriers: &[u32],
     memory: &mut [u32],
     t: Tables,
-    k: u32,
-) -> Taken
-    requires { Askable q.now dials.now carriers.now work.now t memory.old × Known q.now k }
+    k: Option<u32>,
+) -> Option<Taken>
+    requires { Askable q.now dials.now carriers.now work.now t memory.old × IfSome k (Term q.now) }
     ensures { TakenBy q.now dials.now carriers.now work.now
         t memory.new k result }
 {
-    if k == 0 {
-        return NONE;
-    }
+    let term = k?;
     let one = test(
         q,
         work,
@@ -60,16 +56,17 @@ fn taken_by(
         memory,
         t,
         MOST_DEPTH,
-        child_of(q, k),
+        child_of(q, term),
         FIRST,
     );
     if one.holds {
-        return Taken {
-            term: k,
+        Some(Taken {
+            term,
             dials: one.dials,
-        };
+        })
+    } else {
+        None
     }
-    NONE
 }
 
 // A term of q that takes the combination that the tables hold, asked from the first on.
@@ -80,19 +77,19 @@ fn first_taker(
     carriers: &[u32],
     memory: &mut [u32],
     t: Tables,
-) -> Taken
+) -> Option<Taken>
     requires { Askable q.now dials.now carriers.now work.now t memory.old }
     ensures { Taker q.now dials.now carriers.now work.now t memory.new result }
 {
     let mut k = first_term(q);
     while k != 0 {
-        let one = taken_by(q, work, dials, carriers, memory, t, k);
-        if one.term != 0 {
+        let one = taken_by(q, work, dials, carriers, memory, t, Some(k));
+        if one.is_some() {
             return one;
         }
         k = next_of(q, k);
     }
-    NONE
+    None
 }
 
 // The same, with two asked first: the one that took the last combination whose number ended alike, and the one that took the last.
@@ -103,25 +100,25 @@ fn taker(
     carriers: &[u32],
     memory: &mut [u32],
     t: Tables,
-    alike: u32,
-    last: u32,
-) -> Taken
+    alike: Option<u32>,
+    last: Option<u32>,
+) -> Option<Taken>
     requires askable { Askable q.now dials.now carriers.now work.now t memory.old }
-    requires known { Known q.now alike × Known q.now last }
+    requires known { IfSome alike (Term q.now) × IfSome last (Term q.now) }
     ensures { Taker q.now dials.now carriers.now work.now t memory.new result }
 {
     let one = taken_by(q, work, dials, carriers, memory, t, alike);
-    if one.term != 0 {
+    if one.is_some() {
         return one;
     }
     let other = taken_by(q, work, dials, carriers, memory, t, last);
-    if other.term != 0 {
+    if other.is_some() {
         return other;
     }
     first_taker(q, work, dials, carriers, memory, t)
 }
 
-// From the first combination on, the first that fails, counted from 1, or 0; the tables are left at it. Numbers end alike that leave the
+// From the first combination on, the first that fails, counted from 1, if any; the tables are left at it. Numbers end alike that leave the
 // same remainder by round. Time grows with the other policy's records times the individuals, once, and then with the combinations that
 // are looked at times the other policy's records, each held to at most 16 individuals with a dial at or below.
 fn search(
@@ -136,23 +133,22 @@ fn search(
     memory: &mut [u32],
     takers: &mut [u32],
     round: u32,
-) -> u32
+) -> Option<u32>
     requires searchable { Searchable q.now ends.now dials.now counts.now earlier.old work.old t × (1 ≤ round) }
     requires remembers { Remembers q.now carriers.now work.old t memory.old takers.old }
     ensures { Tried (policy_of q.now) work.old work.new t result }
 {
-    let mut c: u32 = 1;
-    let mut k: u32 = 0;
-    while c != 0 {
+    let mut next = Some(1);
+    let mut last = None;
+    while let Some(c) = next {
         let at = place((c - 1) % round);
-        let alike = word(takers, at);
-        let taken = taker(q, work, dials, carriers, memory, t, alike, k);
-        k = taken.term;
-        if k == 0 {
-            return c;
-        }
-        put_word(takers, at, k);
-        c = skip(
+        let alike = named(word(takers, at));
+        let Some(taken) = taker(q, work, dials, carriers, memory, t, alike, last) else {
+            return Some(c);
+        };
+        put_word(takers, at, taken.term);
+        last = Some(taken.term);
+        next = skip(
             ends,
             work,
             t.constraints,
@@ -163,11 +159,13 @@ fn search(
             c,
         );
     }
-    0
+    None
 }
 
 // Room for who took the last combination whose number ended alike.
 const TAKERS: u32 = 1024;
+
+const TAKER_WORDS: usize = TAKERS as usize;
 
 // Of how many combinations numbers end alike: as many as the last dials have that there is room for.
 fn round_of(counts: &[u32]) -> u32
@@ -175,14 +173,11 @@ fn round_of(counts: &[u32]) -> u32
     ensures { 1 ≤ result }
 {
     let mut round: u32 = 1;
-    let mut d = counts.len();
-    while 0 < d {
-        d -= 1;
-        let more = counts[d];
-        if TAKERS / round < more {
+    for more in counts.iter().rev() {
+        if TAKERS / round < *more {
             return round;
         }
-        round = round * more;
+        round *= *more;
     }
     round
 }
@@ -199,7 +194,7 @@ fn search_in(
     carriers: &mut [u32],
     memory: &mut [u32],
     takers: &mut [u32],
-) -> u32
+) -> Option<u32>
     requires searchable { Searchable q.now ends.now dials.now counts.now earlier.old work.old t }
     requires carriers_end_in_bounds { (carriers_end ≤ length carriers.old) × Blank memory.old × Blank takers.old }
     ensures { Tried (policy_of q.now) work.old work.new t result }
@@ -211,10 +206,8 @@ fn search_in(
     )
 }
 
-// For a policy that is not long, small tables, which are cleared sooner. What there is no room for is not remembered.
-const SHORT: usize = 720;
-
-fn search_short(
+// In tables of so many words. What there is no room for is not remembered.
+fn search_with<const REMEMBERED: usize, const TAKEN: usize>(
     q: &[u32],
     work: &mut [u32],
     ends: &[u64],
@@ -222,42 +215,14 @@ fn search_short(
     dials: &[u32],
     counts: &[u32],
     earlier: &mut [u32],
-) -> u32
-    requires { Searchable q.now ends.now dials.now counts.now earlier.old work.old t }
+) -> Option<u32>
+    requires searchable { Searchable q.now ends.now dials.now counts.now earlier.old work.old t }
+    requires sizes { (REMEMBERED ≤ 65536) × (TAKEN ≤ 65536) }
     ensures { Tried (policy_of q.now) work.old work.new t result }
 {
     let mut carriers = [0; CARRIERS];
-    let mut memory = [0; 2048];
-    let mut takers = [0; 256];
-    search_in(
-        q,
-        work,
-        ends,
-        t,
-        dials,
-        counts,
-        earlier,
-        &mut carriers,
-        &mut memory,
-        &mut takers,
-    )
-}
-
-fn search_long(
-    q: &[u32],
-    work: &mut [u32],
-    ends: &[u64],
-    t: Tables,
-    dials: &[u32],
-    counts: &[u32],
-    earlier: &mut [u32],
-) -> u32
-    requires { Searchable q.now ends.now dials.now counts.now earlier.old work.old t }
-    ensures { Tried (policy_of q.now) work.old work.new t result }
-{
-    let mut carriers = [0; CARRIERS];
-    let mut memory = [0; MEMORY];
-    let mut takers = [0; TAKERS as usize];
+    let mut memory = [0; REMEMBERED];
+    let mut takers = [0; TAKEN];
     search_in(
         q,
         work,
@@ -281,13 +246,10 @@ fn search_few(
     dials: &[u32],
     counts: &[u32],
     earlier: &mut [u32],
-) -> u32
+) -> Option<u32>
     requires { Searchable q.now ends.now dials.now counts.now earlier.old work.old t }
     ensures { Tried (policy_of q.now) work.old work.new t result }
 {
-    let carriers = [0; 1];
-    let mut memory = [0; 1];
-    let mut takers = [0; 1];
     search(
         q,
         work,
@@ -296,12 +258,15 @@ fn search_few(
         dials,
         counts,
         earlier,
-        &carriers[..0],
-        &mut memory[..0],
-        &mut takers[..0],
+        &[],
+        &mut [],
+        &mut [],
         1,
     )
 }
+
+// A policy that is not long: small tables serve, which are cleared sooner.
+const SHORT: usize = 720;
 
 // How many combinations are few.
 const FEW: u32 = 2;
@@ -310,12 +275,11 @@ fn are_few(counts: &[u32]) -> bool
     requires { Positive counts.now }
 {
     let mut all: u32 = 1;
-    for d in 0..counts.len() {
-        let more = counts[d];
-        if FEW / all < more {
+    for more in counts {
+        if FEW / all < *more {
             return false;
         }
-        all = all * more;
+        all *= *more;
     }
     true
 }
@@ -329,7 +293,7 @@ fn try_pieces(
     dials: &[u32],
     counts: &mut [u32],
     earlier: &mut [u32],
-) -> u32
+) -> Option<u32>
     requires turnable { Turnable q.now ends.now dials.now work.old t }
     requires counts_len { (length counts.old ≡ length dials.now) × (length earlier.old ≡ length dials.now) }
     ensures { Tried (policy_of q.now) work.old work.new t result }
@@ -340,9 +304,9 @@ fn try_pieces(
         return search_few(q, work, ends, t, dials, counts, earlier);
     }
     if q.len() <= SHORT {
-        return search_short(q, work, ends, t, dials, counts, earlier);
+        return search_with::<2048, 256>(q, work, ends, t, dials, counts, earlier);
     }
-    search_long(q, work, ends, t, dials, counts, earlier)
+    search_with::<MEMORY, TAKER_WORDS>(q, work, ends, t, dials, counts, earlier)
 }
 
 // Whether a term of q takes the constraints whole.
@@ -360,8 +324,8 @@ pub fn is_taken_whole(q: &[u32], work: &[u32], t: Tables) -> bool
     false
 }
 
-// The first combination that fails, counted from 1, or 0; the tables are left at it. Nothing is held to the other policy whole.
-pub fn first_split_failure(q: &[u32], work: &mut [u32], ends: &[u64], t: Tables) -> u32
+// The first combination that fails, counted from 1, if any; the tables are left at it. Nothing is held to the other policy whole.
+pub fn first_split_failure(q: &[u32], work: &mut [u32], ends: &[u64], t: Tables) -> Option<u32>
     requires { Triable q.now ends.now work.old t }
     ensures { Tried (policy_of q.now) work.old work.new t result }
 {
@@ -381,12 +345,12 @@ pub fn first_split_failure(q: &[u32], work: &mut [u32], ends: &[u64], t: Tables)
 }
 
 // The same, with the constraints whole first: who takes them takes every combination, and then none is tried.
-pub fn first_failure(q: &[u32], work: &mut [u32], ends: &[u64], t: Tables) -> u32
+pub fn first_failure(q: &[u32], work: &mut [u32], ends: &[u64], t: Tables) -> Option<u32>
     requires { Triable q.now ends.now work.old t }
     ensures { Tried (policy_of q.now) work.old work.new t result }
 {
     if is_taken_whole(q, work, t) {
-        return 0;
+        return None;
     }
     first_split_failure(q, work, ends, t)
 }

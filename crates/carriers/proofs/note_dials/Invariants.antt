@@ -1,13 +1,8 @@
 -- `note_dials`: whatever is noted, no individual is in a list.
-use Prim.Native.Nat.{◌≤◌}
 use mathlib.Core.Path.{◌≡◌}
 use lib.ListN.{length}
 use Rattle.carriers.specs.Carriers.{Unlisted}
 use Rattle.carriers.proofs.note_dials.Given as goal
 
 abbrev pub invariant-loop-d : goal.invariant-loop-d
-invariant-loop-d l =
-    (l.d ≤ length l.dials) × (length l.carriers ≡ length l.initial.carriers) × Unlisted l.carriers l.t.individuals
-
-abbrev pub decreases-loop-d : goal.decreases-loop-d
-decreases-loop-d l = l.d
+invariant-loop-d l = (length l.carriers ≡ length l.initial.carriers) × Unlisted l.carriers l.t.individuals

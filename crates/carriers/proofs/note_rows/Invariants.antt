@@ -5,7 +5,4 @@ use Rattle.carriers.proofs.Linking.{Linking}
 use Rattle.carriers.proofs.note_rows.Given as goal
 
 abbrev pub invariant-loop-j : goal.invariant-loop-j
-invariant-loop-j l = (length l.carriers ≡ length l.initial.carriers) × Linking l.carriers l.work l.initial.j l.j
-
-abbrev pub decreases-loop-j : goal.decreases-loop-j
-decreases-loop-j l = l.j
+invariant-loop-j l = (length l.carriers ≡ length l.initial.carriers) × Linking l.carriers l.work l.fn.t.individuals l.j

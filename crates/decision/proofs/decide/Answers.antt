@@ -1,3 +1,4 @@
+use borrow.Author.Rules.{rules}
 use mathlib.Core.Path.{◌∙◌, ap, refl}
 use lib.ListN.{length}
 use native.Mathlib.Omega.{arith}
@@ -19,8 +20,8 @@ tabulate-t-requires c =
     let r = c.requires.0 in
     term_ready r.1.ready.prepared (omega arith) i.1 (i.0 r.0 r.1) c.loop-k-test.true
 
-pub failure_of-c-requires : goal.failure_of-c-requires
-failure_of-c-requires c =
+pub failure_of-requires : goal.failure_of-requires
+failure_of-requires c =
     let i = c.loop-k.invariant in
     let r = c.requires.0 in
     let a = i.0 r.0 r.1 in
@@ -28,21 +29,21 @@ failure_of-c-requires c =
     λ h. term_triable (prepared_kept i.1 r.1.ready.prepared) (asking_term a n).named c.tabulate-t.ensures h r.1.ready.second c.requires.1 (term_few _ a n)
 
 pub report-requires : goal.report-requires
-report-requires c = term_standing c.tabulate-t.ensures c.failure_of-c.ensures
+report-requires c = term_standing c.tabulate-t.ensures c.failure_of.ensures
 
-pub shape_of-work-then-c-ne0 : goal.shape_of-work-then-c-ne0
-shape_of-work-then-c-ne0 c = c.failure_of-c.ensures.only.size ∙ c.tabulate-t.ensures.only.size ∙ c.loop-k.invariant.1.size
+pub shape_of-work-in-Some : goal.shape_of-work-in-Some
+shape_of-work-in-Some c = c.failure_of.ensures.only.size ∙ c.tabulate-t.ensures.only.size ∙ c.loop-k.invariant.1.size
 
-pub shape_of-out-then-c-ne0 : goal.shape_of-out-then-c-ne0
-shape_of-out-then-c-ne0 c = c.report.ensures.out_len_unchanged ∙ ap length c.loop-k.invariant.2
+pub shape_of-out-in-Some : goal.shape_of-out-in-Some
+shape_of-out-in-Some c = c.report.ensures.out_len_unchanged ∙ ap length c.loop-k.invariant.2
 
-pub returns-then-c-ne0 : goal.returns-then-c-ne0
-returns-then-c-ne0 c =
+pub returns-in-Some : goal.returns-in-Some
+returns-in-Some c =
     let i = c.loop-k.invariant in
     let n = c.loop-k-test.true in
     let d = c.tabulate-t.ensures in
-    let g = c.failure_of-c.ensures in
-    let r = c.report.ensures in record { decides = λ v a. term_fails _ (i.0 v a) n (prepared_kept i.1 a.ready.prepared) d g c.if-c-ne0.true i.2 r.reports; only = only_then i.1 (term_only d g); out_len_unchanged = r.out_len_unchanged ∙ ap length i.2 }
+    let g = c.failure_of.ensures in
+    let r = c.report.ensures in record { decides = λ v a. term_fails _ (i.0 v a) n (prepared_kept i.1 a.ready.prepared) d g c.in-Some.is i.2 r.reports; only = only_then i.1 (term_only d g); out_len_unchanged = r.out_len_unchanged ∙ ap length i.2 }
 
 pub overflow_add-s : goal.overflow_add-s
 overflow_add-s c = omega (arith, asking_room (c.loop-k.invariant.0 c.requires.0.0 c.requires.0.1) c.loop-k-test.true)
@@ -55,8 +56,8 @@ loop-k-preserved c =
     let i = c.loop-k.invariant in
     let n = c.loop-k-test.true in
     let d = c.tabulate-t.ensures in
-    let g = c.failure_of-c.ensures in (
-      λ v a. term_passes _ (i.0 v a) n (prepared_kept i.1 a.ready.prepared) d g c.if-c-ne0.false c.next_of-k.ensures,
+    let g = c.failure_of.ensures in (
+      λ v a. term_passes _ (i.0 v a) n (prepared_kept i.1 a.ready.prepared) d g (search rules) c.next_of-k.ensures,
       only_then i.1 (term_only d g),
       i.2,
     )

@@ -1,8 +1,10 @@
 use borrow.Author.Rules.{rules}
-use mathlib.Core.Path.{refl}
+use mathlib.Core.Path.{◌≡◌, refl}
+use Rattle.std.specs.Prelude.{Some}
+use Rattle.retest.specs.declared.State.TheVariants.{Rests}
 use native.Mathlib.Omega.{arith}
-use Rattle.retest.proofs.Carried.{list_ends, list_falls, list_found, list_on, list_row, list_starts}
-use Rattle.retest.proofs.Conjuncts.{class_told, impossible_told, individual_few, kind_other, recalled_fails, recalled_noted, recalled_passes, recalled_pending, settled_small}
+use Rattle.retest.proofs.Carried.{walk_ends, walk_falls, walk_found, walk_on, walk_row, walk_starts}
+use Rattle.retest.proofs.Conjuncts.{class_told, impossible_told, individual_few, kind_other, recalled_fails, recalled_noted, recalled_passes, recalled_pending}
 use Rattle.retest.proofs.Conjuncts.{role_below, role_carried, role_none, role_noted, role_open, role_still}
 use Rattle.retest.proofs.Conjuncts.{test_asked, test_ends, test_fails, test_on, test_starts}
 use Rattle.retest.proofs.Successors.{row_other, row_own, still_ends, still_falls, still_found, still_listed, still_on, still_row, still_starts}
@@ -27,23 +29,23 @@ test-loop-at-preserved t c = (search rules, search rules, search test_on)
 pub test-returns : goal.test-returns
 test-returns t c = search (rules, test_ends)
 
-pub test_carriers-loop-y-init : goal.test_carriers-loop-y-init
-test_carriers-loop-y-init t c = (search rules, search list_starts)
+pub test_carriers-loop-next-init : goal.test_carriers-loop-next-init
+test_carriers-loop-next-init t c = (search rules, search walk_starts)
 
 pub test_carriers-test_row-one-requires : goal.test_carriers-test_row-one-requires
-test_carriers-test_row-one-requires t c = search (rules, list_row)
+test_carriers-test_row-one-requires t c = search (rules, walk_row)
 
 pub test_carriers-returns-then-one : goal.test_carriers-returns-then-one
-test_carriers-returns-then-one t c = search list_found
+test_carriers-returns-then-one t c = search walk_found
 
-pub test_carriers-loop-y-smaller : goal.test_carriers-loop-y-smaller
-test_carriers-loop-y-smaller t c = search list_falls
+pub test_carriers-loop-next-smaller : goal.test_carriers-loop-next-smaller
+test_carriers-loop-next-smaller t c = search walk_falls
 
-pub test_carriers-loop-y-preserved : goal.test_carriers-loop-y-preserved
-test_carriers-loop-y-preserved t c = (search rules, search list_on)
+pub test_carriers-loop-next-preserved : goal.test_carriers-loop-next-preserved
+test_carriers-loop-next-preserved t c = (search rules, search walk_on)
 
 pub test_carriers-returns : goal.test_carriers-returns
-test_carriers-returns t c = search (rules, list_ends)
+test_carriers-returns t c = search (rules, walk_ends)
 
 pub test_conjunct-test_recalled-requires : goal.test_conjunct-test_recalled-requires
 test_conjunct-test_recalled-requires t c = search (rules, kind_other)
@@ -54,17 +56,17 @@ test_conjunct-returns-in-1 t c = search (rules, class_told)
 pub test_conjunct-returns-in-2 : goal.test_conjunct-returns-in-2
 test_conjunct-returns-in-2 t c = search (rules, impossible_told)
 
-pub test_recalled-returns-then-state-eq-PASSES : goal.test_recalled-returns-then-state-eq-PASSES
-test_recalled-returns-then-state-eq-PASSES t c = search (rules, recalled_passes)
+pub test_recalled-returns-in-Some-Passes : goal.test_recalled-returns-in-Some-Passes
+test_recalled-returns-in-Some-Passes t c = search (rules, recalled_passes)
 
-pub test_recalled-returns-then-state-eq-FAILS : goal.test_recalled-returns-then-state-eq-FAILS
-test_recalled-returns-then-state-eq-FAILS t c = search (rules, recalled_fails)
+pub test_recalled-returns-in-Some-Fails : goal.test_recalled-returns-in-Some-Fails
+test_recalled-returns-in-Some-Fails t c = search (rules, recalled_fails)
 
 pub test_recalled-test_anew-one-requires : goal.test_recalled-test_anew-one-requires
 test_recalled-test_anew-one-requires t c = search (rules, recalled_pending)
 
 pub test_recalled-remember-requires : goal.test_recalled-remember-requires
-test_recalled-remember-requires t c = search (individual_few, settled_small)
+test_recalled-remember-requires t c = search (rules, individual_few)
 
 pub test_recalled-returns-then-one-eq0 : goal.test_recalled-returns-then-one-eq0
 test_recalled-returns-then-one-eq0 t c = let p = c.requires in recalled_noted p.asked c.slot_of-slot.ensures c.recall-state.ensures c.test_anew-one.ensures c.if-one-eq0.true c.settled.ensures c.remember.ensures
@@ -72,8 +74,8 @@ test_recalled-returns-then-one-eq0 t c = let p = c.requires in recalled_noted p.
 pub test_role-test_carriers-requires : goal.test_role-test_carriers-requires
 test_role-test_carriers-requires t c = search (rules, role_below)
 
-pub test_role-returns-then-state-eq-OPEN : goal.test_role-returns-then-state-eq-OPEN
-test_role-returns-then-state-eq-OPEN t c = search (rules, role_open)
+pub test_role-returns-in-Some-Rests : goal.test_role-returns-in-Some-Rests
+test_role-returns-in-Some-Rests t c = let e : c.args.state ≡ Some Rests = search rules in search (rules, role_open)
 
 pub test_role-test_still-still-requires : goal.test_role-test_still-still-requires
 test_role-test_still-still-requires t c = search (rules, role_below)

@@ -4,8 +4,9 @@ use Prim.Native.Nat.{◌*◌, ◌+◌, ◌-◌}
 use mathlib.Core.Path.{◌≡◌}
 use lib.ListN.{length}
 use Rattle.meaning.specs.Records.{falling, last_of}
+use Rattle.std.specs.Prelude.{unwrap_or}
 use Rattle.retest.specs.Memory.{Sure}
-use Rattle.retest.proofs.Carried.{Carrying}
+use Rattle.retest.proofs.Carried.{Walking}
 use Rattle.retest.proofs.Conjuncts.{Rest}
 use Rattle.retest.proofs.Successors.{Seeking}
 use Rattle.policy.proofs.Conjuncts.{Going}
@@ -26,11 +27,11 @@ decreases-test_anew l = 8 * l.left + 4
 abbrev pub decreases-test_carriers : goal.decreases-test_carriers
 decreases-test_carriers l = 8 * l.left + 2
 
-abbrev pub invariant-test_carriers-loop-y : goal.invariant-test_carriers-loop-y
-invariant-test_carriers-loop-y l = (length l.memory ≡ length l.initial.memory) × Carrying l.q l.dials l.carriers l.work l.t l.memory l.left l.k l.x l.r.0 l.all l.y
+abbrev pub invariant-test_carriers-loop-next : goal.invariant-test_carriers-loop-next
+invariant-test_carriers-loop-next l = (length l.memory ≡ length l.initial.memory) × Walking l.q l.dials l.carriers l.work l.t l.memory l.left l.k l.x l.r.0 l.all l.next
 
-abbrev pub decreases-test_carriers-loop-y : goal.decreases-test_carriers-loop-y
-decreases-test_carriers-loop-y l = falling l.t.individuals l.y
+abbrev pub decreases-test_carriers-loop-next : goal.decreases-test_carriers-loop-next
+decreases-test_carriers-loop-next l = falling l.t.individuals (unwrap_or l.next 0)
 
 abbrev pub decreases-test_conjunct : goal.decreases-test_conjunct
 decreases-test_conjunct l = 8 * l.left + 6

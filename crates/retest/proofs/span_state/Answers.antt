@@ -1,25 +1,16 @@
 use borrow.Author.Rules.{rules}
-use native.Mathlib.Omega.{arith}
-use Rattle.retest.proofs.Spans.{passed_starts, spans_behind, spans_end, spans_found, spans_on}
+use Rattle.retest.proofs.Spans.{spans_behind, spans_end, spans_fails, spans_found, spans_rests}
 use Rattle.retest.proofs.span_state.Goals as goal
-
-pub loop-m-init : goal.loop-m-init
-loop-m-init c = search (rules, passed_starts)
+use Rattle.retest.proofs.span_state.Goals.{in-Fails, in-Rests}
 
 pub returns-then-holder_of-x : goal.returns-then-holder_of-x
 returns-then-holder_of-x c = search (rules, spans_behind)
 
-pub returns-then-one-eq-PASSES : goal.returns-then-one-eq-PASSES
-returns-then-one-eq-PASSES c = search (rules, spans_found)
-
-pub overflow_add-m : goal.overflow_add-m
-overflow_add-m c = omega arith
-
-pub loop-m-smaller : goal.loop-m-smaller
-loop-m-smaller c = omega arith
+pub returns-in-Passes : goal.returns-in-Passes
+returns-in-Passes c = search (rules, spans_found)
 
 pub loop-m-preserved : goal.loop-m-preserved
-loop-m-preserved c = search spans_on
+loop-m-preserved c = elim c.match-constraint_state.branch [ in-Fails w ↦ search (rules, spans_fails) | in-Rests w ↦ search (rules, spans_rests) ]
 
 pub returns : goal.returns
 returns c = search (rules, spans_end)

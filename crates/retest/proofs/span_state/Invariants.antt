@@ -1,10 +1,6 @@
 -- `span_state`: no constraint before m lies inside whole; where the state is that none may pass, none before m may.
-use Prim.Native.Nat.{◌-◌}
 use Rattle.retest.proofs.Spans.{Passed}
 use Rattle.retest.proofs.span_state.Given as goal
 
 abbrev pub invariant-loop-m : goal.invariant-loop-m
-invariant-loop-m l = Passed l.work l.t l.x l.f.0 l.lo l.hi l.state l.m
-
-abbrev pub decreases-loop-m : goal.decreases-loop-m
-decreases-loop-m l = l.t.constraints - l.m
+invariant-loop-m l = Passed l.work l.fn.t l.x l.f.0 l.lo l.hi l.state l.m

@@ -1,12 +1,6 @@
 -- `test_dials`: the dials before d that may pass are in the mask, and their pieces do not lie inside.
-use Prim.Native.Nat.{◌-◌, ◌≤◌}
-use mathlib.Core.Path.{◌≡◌}
-use lib.ListN.{length}
 use Rattle.retest.proofs.Dials.{Missed}
 use Rattle.retest.proofs.test_dials.Given as goal
 
 abbrev pub invariant-loop-d : goal.invariant-loop-d
-invariant-loop-d l = (l.d ≤ length l.dials) × (l.d-end ≡ length l.dials) × Missed l.dials l.work l.x l.f.0 l.lo l.hi l.all l.d
-
-abbrev pub decreases-loop-d : goal.decreases-loop-d
-decreases-loop-d l = l.d-end - l.d
+invariant-loop-d l = Missed l.dials l.work l.x l.f.0 l.lo l.hi l.all l.d

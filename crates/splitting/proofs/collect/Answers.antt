@@ -15,8 +15,5 @@ loop-k-smaller c = search collecting_falls
 pub loop-k-preserved : goal.loop-k-preserved
 loop-k-preserved c = search collecting_on
 
-pub shape_of-ends : goal.shape_of-ends
-shape_of-ends c = c.loop-k.invariant.same
-
 pub returns : goal.returns
 returns c = collecting_ends c.loop-k.invariant (λ i. omega (arith, c.type_inv.q i)) c.loop-k-test.false

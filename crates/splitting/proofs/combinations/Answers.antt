@@ -1,18 +1,6 @@
-use mathlib.Core.Path.{refl}
 use native.Mathlib.Omega.{arith}
-use Rattle.splitting.proofs.Ways.{full_at, product_fits, ways_end, ways_more, ways_past}
+use Rattle.splitting.proofs.Ways.{ways_end, ways_more, ways_past}
 use Rattle.splitting.proofs.combinations.Goals as goal
-
-pub loop-i-init : goal.loop-i-init
-loop-i-init c = (omega arith, omega arith, λ Q m. refl)
-
-pub count-all-requires : goal.count-all-requires
-count-all-requires c = full_at c.requires c.loop-i-test.true c.lo_of-lo.ensures c.hi_of-hi.ensures
-
-pub overflow_mul-all : goal.overflow_mul-all
-overflow_mul-all c =
-    let l = c.loop-i in
-    omega (arith, product_fits l.all c.count-all.result l.invariant.1 c.count-all.ensures.lower_bound.1)
 
 pub returns-then-all-gt-MOST_COMBINATIONS : goal.returns-then-all-gt-MOST_COMBINATIONS
 returns-then-all-gt-MOST_COMBINATIONS c =

@@ -4,8 +4,8 @@ use Rattle.meaning.specs.Limits.{most_combinations}
 use Rattle.splitting.proofs.Most.{Within}
 use Rattle.splitting.proofs.may_exceed.Given as goal
 
-abbrev pub invariant-loop-i : goal.invariant-loop-i
-invariant-loop-i l = (l.i ≤ l.n) × (l.all ≤ most_combinations) × Within l.ends l.i l.all
+abbrev pub invariant-loop-constraint : goal.invariant-loop-constraint
+invariant-loop-constraint l = (l._constraint ≤ l.n) × (l.all ≤ most_combinations) × Within l.ends l._constraint l.all
 
-abbrev pub decreases-loop-i : goal.decreases-loop-i
-decreases-loop-i l = l.n - l.i
+abbrev pub decreases-loop-constraint : goal.decreases-loop-constraint
+decreases-loop-constraint l = l.n - l._constraint

@@ -1,11 +1,9 @@
 use borrow.Author.Rules.{rules}
-use native.Mathlib.Omega.{arith}
-use Rattle.subsumption.proofs.Conjuncts.{class_told, impossible_told, interval_told, some_level, some_testable, some_told}
 use Rattle.subsumption.proofs.Conjuncts.{test_asked, test_ends, test_fails, test_on, test_starts}
 use Rattle.subsumption.proofs.Successors.{walk_ends, walk_falls, walk_found, walk_other, walk_past, walk_starts}
 use Rattle.policy.proofs.Conjuncts.{going_falls}
 use Rattle.subsumption.proofs.+test_test_conjunct_test_successors.Goals as goal
-use Rattle.subsumption.proofs.+test_test_conjunct_test_successors.Goals.{test_successors-else-role-r, test_successors-then-role-r+else-test}
+use Rattle.subsumption.proofs.+test_test_conjunct_test_successors.Goals.{test_successors-else-role-r-via-else-role-r, test_successors-else-role-r-via-then-role-r+else-test}
 
 pub test-loop-at-init : goal.test-loop-at-init
 test-loop-at-init t c = search test_starts
@@ -25,26 +23,8 @@ test-loop-at-preserved t c = search test_on
 pub test-returns : goal.test-returns
 test-returns t c = search (rules, test_ends)
 
-pub test_conjunct-test_successors-requires : goal.test_conjunct-test_successors-requires
-test_conjunct-test_successors-requires t c = search (rules, some_level, some_testable)
-
-pub test_conjunct-returns-in-1 : goal.test_conjunct-returns-in-1
-test_conjunct-returns-in-1 t c = search (rules, class_told)
-
-pub test_conjunct-returns-in-2 : goal.test_conjunct-returns-in-2
-test_conjunct-returns-in-2 t c = search (rules, impossible_told)
-
-pub test_conjunct-returns-in-3 : goal.test_conjunct-returns-in-3
-test_conjunct-returns-in-3 t c = search some_told
-
-pub test_conjunct-returns-in_default : goal.test_conjunct-returns-in_default
-test_conjunct-returns-in_default t c = search interval_told
-
 pub test_successors-loop-j-init : goal.test_successors-loop-j-init
 test_successors-loop-j-init t c = search walk_starts
-
-pub test_successors-test-requires : goal.test_successors-test-requires
-test_successors-test-requires t c = (omega arith, (search rules, record { some = omega arith; within = omega arith }))
 
 pub test_successors-returns-then-test : goal.test_successors-returns-then-test
 test_successors-returns-then-test t c = search (rules, walk_found)
@@ -53,7 +33,7 @@ pub test_successors-loop-j-smaller : goal.test_successors-loop-j-smaller
 test_successors-loop-j-smaller t c = search walk_falls
 
 pub test_successors-loop-j-preserved : goal.test_successors-loop-j-preserved
-test_successors-loop-j-preserved t c = elim c.if-role-r.branch [ test_successors-then-role-r+else-test w ↦ search walk_past | test_successors-else-role-r w ↦ search walk_other ]
+test_successors-loop-j-preserved t c = elim c.else-role-r.branch [ test_successors-else-role-r-via-then-role-r+else-test w ↦ search walk_past | test_successors-else-role-r-via-else-role-r w ↦ search walk_other ]
 
 pub test_successors-returns : goal.test_successors-returns
 test_successors-returns t c = search (rules, walk_ends)

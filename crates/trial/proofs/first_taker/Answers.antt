@@ -8,8 +8,8 @@ loop-k-init c = (search rules, search seeking_starts)
 pub taken_by-one-requires : goal.taken_by-one-requires
 taken_by-one-requires c = let g = c.loop-k.invariant.1 in (g.askable, seeking_known g c.loop-k-test.true)
 
-pub returns-then-one-ne0 : goal.returns-then-one-ne0
-returns-then-one-ne0 c = search (rules, taking_taker)
+pub returns-then-is_some : goal.returns-then-is_some
+returns-then-is_some c = search (rules, taking_taker)
 
 pub loop-k-smaller : goal.loop-k-smaller
 loop-k-smaller c = search seeking_falls

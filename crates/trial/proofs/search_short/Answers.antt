@@ -1,7 +1,0 @@
--- `search_short`.
-use native.Mathlib.Omega.{arith}
-use Rattle.trial.proofs.Keeping.{blank}
-use Rattle.trial.proofs.search_short.Goals as goal
-
-pub search_in-requires : goal.search_in-requires
-search_in-requires c = record { searchable = c.requires; carriers_end_in_bounds = (omega arith, blank 2048, blank 256) }
