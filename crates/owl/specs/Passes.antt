@@ -11,7 +11,6 @@ use Rattle.statements.specs.Forms.{Statement, feature, ontology, parsed, role}
 use Rattle.statements.specs.Found.{stated_of}
 use Rattle.statements.specs.declared.Axiom.{Axiom as Form}
 use Rattle.statements.specs.declared.Axiom.TheVariants.{Below, Disjoint, FunctionalFeature, FunctionalRole, Range}
-use Rattle.owl.specs.declared.Source.{Source}
 use Rattle.tokens.specs.Tokens.{tokens}
 use Rattle.words.specs.Members.{members}
 use Rattle.words.specs.Sets.{capacity, including_all}
@@ -31,11 +30,6 @@ pub record Ready (text table : List ℕ) (c : Counts) : Type 0 where
   pub counts : c ≡ counts_in (statements_of text)
   pub small : counted c.classes c.roles c.features ≡ true
   pub tabled : Tabled text table (statements_of text)
-
--- the same of a source
-pub record IsReady (s : Source) : Type 0 where
-  pub ready : Ready s.text.now s.table.now s.counts
-  pub begins : Begins s.text.now s.start
 
 -- the kind of an axiom's record
 abbrev pub kind_of : Form → ℕ

@@ -12,7 +12,7 @@ ghost use Rattle.meaning.specs.Vocabulary.{vocabulary_words};
 ghost use Rattle.name_table.specs.Numbers.{number_found, number_of};
 ghost use Rattle.name_table.specs.Table.{Listed, names_from};
 ghost use Rattle.owl.specs.Owl.{OwlPost, axioms_by, axioms_in, vocabulary_in};
-ghost use Rattle.owl.specs.Passes.{Begins, IsReady, Looks, Many, Noted, axioms, first_number, kind_of, naming, second_number, statements_of};
+ghost use Rattle.owl.specs.Passes.{Begins, Looks, Many, Noted, Ready, axioms, first_number, kind_of, naming, second_number, statements_of};
 ghost use Rattle.records.specs.Written.{Room, RoomFor, Written, link_at};
 ghost use Rattle.statements.specs.Forms.{ontology};
 ghost use Rattle.statements.specs.Found.{AxiomWithin, NameWithin, SaidWithin, stated_of, statement_of, use_of};
@@ -37,6 +37,9 @@ struct Source<'a> {
     start: usize,
     table: &'a [u32],
     counts: Counts,
+    ghost ready: { Ready text.now table.now counts },
+    ghost begins: { Begins text.now start },
+    ghost short: { length text.now ≤ most_text },
 }
 
 impl<'a> Source<'a> {
@@ -59,7 +62,7 @@ impl<'a> Source<'a> {
 
     // The number of a name in its sort.
     fn number(&self, name: NameOf) -> Option<u32>
-        requires { IsReady self.now × NameWithin self.now.text.now name }
+        requires { NameWithin self.now.text.now name }
         ensures { result ≡ number_found (number_in (statements_of self.now.text.now) (use_of self.now.text.now name)) }
     {
         let counts = self.counts;
@@ -72,7 +75,7 @@ impl<'a> Source<'a> {
 
     // The number of an axiom's first name, by the sort that its place needs.
     fn first_number(&self, stated: Axiom) -> Option<u32>
-        requires { IsReady self.now × AxiomWithin self.now.text.now stated }
+        requires { AxiomWithin self.now.text.now stated }
         ensures { result ≡ number_found (first_number self.now.text.now stated) }
     {
         match stated {
@@ -84,7 +87,7 @@ impl<'a> Source<'a> {
 
     // The number of its second name, a class.
     fn second_number(&self, stated: Axiom) -> Option<u32>
-        requires { IsReady self.now × AxiomWithin self.now.text.now stated }
+        requires { AxiomWithin self.now.text.now stated }
         ensures { result ≡ number_found (second_number self.now.text.now stated) }
     {
         match stated {
@@ -99,7 +102,7 @@ impl<'a> Source<'a> {
 
     // Whether an axiom's names are declared. A role or a feature that it makes functional goes into a set.
     fn is_stated_known(&self, stated: Axiom, roles: &mut [u32], features: &mut [u32]) -> bool
-        requires { IsReady self.now × AxiomWithin self.now.text.now stated }
+        requires { AxiomWithin self.now.text.now stated }
         ensures { Looks (statements_of self.now.text.now) (stated_of self.now.text.now stated) result roles.old roles.new features.old features.new }
     {
         let Some(first) = self.first_number(stated) else {
@@ -121,7 +124,7 @@ impl<'a> Source<'a> {
 
     // The same of a statement: a declaration needs no name.
     fn is_known(&self, says: Said, roles: &mut [u32], features: &mut [u32]) -> bool
-        requires { IsReady self.now × SaidWithin self.now.text.now says }
+        requires { SaidWithin self.now.text.now says }
         ensures { Looks (statements_of self.now.text.now) (statement_of self.now.text.now says) result roles.old roles.new features.old features.new }
     {
         match says {
@@ -132,7 +135,6 @@ impl<'a> Source<'a> {
 
     // Whether the names of every axiom are declared. On the way the functional ones are noted, so that the text is not read again for them.
     fn are_known(&self, roles: &mut [u32], features: &mut [u32]) -> bool
-        requires { IsReady self.now }
         ensures value { result ≡ all (is_known (statements_of self.now.text.now)) (statements_of self.now.text.now) }
         ensures noted { result ≡ true → Noted (axioms_in (statements_of self.now.text.now)) roles.old roles.new features.old features.new }
     {
@@ -153,7 +155,6 @@ impl<'a> Source<'a> {
 
     // No name is declared twice in a sort, and every axiom's names are declared.
     fn are_sound(&self, roles: &mut [u32], features: &mut [u32]) -> bool
-        requires { IsReady self.now }
         ensures value { result ≡ sound_names (statements_of self.now.text.now) }
         ensures noted { result ≡ true → Noted (axioms_in (statements_of self.now.text.now)) roles.old roles.new features.old features.new }
     {
@@ -174,8 +175,7 @@ impl<'a> Source<'a> {
 
     // A record for each axiom, in text order, from record 1 on.
     fn write_axioms(&self, last: usize, out: &mut [u32]) -> usize
-        requires ready { IsReady self.now }
-        requires room_for { RoomFor 4 last 1 (axioms_in (statements_of self.now.text.now)) out.old }
+        requires { RoomFor 4 last 1 (axioms_in (statements_of self.now.text.now)) out.old }
         ensures { Written axioms last 1 (axioms_in (statements_of self.now.text.now)) out.old out.new result }
     {
         let mut at = self.start;
@@ -203,7 +203,7 @@ impl<'a> Source<'a> {
 
     // The header and all records: the axioms, then the roles and the features that have many values.
     fn write_all(&self, last: usize, roles: &[u32], features: &[u32], out: &mut [u32])
-        requires ready { IsReady self.now × Many self.now.text.now roles.now features.now }
+        requires many { Many self.now.text.now roles.now features.now }
         requires room_for { RoomFor 4 last 1 (vocabulary_in (statements_of self.now.text.now)).axioms out.old × (last ≡ length (vocabulary_in (statements_of self.now.text.now)).axioms) }
         ensures { out.new ≡ output_after (vocabulary_words (vocabulary_in (statements_of self.now.text.now))) out.old }
     {
@@ -226,8 +226,7 @@ impl<'a> Source<'a> {
 
     // With all that is to be written: too many records, too short an output, or the words.
     fn write(&self, roles: &[u32], features: &[u32], out: &mut [u32]) -> Result<usize, Refusal>
-        requires ready { IsReady self.now × (length self.now.text.now ≤ most_text) }
-        requires text_value { (sound_names (statements_of self.now.text.now) ≡ true) × Many self.now.text.now roles.now features.now }
+        requires { (sound_names (statements_of self.now.text.now) ≡ true) × Many self.now.text.now roles.now features.now }
         ensures { OwlPost self.now.text.now out.old out.new result }
     {
         let axioms = self.counts.axioms;
@@ -245,7 +244,6 @@ impl<'a> Source<'a> {
 
     // Names that are not sound are refused; else what follows.
     fn finish(&self, out: &mut [u32]) -> Result<usize, Refusal>
-        requires { IsReady self.now × (length self.now.text.now ≤ most_text) }
         ensures { OwlPost self.now.text.now out.old out.new result }
     {
         let mut roles = [0u32; NAME_WORDS];

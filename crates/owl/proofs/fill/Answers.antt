@@ -9,7 +9,7 @@ list_names-requires c =
     let p = c.requires in
     table_fits p.begins.0 p.begins.2 p.small (length-replicate {A = ℕ} table_size 0) p.begins.1
 
-pub finish-requires : goal.finish-requires
-finish-requires c =
+pub invariant_of-source : goal.invariant_of-source
+invariant_of-source c =
     let p = c.requires in
-    (record { ready = ready p.begins.0 p.begins.2 p.small c.list_names.ensures; begins = p.begins.0 }, p.begins.1)
+    record { ready = ready p.begins.0 p.begins.2 p.small c.list_names.ensures; begins = p.begins.0; short = p.begins.1 }

@@ -2,7 +2,7 @@ use Rattle.owl.proofs.Passes.{knowing_ends, knowing_on, knowing_starts}
 use Rattle.owl.proofs.Source.are_known.Goals as goal
 
 pub loop-item-init : goal.loop-item-init
-loop-item-init c = knowing_starts c.requires.ready c.requires.begins _ _
+loop-item-init c = knowing_starts c.args.self.now.ready c.args.self.now.begins _ _
 
 pub loop-item-preserved : goal.loop-item-preserved
 loop-item-preserved c =
