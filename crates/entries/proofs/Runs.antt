@@ -36,9 +36,6 @@ items_front {w} {o} h n = record { long = h.long; known = λ j. known o n j h.kn
     known (x ∷ l) (suc n) zero h = h 0
     known (x ∷ l) (suc n) (suc j) h = known l n j (λ i. h (suc i))
 
-pub tail_whole : (l : List ℕ) (i : ℕ) → take (length l - i) (drop i l) ≡ drop i l
-tail_whole l i = rw (← length-drop i l) (take-length (drop i l))
-
 -- ---- the entries from one place on
 
 module _ (w ds o : List ℕ) where

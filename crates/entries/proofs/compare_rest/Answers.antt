@@ -1,5 +1,7 @@
+use Rattle.std.proofs.lemmas.Slice.{between_to_end}
+use lib.ListN.{length}
 use native.Mathlib.Omega.{arith}
-use Rattle.entries.proofs.Runs.{along_comparable, along_ends, along_inside, along_more, along_starts, along_told, tail_whole}
+use Rattle.entries.proofs.Runs.{along_comparable, along_ends, along_inside, along_more, along_starts, along_told}
 use Rattle.entries.proofs.compare_rest.Goals as goal
 
 pub loop-i-init : goal.loop-i-init
@@ -15,20 +17,20 @@ pub compare_step-step-requires : goal.compare_step-step-requires
 compare_step-step-requires c =
     let a = c.args in
     let l = c.loop-i in
-    rw (tail_whole a.x.now l.i, tail_whole a.y.now l.i) (along_comparable a.work.now a.depths.now l.invariant c.requires.0.first c.requires.0.second c.loop-i-test.true)
+    rw (between_to_end a.x.now l.i (length a.x.now) (omega arith), between_to_end a.y.now l.i (length a.y.now) (omega arith)) (along_comparable a.work.now a.depths.now l.invariant c.requires.0.first c.requires.0.second c.loop-i-test.true)
 
 pub returns-then-is_ne : goal.returns-then-is_ne
 returns-then-is_ne c =
     let a = c.args in
     let l = c.loop-i in
-    let s = rw (tail_whole a.x.now l.i, tail_whole a.y.now l.i) at c.compare_step-step.ensures in
+    let s = rw (between_to_end a.x.now l.i (length a.x.now) (omega arith), between_to_end a.y.now l.i (length a.y.now) (omega arith)) at c.compare_step-step.ensures in
     along_told a.work.now a.depths.now l.invariant s (cc)
 
 pub loop-i-preserved : goal.loop-i-preserved
 loop-i-preserved c =
     let a = c.args in
     let l = c.loop-i in
-    let s = rw (tail_whole a.x.now l.i, tail_whole a.y.now l.i) at c.compare_step-step.ensures in
+    let s = rw (between_to_end a.x.now l.i (length a.x.now) (omega arith), between_to_end a.y.now l.i (length a.y.now) (omega arith)) at c.compare_step-step.ensures in
     along_more a.work.now a.depths.now l.invariant s (cc)
 
 pub returns : goal.returns
