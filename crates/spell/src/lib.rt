@@ -70,14 +70,15 @@ fn file(work: &[u32], t: Tables, out: &mut [u32]) -> Filling
     let mut order = [0; MOST_RECORDS];
     find_depths(work, t.individuals, &mut depths[..]);
     let top = arrange(work, t, &depths[..], &mut order[..]);
-    if is_too_long(work, &depths[..], &order[..], top) {
+    let arranged = &order[top..];
+    if is_too_long(work, &depths[..], arranged) {
         return Filling::Refused(43);
     }
-    let n = size(work, &order[..], top);
+    let n = size(work, arranged);
     if out.len() < n {
         return Filling::Refused(23);
     }
-    write(work, &depths[..], &order[..], top, out);
+    write(work, &depths[..], arranged, out);
     Filling::Written(n)
 }
 
