@@ -3,16 +3,18 @@ use Prim.Native.Nat.{suc, zero, ℕ}
 use mathlib.Core.Bool.{Bool, ◌&&◌, ◌||◌, cond, false, true}
 use mathlib.Core.List.{List, [], ◌++◌, ◌∷◌, append_assoc, append-nil}
 use mathlib.Core.Path.{◌∙◌, ◌≡◌, ap, ap₂, refl, sym}
-use lib.Dec.{eqb, leb-suc-suc, ltb}
+use lib.Dec.{eqb, ltb}
 use native.Mathlib.Omega.{arith}
 use borrow.Author.Tests.{eq-eqb, ltb-false, ltb-true, ne_eqb}
 use Rattle.arrangement.specs.Insertion.{pick}
 use Rattle.arrangement.specs.Runs.{Fronted, chain_items, classes_of, run_of}
 use Rattle.entries.proofs.Ordering.{alike}
 use Rattle.entries.specs.Entries.{Item, class_fields, rest_fields, run_fields, run_key}
-use Rattle.entries.specs.Order.{by_then, order_of}
-use Rattle.entries.specs.declared.Order.{Order}
-use Rattle.entries.specs.declared.Order.TheVariants as order
+use Rattle.entries.specs.Order.{order_of}
+use Rattle.std.proofs.lemmas.Bool.Decides.{nat_tests}
+use Rattle.std.specs.Ordering.{nat_cmp, ordering_then}
+use Rattle.std.specs.declared.cmp.Ordering.{Ordering}
+use Rattle.std.specs.declared.cmp.Ordering.TheVariants.{Equal, Greater, Less}
 use Rattle.meaning.specs.Policy.{Chain, class, end, impossible, interval, some}
 use Rattle.spelling.specs.Order.{is_before}
 use Rattle.spelling.specs.Spelling.{Conjunct, is_in, items, key, reaches, within}
@@ -32,7 +34,7 @@ order_before (x ∷ l) [] a b c = refl
 order_before {A} (x ∷ l) (y ∷ m) a b c = go (ltb x y) (ltb y x) refl refl (order_before l m a b c)
   where
     go : (p q : Bool) → ltb x y ≡ p → ltb y x ≡ q → pick (order_of l m) a b c ≡ cond (is_before l m) a (cond (is_before m l) c b) →
-        pick (cond p order.Before (cond q order.After (order_of l m))) a b c
+        pick (ordering_then (cond p Less (cond (eqb x y) Equal Greater)) (order_of l m)) a b c
         ≡ cond (p || (eqb x y && is_before l m)) a (cond (q || (eqb y x && is_before m l)) c b)
     go true q e f h = refl
     go false true e f h = rw (ne_eqb x y (λ z. let g = ltb-true y x f in omega arith))
@@ -49,14 +51,17 @@ deepened n [] = []
 deepened zero (x ∷ l) = suc x ∷ deepened 4 l
 deepened (suc n) (x ∷ l) = x ∷ deepened n l
 
+suc_cmp : (x y : ℕ) → nat_cmp (suc x) (suc y) ≡ nat_cmp x y
+suc_cmp x y = grind (arith, nat_tests)
+
 deepened_order : (n : ℕ) (l m : List ℕ) → order_of (deepened n l) (deepened n m) ≡ order_of l m
 deepened_order n [] [] = refl
 deepened_order zero [] (y ∷ m) = refl
 deepened_order (suc n) [] (y ∷ m) = refl
 deepened_order zero (x ∷ l) [] = refl
 deepened_order (suc n) (x ∷ l) [] = refl
-deepened_order zero (x ∷ l) (y ∷ m) = rw (leb-suc-suc (suc x) y, leb-suc-suc (suc y) x, deepened_order 4 l m)
-deepened_order (suc n) (x ∷ l) (y ∷ m) = ap (by_then x y) (deepened_order n l m)
+deepened_order zero (x ∷ l) (y ∷ m) = ap₂ ordering_then (suc_cmp x y) (deepened_order 4 l m)
+deepened_order (suc n) (x ∷ l) (y ∷ m) = ap (ordering_then (nat_cmp x y)) (deepened_order n l m)
 
 items_deepened : (d : ℕ) (c : Chain) (rest : List ℕ) → items (suc d) c (deepened 4 rest) ≡ deepened 4 (items d c rest)
 items_deepened d end rest = refl
@@ -107,16 +112,16 @@ below_fields d c h =
 keys_compare : (d : ℕ) (x y : Conjunct) → HasRun x → HasRun y → order_of (run_key (run_of d x)) (run_key (run_of d y)) ≡ order_of (key x) (key y)
 keys_compare d (is_in a) y g h = absurd g
 keys_compare d (within f lo hi) (is_in b) g h = absurd h
-keys_compare d (within f lo hi) (within f' lo' hi') g h = ap (λ (r : Order). by_then f f' (by_then lo lo' (by_then hi hi' r))) (alike d [] [])
+keys_compare d (within f lo hi) (within f' lo' hi') g h = ap (λ (r : Ordering). ordering_then (nat_cmp f f') (ordering_then (nat_cmp lo lo') (ordering_then (nat_cmp hi hi') r))) (alike d [] [])
 keys_compare d (within f lo hi) (reaches r c) g h = refl
 keys_compare d (reaches r b) (is_in a) g h = absurd h
 keys_compare d (reaches r b) (within f lo hi) g h = refl
 keys_compare d (reaches r b) (reaches r' c) g h =
-    ap (by_then r r')
+    ap (ordering_then (nat_cmp r r'))
     (alike d (rest_fields (run_of d (reaches r b))) (rest_fields (run_of d (reaches r' c)))
     ∙ ap₂ order_of (below_fields (suc d) b g) (below_fields (suc d) c h)
     ∙ any_depth d b c)
 
 pub runs_compare : {A : Type 0} (d : ℕ) (x y : Conjunct) → HasRun x → HasRun y → (a b c : A) →
     pick (order_of (run_key (run_of d x)) (run_key (run_of d y))) a b c ≡ cond (is_before (key x) (key y)) a (cond (is_before (key y) (key x)) c b)
-runs_compare d x y g h a b c = ap (λ (r : Order). pick r a b c) (keys_compare d x y g h) ∙ order_before (key x) (key y) a b c
+runs_compare d x y g h a b c = ap (λ (r : Ordering). pick r a b c) (keys_compare d x y g h) ∙ order_before (key x) (key y) a b c

@@ -2,7 +2,7 @@
 use Prim.Native.Nat.{◌+◌, ◌<◌, ◌≤◌, ℕ}
 use mathlib.Core.Bool.{Bool, cond}
 use mathlib.Core.List.{List, [], ◌++◌, ◌∷◌, append_assoc, append-nil}
-use mathlib.Core.Path.{◌∙◌, ◌≡◌, ap, refl, sym}
+use mathlib.Core.Path.{◌∙◌, ◌≡◌, ap, refl, subst, sym}
 use lib.Dec.{eqb, ltb}
 use lib.ListN.{get_or, length}
 use native.Mathlib.Omega.{arith}
@@ -85,11 +85,13 @@ module _ (w ds o : List ℕ) where
         left = sym (behind_not d at h shallow) ∙ x.left ∙ ap (λ (n : ℕ). behind n (items_in w ds o (i + 1) (length o))) s;
       }
 
-  pub ending_last : {i d at : ℕ} → d ≡ depth_at w ds (get_or o i 0) → Ending i d at → length o ≤ at → RunEnds w ds o i at
+  pub ending_last : {i d at : ℕ} → d ≡ depth_at w ds (get_or o i 0) → Ending i d at → length o ≤ at → RunEnds w ds o i (length o)
   ending_last {i} {d} {at} s x h =
       let none = items_none w ds o at (length o) h in
-      record {
-        first = x.low;
+      let l = x.low in
+      let e : at ≡ length o = (let k = x.high in omega arith) in
+      subst (RunEnds w ds o i) e (record {
+        first = l;
         within = x.high;
         run =
             sym (append-nil (items_in w ds o (i + 1) at))
@@ -97,4 +99,4 @@ module _ (w ds o : List ℕ) where
             ∙ x.run
             ∙ ap (λ (n : ℕ). deeper n (items_in w ds o (i + 1) (length o))) s;
         left = none ∙ ap (behind d) (sym none) ∙ x.left ∙ ap (λ (n : ℕ). behind n (items_in w ds o (i + 1) (length o))) s;
-      }
+      })

@@ -9,22 +9,22 @@ use lib.Seq.{length-take-le}
 use native.Mathlib.Omega.{arith}
 use borrow.Author.Tests.{eq-eqb, eqb-true, ltb-false, ltb-true}
 use Rattle.arrangement.specs.Insertion.{behind, deeper, insert_run, pick}
-use Rattle.arrangement.specs.Steps.{FindsPlace, Ready, RunEnds, inserted, is_next}
-use Rattle.entries.proofs.Runs.{item_depth, items_first, items_none, items_split}
+use Rattle.arrangement.specs.Steps.{BelongsAt, Ready, RunEnds, StandsAt, inserted, is_next}
+use Rattle.entries.proofs.Runs.{item_depth, items_behind, items_first, items_front, items_none, items_split}
 use Rattle.entries.specs.Entries.{Comparable, Item, depth_at, item_at, items_in, run_key}
 use Rattle.entries.specs.Order.{order_of}
-use Rattle.entries.specs.declared.Order.{Order}
-use Rattle.entries.specs.declared.Order.TheVariants as order
+use Rattle.std.specs.declared.cmp.Ordering.{Ordering}
+use Rattle.std.specs.declared.cmp.Ordering.TheVariants.{Equal, Greater, Less}
 
 -- ---- one run more, and none
 
-turn : (most d : ℕ) (run : List Item) (y : Item) (l : List Item) (r : Order) → y.fields.depth ≡ d → r ≡ order_of (run_key run) (run_key (y ∷ deeper d l)) →
+turn : (most d : ℕ) (run : List Item) (y : Item) (l : List Item) (r : Ordering) → y.fields.depth ≡ d → r ≡ order_of (run_key run) (run_key (y ∷ deeper d l)) →
     insert_run (suc most) d run (y ∷ l) ≡ pick r (run ++ (y ∷ l)) (y ∷ l) ((y ∷ deeper d l) ++ insert_run most d run (behind d l))
 turn most d run y l r e f =
     let further = (y ∷ deeper d l) ++ insert_run most d run (behind d l) in
     let here = pick (order_of (run_key run) (run_key (y ∷ deeper d l))) (run ++ (y ∷ l)) (y ∷ l) further in
     ap (λ (b : Bool). cond b here (run ++ (y ∷ l))) (eq-eqb y.fields.depth d e)
-    ∙ ap (λ (o : Order). pick o (run ++ (y ∷ l)) (y ∷ l) further) (sym f)
+    ∙ ap (λ (o : Ordering). pick o (run ++ (y ∷ l)) (y ∷ l) further) (sym f)
 
 stop_none : (most d : ℕ) (run : List Item) → insert_run most d run [] ≡ run ++ []
 stop_none zero d run = refl
@@ -80,7 +80,7 @@ module _ (w ds o : List ℕ) where
       pub here : at < length o
       here = (next_is_lem at (length o) (depth_at w ds (get_or o at 0)) d next).0
 
-      module _ {end : ℕ} (y : RunEnds w ds o at end) {r : Order} (told : r ≡ order_of (run_key (items_in w ds o a b)) (run_key (items_in w ds o at end))) where
+      module _ {end : ℕ} (y : RunEnds w ds o at end) {r : Ordering} (told : r ≡ order_of (run_key (items_in w ds o a b)) (run_key (items_in w ds o at end))) where
         abbrev item : Item
         item = item_at w ds (get_or o at 0)
 
@@ -126,26 +126,21 @@ module _ (w ds o : List ℕ) where
         said : (m : ℕ) × (x.most ≡ suc m)
         said = less x.most refl
 
-        picked : {o' : Order} → r ≡ o' → inserted w ds o a
+        picked : {o' : Ordering} → r ≡ o' → inserted w ds o a
             ≡ items_in w ds o b at ++ pick o' (items_in w ds o a b ++ items_in w ds o at (length o)) (items_in w ds o at (length o))
             (items_in w ds o at end ++ insert_run said.0 d (items_in w ds o a b) (items_in w ds o end (length o)))
         picked e =
             told_on said.0 said.1
-            ∙ ap (λ (z : Order). items_in w ds o b at ++ pick z (items_in w ds o a b ++ items_in w ds o at (length o)) (items_in w ds o at (length o))
+            ∙ ap (λ (z : Ordering). items_in w ds o b at ++ pick z (items_in w ds o a b ++ items_in w ds o at (length o)) (items_in w ds o at (length o))
             (items_in w ds o at end ++ insert_run said.0 d (items_in w ds o a b) (items_in w ds o end (length o)))) e
 
-        pub finds_before : r ≡ order.Before → FindsPlace w ds o a b (record { at = at; found = false })
-        finds_before e = record { low = x.low; high = x.high; missing = λ f. picked e; standing = λ f. absurd (let z : T false = subst T (sym f) tt in z) }
+        pub finds_before : r ≡ Less → BelongsAt w ds o a b at
+        finds_before e = record { low = x.low; high = x.high; missing = picked e }
 
-        pub finds_same : r ≡ order.Same → FindsPlace w ds o a b (record { at = at; found = true })
-        finds_same e = record {
-          low = x.low;
-          high = x.high;
-          missing = λ f. absurd (let z : T false = subst T f tt in z);
-          standing = λ f. picked e ∙ sym (items_split w ds o b at (length o) x.low x.high);
-        }
+        pub finds_same : r ≡ Equal → StandsAt w ds o a b at
+        finds_same e = record { low = x.low; high = x.high; standing = picked e ∙ sym (items_split w ds o b at (length o) x.low x.high) }
 
-        pub finds_further : r ≡ order.After → Finding a b d end
+        pub finds_further : r ≡ Greater → Finding a b d end
         finds_further e = record {
           low = (let l = x.low in let f = y.first in omega arith);
           high = y.within;
@@ -158,12 +153,11 @@ module _ (w ds o : List ℕ) where
               (sym (items_split w ds o b at end x.low (let f = y.first in omega arith)));
         }
 
-    pub finds_last : is_next w ds o at d ≡ false → FindsPlace w ds o a b (record { at = at; found = false })
+    pub finds_last : is_next w ds o at d ≡ false → BelongsAt w ds o a b at
     finds_last e = record {
       low = x.low;
       high = x.high;
-      missing = λ f. x.says ∙ ap (λ (l : List Item). items_in w ds o b at ++ l) (go (ltb at (length o)) refl e);
-      standing = λ f. absurd (let z : T false = subst T (sym f) tt in z);
+      missing = x.says ∙ ap (λ (l : List Item). items_in w ds o b at ++ l) (go (ltb at (length o)) refl e);
     }
       where
         go : (c : Bool) → ltb at (length o) ≡ c → c && eqb (depth_at w ds (get_or o at 0)) d ≡ false →
@@ -179,9 +173,17 @@ module _ (w ds o : List ℕ) where
             ∙ stop_none x.most d (items_in w ds o a b)
             ∙ ap (λ (l : List Item). items_in w ds o a b ++ l) (sym i)
 
-  pub comparable : {a b c d : ℕ} → Ready w o a → RunEnds w ds o a b → RunEnds w ds o c d → Comparable w o a b c d
-  comparable g x y = record {
-    known = record { items = g.items; first = x.within; second = y.within };
-    first = x.first;
-    second = y.first;
+  -- the run from a to before b has every entry of the order, and one at least
+  run_some : {a b : ℕ} → RunEnds w ds o a b → 0 < length (take (b - a) (drop a o))
+  run_some {a} {b} x =
+      let f = x.first in
+      let n = x.within in
+      rw (length-take-le (b - a) (drop a o) (simp length-drop (omega arith))) (omega arith)
+
+  pub comparable : {a b c d : ℕ} → Ready w o a → RunEnds w ds o a b → RunEnds w ds o c d → Comparable w (take (b - a) (drop a o)) (take (d - c) (drop c o))
+  comparable {a} {b} {c} {d} g x y = record {
+    first = items_front (items_behind g.items a) (b - a);
+    second = items_front (items_behind g.items c) (d - c);
+    some = run_some x;
+    others = run_some y;
   }

@@ -1,45 +1,49 @@
--- The run at a place moved behind others, by way of spare words. Assumes nothing.
+-- The run at a place moved behind others. Assumes nothing.
 use Prim.Native.Nat.{◌+◌, ◌-◌, ◌≤◌, ℕ}
+use borrow.Rule.Slice.PartMut.{put_mid}
 use mathlib.Core.List.{List, ◌++◌}
-use mathlib.Core.Path.{◌∙◌, ◌≡◌, ap, sym}
-use lib.ListN.{length, length-append}
+use mathlib.Core.Path.{◌∙◌, ◌≡◌, ap, ap₂, sym}
+use lib.ListN.{drop, length, length-append, take}
+use lib.Seq.{drop-drop}
 use native.Mathlib.Omega.{arith}
+use Rattle.std.proofs.lemmas.List.{take-take}
+use Rattle.std.proofs.lemmas.Slice.{between_is}
 use Rattle.arrangement.specs.Steps.{Rotatable, rotated}
-use Rattle.frames.proofs.Rows.{length_row, put_append, put_row}
-use Rattle.frames.specs.Rows.{put_at, row_at}
+use Rattle.frames.proofs.Rows.{length_row}
+use Rattle.frames.specs.Rows.{row_at}
 
--- what is put together in the spare words: the runs the other way round
 module _ {o : List ℕ} {a b c : ℕ} (g : Rotatable o a b c) where
-  pub rotated_whole : (z s t : List ℕ) → c - a ≤ length z → s ≡ put_at z 0 (row_at (c - b) o b) → t ≡ put_at s (c - b) (row_at (b - a) o a) →
-      put_at o a (row_at (c - a) t 0) ≡ rotated o a b c
+  ab : a ≤ b
+  ab = g.first
+
+  bc : b ≤ c
+  bc = g.second
+
+  cn : c ≤ length o
+  cn = g.within
+
+  upper : drop (b - a) (row_at (c - a) o a) ≡ row_at (c - b) o b
+  upper =
+      let e : (c - a) - (b - a) ≡ c - b = (let i = ab in let j = bc in omega arith) in
+      let f : a + (b - a) ≡ b = (let i = ab in omega arith) in
+      sym (between_is (drop a o) (b - a) (c - a)) ∙ ap₂ take e (drop-drop (b - a) a o ∙ ap (λ (n : ℕ). drop n o) f)
+
+  lower : take (b - a) (row_at (c - a) o a) ≡ row_at (b - a) o a
+  lower = take-take (b - a) (c - a) (drop a o) (let j = bc in omega arith)
+
+  many : a + length (row_at (c - b) o b ++ row_at (b - a) o a) ≡ c
+  many =
+      let l = length-append (row_at (c - b) o b) (row_at (b - a) o a) in
+      let u = length_row (c - b) o b (let j = bc in let k = cn in omega arith) in
+      let v = length_row (b - a) o a (let i = ab in let j = bc in let k = cn in omega arith) in
+      let i = ab in
+      let j = bc in
+      omega arith
+
+  pub rotated_whole : {s : List ℕ} → s ≡ drop (b - a) (row_at (c - a) o a) ++ take (b - a) (row_at (c - a) o a) → put_mid a (c - a) o s ≡ rotated o a b c
   unfolding rotated
-  rotated_whole z s t h e f = ap (put_at o a) (ap (λ (x : List ℕ). row_at (c - a) x 0) both ∙ read)
-    where
-      ab : a ≤ b
-      ab = g.first
-
-      bc : b ≤ c
-      bc = g.second
-
-      cn : c ≤ length o
-      cn = g.within
-
-      upper : length (row_at (c - b) o b) ≡ c - b
-      upper = length_row (c - b) o b (omega arith)
-
-      lower : length (row_at (b - a) o a) ≡ b - a
-      lower = length_row (b - a) o a (omega arith)
-
-      many : length (row_at (c - b) o b ++ row_at (b - a) o a) ≡ c - a
-      many = let l = length-append (row_at (c - b) o b) (row_at (b - a) o a) in let u = upper in let v = lower in omega arith
-
-      both : t ≡ put_at z 0 (row_at (c - b) o b ++ row_at (b - a) o a)
-      both =
-          f ∙ ap (λ (x : List ℕ). put_at x (c - b) (row_at (b - a) o a)) e
-          ∙ ap (λ (n : ℕ). put_at (put_at z 0 (row_at (c - b) o b)) n (row_at (b - a) o a)) (let u = upper in let e : c - b ≡ 0 + length (row_at (c - b) o b) = omega arith in e)
-          ∙ put_append z 0 (row_at (c - b) o b) (let u = upper in omega arith) (row_at (b - a) o a)
-
-      read : row_at (c - a) (put_at z 0 (row_at (c - b) o b ++ row_at (b - a) o a)) 0 ≡ row_at (c - b) o b ++ row_at (b - a) o a
-      read =
-          ap (λ (n : ℕ). row_at n (put_at z 0 (row_at (c - b) o b ++ row_at (b - a) o a)) 0) (sym many)
-          ∙ put_row z 0 (row_at (c - b) o b ++ row_at (b - a) o a) (let m = many in omega arith)
+  rotated_whole {s} e =
+      let whole = row_at (c - b) o b ++ row_at (b - a) o a in
+      let f : a + (c - a) ≡ a + length whole = (let m = many in let i = ab in let j = bc in omega arith) in
+      ap (λ (t : List ℕ). take a o ++ (t ++ drop (c - a) (drop a o))) (e ∙ ap₂ ◌++◌ upper lower)
+      ∙ ap (λ (t : List ℕ). take a o ++ (whole ++ t)) (drop-drop (c - a) a o ∙ ap (λ (n : ℕ). drop n o) f)

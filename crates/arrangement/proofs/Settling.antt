@@ -1,15 +1,12 @@
 -- The run at the front of the order goes to its place: moved, left where it is, or dropped. Assumes nothing.
 use Prim.Native.Nat.{◌*◌, ◌+◌, ◌-◌, ◌<◌, ◌≤◌, suc, zero, ℕ}
-use mathlib.Core.Bool.{false, true}
 use mathlib.Core.List.{List, [], ◌++◌, ◌∷◌, append_assoc, map, map-append}
 use mathlib.Core.Path.{◌∙◌, ◌≡◌, ap, ap₂, refl, subst, sym}
 use lib.ListN.{drop, get_or, length, length-append, length-drop, take}
 use lib.Seq.{drop_at, length-take-le, take_all}
 use native.Mathlib.Omega.{arith}
-use Rattle.arrangement.specs.Steps.{FindsPlace, Ready, Rotatable, RunEnds, Settled, rotated}
-use Rattle.arrangement.specs.declared.Place.{Place}
-use Rattle.entries.proofs.Runs.{items_none, items_split}
-use Rattle.entries.specs.Entries.{Item, item_at, items_in}
+use Rattle.arrangement.specs.Steps.{BelongsAt, Ready, Rotatable, RunEnds, Settled, StandsAt, rotated}
+use Rattle.entries.specs.Entries.{item_at, items_in}
 use Rattle.frames.proofs.Rows.{length_put, length_row}
 use Rattle.frames.specs.Rows.{put_at, row_at}
 use Rattle.meaning.specs.Limits.{most_records}
@@ -42,40 +39,23 @@ module _ (n : ℕ) where
 pub items_all : (w ds o : List ℕ) (a : ℕ) → items_in w ds o a (length o) ≡ map (item_at w ds) (drop a o)
 items_all w ds o a = ap (map (item_at w ds)) (take_all (length o - a) (drop a o) (let e = length-drop a o in omega arith))
 
-module _ {w ds o : List ℕ} {top : ℕ} (g : Ready w o top) {b : ℕ} (x : RunEnds w ds o top b) {p : Place} (f : FindsPlace w ds o top b p) where
-  pub place_rotatable : Rotatable o top b p.at
-  place_rotatable = record { first = (let l = x.first in omega arith); second = f.low; within = f.high; few = g.few }
-
-  pub settled_dropped : p.found ≡ true → Settled w ds top o o b
-  settled_dropped e = record {
-    items = sym (f.standing e);
+module _ {w ds o : List ℕ} {top : ℕ} (g : Ready w o top) {b : ℕ} (x : RunEnds w ds o top b) {at : ℕ} where
+  pub settled_dropped : StandsAt w ds o top b at → Settled w ds top o o b
+  settled_dropped f = record {
+    items = sym f.standing;
     low = (let l = x.first in omega arith);
     high = x.within;
     known = g.items.known;
     same = refl;
   }
 
-  pub settled_left : p.found ≡ false → p.at ≤ b → Settled w ds top o o top
-  settled_left e h =
-      let l = x.first in
-      let n = x.within in
-      let z : p.at ≡ b = (let k = f.low in omega arith) in
-      record {
-        items =
-            items_split w ds o top b (length o) (omega arith) n
-            ∙ ap (λ (m : List Item). m ++ (items_in w ds o top b ++ items_in w ds o b (length o))) (sym (items_none w ds o b b (omega arith)))
-            ∙ ap (λ (i : ℕ). items_in w ds o b i ++ (items_in w ds o top b ++ items_in w ds o i (length o))) (sym z)
-            ∙ sym (f.missing e);
-        low = omega arith;
-        high = omega arith;
-        known = g.items.known;
-        same = refl;
-      }
+  pub place_rotatable : BelongsAt w ds o top b at → Rotatable o top b at
+  place_rotatable f = record { first = (let l = x.first in omega arith); second = f.low; within = f.high }
 
-  pub settled_moved : {o' : List ℕ} → p.found ≡ false → o' ≡ rotated o top b p.at → Settled w ds top o o' top
+  pub settled_moved : {o' : List ℕ} → BelongsAt w ds o top b at → o' ≡ rotated o top b at → Settled w ds top o o' top
   unfolding rotated
-  settled_moved {o'} e z = record {
-    items = moved ∙ sym (f.missing e);
+  settled_moved {o'} f z = record {
+    items = moved ∙ sym f.missing;
     low = omega arith;
     high = (let s = size in let l = x.first in let n = x.within in omega arith);
     known = all_known (2 * most_records) (omega arith) (subst (λ (l : List ℕ). All (λ e. e < 2 * most_records) l) (sym z) kept);
@@ -83,7 +63,7 @@ module _ {w ds o : List ℕ} {top : ℕ} (g : Ready w o top) {b : ℕ} (x : RunE
   }
     where
       upper : List ℕ
-      upper = row_at (p.at - b) o b
+      upper = row_at (at - b) o b
 
       lower : List ℕ
       lower = row_at (b - top) o top
@@ -91,16 +71,16 @@ module _ {w ds o : List ℕ} {top : ℕ} (g : Ready w o top) {b : ℕ} (x : RunE
       tb : top < b
       tb = x.first
 
-      ba : b ≤ p.at
+      ba : b ≤ at
       ba = f.low
 
-      an : p.at ≤ length o
+      an : at ≤ length o
       an = f.high
 
-      many : length (upper ++ lower) ≡ p.at - top
+      many : length (upper ++ lower) ≡ at - top
       many =
           let l = length-append upper lower in
-          let u = length_row (p.at - b) o b (let i = ba in let j = an in omega arith) in
+          let u = length_row (at - b) o b (let i = ba in let j = an in omega arith) in
           let v = length_row (b - top) o top (let i = tb in let j = x.within in omega arith) in
           let i = ba in
           let j = tb in
@@ -113,20 +93,20 @@ module _ {w ds o : List ℕ} {top : ℕ} (g : Ready w o top) {b : ℕ} (x : RunE
       kept =
           let a = known_all (2 * most_records) o g.items.known in
           all_append (all_take (2 * most_records) top a)
-          (all_append (all_append (all_take (2 * most_records) (p.at - b) (all_drop (2 * most_records) b a)) (all_take (2 * most_records) (b - top) (all_drop (2 * most_records) top a)))
+          (all_append (all_append (all_take (2 * most_records) (at - b) (all_drop (2 * most_records) b a)) (all_take (2 * most_records) (b - top) (all_drop (2 * most_records) top a)))
           (all_drop (2 * most_records) (top + length (upper ++ lower)) a))
 
       -- behind place top
-      dropped : drop top o' ≡ (upper ++ lower) ++ drop p.at o
+      dropped : drop top o' ≡ (upper ++ lower) ++ drop at o
       dropped =
           ap (drop top) z
           ∙ drop_at (take top o) ((upper ++ lower) ++ drop (top + length (upper ++ lower)) o) top (length-take-le top o (let i = tb in let j = x.within in omega arith))
-          ∙ ap (λ (n : ℕ). (upper ++ lower) ++ drop n o) (let m = many in let i = tb in let j = ba in let e : top + length (upper ++ lower) ≡ p.at = omega arith in e)
+          ∙ ap (λ (n : ℕ). (upper ++ lower) ++ drop n o) (let m = many in let i = tb in let j = ba in let e : top + length (upper ++ lower) ≡ at = omega arith in e)
 
-      moved : items_in w ds o' top (length o') ≡ items_in w ds o b p.at ++ (items_in w ds o top b ++ items_in w ds o p.at (length o))
+      moved : items_in w ds o' top (length o') ≡ items_in w ds o b at ++ (items_in w ds o top b ++ items_in w ds o at (length o))
       moved =
           items_all w ds o' top
           ∙ ap (map (item_at w ds)) dropped
-          ∙ map-append (item_at w ds) (upper ++ lower) (drop p.at o)
-          ∙ ap₂ ◌++◌ (map-append (item_at w ds) upper lower) (sym (items_all w ds o p.at))
-          ∙ append_assoc (items_in w ds o b p.at) (items_in w ds o top b) (items_in w ds o p.at (length o))
+          ∙ map-append (item_at w ds) (upper ++ lower) (drop at o)
+          ∙ ap₂ ◌++◌ (map-append (item_at w ds) upper lower) (sym (items_all w ds o at))
+          ∙ append_assoc (items_in w ds o b at) (items_in w ds o top b) (items_in w ds o at (length o))

@@ -2,8 +2,8 @@
 use Rattle.std.specs.Prelude.{suc, zero, ℕ, cond, List, [], ◌++◌, ◌∷◌, eqb, ltb, length}
 use Rattle.entries.specs.Entries.{Item, run_key}
 use Rattle.entries.specs.Order.{order_of}
-use Rattle.entries.specs.declared.Order.{Order}
-use Rattle.entries.specs.declared.Order.TheVariants as order
+use Rattle.std.specs.declared.cmp.Ordering.{Ordering}
+use Rattle.std.specs.declared.cmp.Ordering.TheVariants.{Equal, Greater, Less}
 
 -- the items in front that are deeper than d, and those behind them
 abbrev pub deeper : ℕ → List Item → List Item
@@ -15,10 +15,10 @@ behind d [] = []
 behind d (x ∷ l) = cond (ltb d x.fields.depth) (behind d l) (x ∷ l)
 
 -- one of three
-abbrev pub pick : {A : Type 0} → Order → A → A → A → A
-pick order.Before x y z = x
-pick order.Same x y z = y
-pick order.After x y z = z
+abbrev pub pick : {A : Type 0} → Ordering → A → A → A → A
+pick Less x y z = x
+pick Equal x y z = y
+pick Greater x y z = z
 
 -- a run of depth d to its place among those in front of which it stands, at most so many: in front of the first that it goes before; it is
 -- dropped where it stands already

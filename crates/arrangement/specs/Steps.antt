@@ -1,7 +1,6 @@
 -- What each function asks, and what it does.
-use Rattle.std.specs.Prelude.{◌*◌, ◌+◌, ◌-◌, ◌<◌, ◌≤◌, ℕ, Bool, ◌&&◌, true, false, List, ◌++◌, ◌≡◌, eqb, ltb, get_or, length}
+use Rattle.std.specs.Prelude.{◌*◌, ◌+◌, ◌-◌, ◌<◌, ◌≤◌, ℕ, Bool, ◌&&◌, List, ◌++◌, ◌≡◌, eqb, ltb, get_or, length}
 use Rattle.arrangement.specs.Insertion.{behind, deeper, insert_item}
-use Rattle.arrangement.specs.declared.Place.{Place}
 use Rattle.entries.specs.Entries.{HasItems, Item, depth_at, item_at, items_in}
 use Rattle.frames.specs.Rows.{put_at, row_at}
 use Rattle.layout.specs.Tables.{HasEntries, parent_at}
@@ -26,7 +25,6 @@ pub record Depths (w : List ℕ) (n : ℕ) (ds : List ℕ) : Type 0 where
 pub record Ready (w o : List ℕ) (i : ℕ) : Type 0 where
   pub items : HasItems w o
   pub inside : i < length o
-  pub few : length o ≤ most_records
 
 -- the run at i ends before r: those behind its first entry that are deeper
 pub record RunEnds (w ds o : List ℕ) (i r : ℕ) : Type 0 where
@@ -42,12 +40,17 @@ is_next w ds o at d = ltb at (length o) && eqb (depth_at w ds (get_or o at 0)) d
 abbrev pub inserted : List ℕ → List ℕ → List ℕ → ℕ → List Item
 inserted w ds o a = insert_item (item_at w ds (get_or o a 0)) (items_in w ds o (a + 1) (length o))
 
--- the run from a to before b belongs in front of the place, or an equal one stands there
-pub record FindsPlace (w ds o : List ℕ) (a b : ℕ) (p : Place) : Type 0 where
-  pub low : b ≤ p.at
-  pub high : p.at ≤ length o
-  pub missing : p.found ≡ false → inserted w ds o a ≡ items_in w ds o b p.at ++ (items_in w ds o a b ++ items_in w ds o p.at (length o))
-  pub standing : p.found ≡ true → inserted w ds o a ≡ items_in w ds o b (length o)
+-- a run that is equal to the one from a to before b stands at the place
+pub record StandsAt (w ds o : List ℕ) (a b at : ℕ) : Type 0 where
+  pub low : b ≤ at
+  pub high : at ≤ length o
+  pub standing : inserted w ds o a ≡ items_in w ds o b (length o)
+
+-- the run from a to before b belongs in front of the place
+pub record BelongsAt (w ds o : List ℕ) (a b at : ℕ) : Type 0 where
+  pub low : b ≤ at
+  pub high : at ≤ length o
+  pub missing : inserted w ds o a ≡ items_in w ds o b at ++ (items_in w ds o a b ++ items_in w ds o at (length o))
 
 -- ---- moving
 
@@ -55,7 +58,6 @@ pub record Rotatable (o : List ℕ) (a b c : ℕ) : Type 0 where
   pub first : a ≤ b
   pub second : b ≤ c
   pub within : c ≤ length o
-  pub few : length o ≤ most_records
 
 unfoldable pub rotated : List ℕ → ℕ → ℕ → ℕ → List ℕ
 rotated o a b c = put_at o a (row_at (c - b) o b ++ row_at (b - a) o a)

@@ -3,14 +3,15 @@
 #![tactic(auto)]
 
 ghost use Rattle.std.specs.Prelude.{◌≡◌};
+ghost use Rattle.std.specs.Result.{MatchResult};
 ghost use Rattle.arrangement.specs.Listing.{Arrangeable, Arranged, HasLast, last_entry, owns_last};
-ghost use Rattle.arrangement.specs.Steps.{Depths, FindsPlace, Listable, Ready, Rotatable, RunEnds, Settled, is_next, rotated};
+ghost use Rattle.arrangement.specs.Steps.{BelongsAt, Depths, Listable, Ready, Rotatable, RunEnds, Settled, StandsAt, is_next, rotated};
 
-use entries::{CONSTRAINT_ENTRIES, Order, compare_runs, depth_of};
-use frames::copy;
+use entries::{CONSTRAINT_ENTRIES, compare_runs, depth_of};
 use layout::{Tables, holder_of, parent_of};
 use meaning::limits::MOST_RECORDS;
 use records::word;
+use std::cmp::Ordering;
 use words::place;
 
 // A place for individual 0, of which the terms are, and for each that there may be.
@@ -22,6 +23,7 @@ pub fn find_depths(work: &[u32], n: u32, depths: &mut [u32])
     ensures { Depths work.now n depths.new }
 {
     depths[0] = 0;
+    // By index: an individual's depth is one more than its parent's, which stands before it.
     for i in 0..n {
         let parent = parent_of(work, place(i));
         depths[place(i) + 1] = word(depths, place(parent)) + 1;
@@ -33,22 +35,13 @@ fn run_end(work: &[u32], depths: &[u32], order: &[u32], i: usize) -> usize
     requires { Ready work.now order.now i }
     ensures { RunEnds work.now depths.now order.now i result }
 {
-    let d = depth_of(work, depths, word(order, i));
-    let mut at = i + 1;
-    while at < order.len() {
-        if depth_of(work, depths, word(order, at)) <= d {
+    let d = depth_of(work, depths, order[i]);
+    for at in i + 1..order.len() {
+        if depth_of(work, depths, order[at]) <= d {
             return at;
         }
-        at += 1;
     }
-    at
-}
-
-// A place in the order, and whether an equal run stands there.
-#[derive(Clone, Copy)]
-struct Place {
-    at: usize,
-    found: bool,
+    order.len()
 }
 
 // Whether an entry of depth d stands at a place.
@@ -56,31 +49,38 @@ fn is_at(work: &[u32], depths: &[u32], order: &[u32], at: usize, d: u32) -> bool
     requires { Ready work.now order.now 0 }
     ensures { result ≡ is_next work.now depths.now order.now at d }
 {
-    at < order.len() && depth_of(work, depths, word(order, at)) == d
+    at < order.len() && depth_of(work, depths, order[at]) == d
 }
 
-// Of the runs behind the one from a to before b, of the same individual, the first that it does not go behind.
-fn find_place(work: &[u32], depths: &[u32], order: &[u32], a: usize, b: usize) -> Place
+// Of the runs behind the one from a to before b, of the same individual, the first that it does not go behind: where an equal one stands, or
+// else where it belongs.
+fn find_place(
+    work: &[u32],
+    depths: &[u32],
+    order: &[u32],
+    a: usize,
+    b: usize,
+) -> Result<usize, usize>
     requires { Ready work.now order.now a × RunEnds work.now depths.now order.now a b }
-    ensures { FindsPlace work.now depths.now order.now a b result }
+    ensures { MatchResult result (StandsAt work.now depths.now order.now a b) (BelongsAt work.now depths.now order.now a b) }
 {
-    let d = depth_of(work, depths, word(order, a));
+    let d = depth_of(work, depths, order[a]);
     let mut at = b;
     while is_at(work, depths, order, at, d) {
         let end = run_end(work, depths, order, at);
-        match compare_runs(work, depths, order, a, b, at, end) {
-            Order::Before => {
-                return Place { at, found: false };
+        match compare_runs(work, depths, &order[a..b], &order[at..end]) {
+            Ordering::Less => {
+                return Err(at);
             }
-            Order::Same => {
-                return Place { at, found: true };
+            Ordering::Equal => {
+                return Ok(at);
             }
-            Order::After => {
+            Ordering::Greater => {
                 at = end;
             }
         }
     }
-    Place { at, found: false }
+    Err(at)
 }
 
 // The entries from a to before b go behind those from b to before c.
@@ -88,10 +88,7 @@ fn rotate(order: &mut [u32], a: usize, b: usize, c: usize)
     requires { Rotatable order.old a b c }
     ensures { order.new ≡ rotated order.old a b c }
 {
-    let mut spare = [0; MOST_RECORDS];
-    copy(order, b, &mut spare[..], 0, c - b);
-    copy(order, a, &mut spare[..], c - b, b - a);
-    copy(&spare[..], 0, order, a, c - a);
+    order[a..c].rotate_left(b - a);
 }
 
 // The run at place top goes to its place among those behind it, or is dropped where an equal one stands there; where the order starts then.
@@ -100,15 +97,13 @@ fn settle(work: &[u32], depths: &[u32], order: &mut [u32], top: usize) -> usize
     ensures { Settled work.now depths.now top order.old order.new result }
 {
     let b = run_end(work, depths, order, top);
-    let p = find_place(work, depths, order, top, b);
-    if p.found {
-        return b;
+    match find_place(work, depths, order, top, b) {
+        Ok(_) => b,
+        Err(at) => {
+            rotate(order, top, b, at);
+            top
+        }
     }
-    let at = p.at;
-    if b < at {
-        rotate(order, top, b, at);
-    }
-    top
 }
 
 // Whether the last of m constraints is individual i's.

@@ -5,7 +5,6 @@ ghost use Rattle.comply.specs.Run.{Ran};
 
 use meaning::limits::{MOST_BYTES, OUTPUT_SIZE, WORK_SIZE};
 use std::io::{Read, Write};
-use streams::{Delivery, Intake};
 use text::TEXT;
 
 // What came of a run.
@@ -26,13 +25,18 @@ fn run<I: Read, O: Write>(rt: &impl Eprint, input: &mut I, output: &mut O) -> En
     let mut work = [0u32; WORK_SIZE];
     let mut out = [0u32; OUTPUT_SIZE];
     let mut text = [0u8; TEXT];
-    let Intake::Bytes(n) = streams::read_input(rt, input, &mut bytes) else {
+    let Ok(n) = streams::read_input(rt, input, &mut bytes) else {
         return Ending::Unread;
     };
     let r = desk::answer(&bytes[..n], &mut words, &mut work, &mut out, &mut text);
-    match streams::write_answer(rt, output, &text[..r]) {
-        Delivery::Written => Ending::Answered,
-        Delivery::Failed => Ending::Unanswered,
+    match streams::write_answer(
+        rt,
+        output,
+        &text[..r],
+        "comply: the answer cannot be written",
+    ) {
+        Ok(()) => Ending::Answered,
+        Err(_) => Ending::Unanswered,
     }
 }
 

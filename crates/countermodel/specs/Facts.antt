@@ -1,5 +1,5 @@
 -- The records of the canonical model, as the tables alone give them: row by row, each row's classes, pairs and edges.
-use Rattle.std.specs.Prelude.{◌*◌, ◌+◌, ◌-◌, ◌≤◌, suc, zero, ℕ, Bool, ◌&&◌, ◌||◌, cond, List, [], ◌++◌, ◌∷◌, map, ◌≡◌, eqb, leb, ltb, length}
+use Rattle.std.specs.Prelude.{◌*◌, ◌+◌, ◌-◌, ◌<◌, ◌≤◌, suc, zero, ℕ, Bool, ◌&&◌, true, cond, IfSome, Option, None, Some, List, [], ◌++◌, ◌∷◌, map, ◌≡◌, eqb, ltb, length}
 use Rattle.layout.specs.Combination.{Combined, pieces_of}
 use Rattle.layout.specs.Tables.{Standing, holder_at, parent_at, piece_at, role_at, set_at}
 use Rattle.layout.specs.declared.Tables.{Tables}
@@ -42,25 +42,31 @@ value_fact x s = value s.feature x (value_of s)
 unfoldable pub value_facts : List ℕ → ℕ → ℕ → List Fact
 value_facts w n x = map (value_fact x) (pairs (pieces_of w n x))
 
--- piece s stands above constraint m's; every one does at the end of the constraints
-abbrev pub is_above : List ℕ → ℕ → ℕ → Constraint → Bool
-is_above w n m s = leb n m || pair_before (piece_at w m) s
+-- piece s stands above constraint m's; every one does where there is no m
+abbrev pub is_above : List ℕ → Option ℕ → Constraint → Bool
+is_above w None s = true
+is_above w (Some m) s = pair_before (piece_at w m) s
+
+-- it stands before that of the best so far; every one does where there is none
+abbrev pub is_under : List ℕ → Constraint → Option ℕ → Bool
+is_under w s None = true
+is_under w s (Some b) = pair_before s (piece_at w b)
 
 -- constraint i is x's, above m's pair and before that of the best so far
-abbrev pub is_better : List ℕ → ℕ → ℕ → ℕ → ℕ → ℕ → Bool
-is_better w n x m best i =
-    eqb (holder_at w i) x && (is_above w n m (piece_at w i) && (leb n best || pair_before (piece_at w i) (piece_at w best)))
+abbrev pub is_better : List ℕ → ℕ → Option ℕ → Option ℕ → ℕ → Bool
+is_better w x m best i = eqb (holder_at w i) x && (is_above w m (piece_at w i) && is_under w (piece_at w i) best)
 
-unfoldable pub pairs_above : List ℕ → ℕ → ℕ → ℕ → List Constraint
-pairs_above w n x m = filter (is_above w n m) (pairs (pieces_of w n x))
+unfoldable pub pairs_above : List ℕ → ℕ → ℕ → Option ℕ → List Constraint
+pairs_above w n x m = filter (is_above w m) (pairs (pieces_of w n x))
 
--- constraint m's pair and those above it; none at the end of the constraints
-unfoldable pub values_from : List ℕ → ℕ → ℕ → ℕ → List Fact
-values_from w n x m = let here = value_fact x (piece_at w m) ∷ map (value_fact x) (pairs_above w n x m) in cond (ltb m n) here []
+-- constraint m's pair and those above it; none where there is no m
+unfoldable pub values_from : List ℕ → ℕ → ℕ → Option ℕ → List Fact
+values_from w n x None = []
+values_from w n x (Some m) = value_fact x (piece_at w m) ∷ map (value_fact x) (pairs_above w n x (Some m))
 
--- constraint r has the least pair above constraint m's; none where r is the end of the constraints
-abbrev pub NextPair : List ℕ → ℕ → ℕ → ℕ → ℕ → Type 0
-NextPair w n x m r = (r ≤ n) × (values_from w n x r ≡ map (value_fact x) (pairs_above w n x m))
+-- constraint r has the least pair above constraint m's, of n constraints; there is no r where there is no such pair
+abbrev pub NextPair : List ℕ → ℕ → ℕ → Option ℕ → Option ℕ → Type 0
+NextPair w n x m r = IfSome r (λ k. k < n) × (values_from w n x r ≡ map (value_fact x) (pairs_above w n x m))
 
 -- ---- the edges by target, of individual x
 

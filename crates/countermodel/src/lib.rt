@@ -1,8 +1,8 @@
 // The canonical model of the combination that the tables of the work slice hold: how many records it has, and its words.
 #![tactic(auto)]
 
-ghost use Rattle.std.specs.Prelude.{◌≡◌, ◌<◌, ◌≤◌, length};
-ghost use Rattle.countermodel.specs.Facts.{CountsModel, ModelWritten, NextPair, Writable, edge_facts, facts_at, is_above, is_better, member_facts};
+ghost use Rattle.std.specs.Prelude.{◌≡◌, ◌<◌, ◌≤◌, IfSome, length};
+ghost use Rattle.countermodel.specs.Facts.{CountsModel, ModelWritten, NextPair, Writable, edge_facts, facts_at, is_above, is_better, is_under, member_facts};
 ghost use Rattle.countermodel.specs.Facts.{record_count, table_facts, value_facts};
 ghost use Rattle.countermodel.specs.Written.{RecordPut, facts};
 ghost use Rattle.layout.specs.Tables.{HasEntries, HasEntry, Standing, piece_at};
@@ -29,43 +29,46 @@ fn is_before(work: &[u32], a: usize, b: usize) -> bool
     f.0 < g.0
 }
 
-// Whether constraint i's pair stands above constraint m's, or m is n and no constraint.
-fn is_above(work: &[u32], n: usize, m: usize, i: usize) -> bool
-    requires { (i < n) × HasEntries n work.now }
-    ensures { result ≡ is_above work.now n m (piece_at work.now i) }
+// Whether constraint i's pair stands above constraint m's, where there is one.
+fn is_above(work: &[u32], m: Option<usize>, i: usize) -> bool
+    requires { IfSome m (λ k. HasEntry k work.now) × HasEntry i work.now }
+    ensures { result ≡ is_above work.now m (piece_at work.now i) }
 {
-    if m < n {
-        return is_before(work, m, i);
+    match m {
+        Some(k) => is_before(work, k, i),
+        None => true,
     }
-    true
+}
+
+// Whether constraint i's pair stands before that of the best so far, where there is one.
+fn is_under(work: &[u32], i: usize, best: Option<usize>) -> bool
+    requires { IfSome best (λ k. HasEntry k work.now) × HasEntry i work.now }
+    ensures { result ≡ is_under work.now (piece_at work.now i) best }
+{
+    match best {
+        Some(k) => is_before(work, i, k),
+        None => true,
+    }
 }
 
 // Whether constraint i is individual x's and its pair stands above constraint m's and before that of the best so far.
-fn is_better(work: &[u32], n: usize, x: u32, m: usize, best: usize, i: usize) -> bool
-    requires { (i < n) × HasEntries n work.now }
-    ensures { result ≡ is_better work.now n x m best i }
+fn is_better(work: &[u32], x: u32, m: Option<usize>, best: Option<usize>, i: usize) -> bool
+    requires { IfSome m (λ k. HasEntry k work.now) × IfSome best (λ k. HasEntry k work.now)
+        × HasEntry i work.now }
+    ensures { result ≡ is_better work.now x m best i }
 {
-    if holder_of(work, i) != x {
-        return false;
-    }
-    if !is_above(work, n, m, i) {
-        return false;
-    }
-    if best < n {
-        return is_before(work, i, best);
-    }
-    true
+    holder_of(work, i) == x && is_above(work, m, i) && is_under(work, i, best)
 }
 
-// Of n constraints, one of individual x whose pair is the least above constraint m's, or n; from n on, the least of all.
-fn next_pair(work: &[u32], n: usize, x: u32, m: usize) -> usize
-    requires { HasEntries n work.now }
+// Of n constraints, one of individual x whose pair is the least above constraint m's; where there is no m, the least of all.
+fn next_pair(work: &[u32], n: usize, x: u32, m: Option<usize>) -> Option<usize>
+    requires { IfSome m (λ k. k < n) × HasEntries n work.now }
     ensures { NextPair work.now n x m result }
 {
-    let mut best = n;
+    let mut best = None;
     for i in 0..n {
-        if is_better(work, n, x, m, best, i) {
-            best = i;
+        if is_better(work, x, m, best, i) {
+            best = Some(i);
         }
     }
     best
@@ -78,10 +81,10 @@ fn count_values(work: &[u32], n: usize, x: u32) -> usize
     ensures { result ≡ length (value_facts work.now n x) }
 {
     let mut found = 0;
-    let mut m = next_pair(work, n, x, n);
-    while m < n {
+    let mut m = next_pair(work, n, x, None);
+    while let Some(k) = m {
         found += 1;
-        m = next_pair(work, n, x, m);
+        m = next_pair(work, n, x, Some(k));
     }
     found
 }
@@ -132,11 +135,8 @@ fn put(out: &mut [u32], k: usize, last: usize, kind: u32, name: u32, x: u32, oth
     ensures { RecordPut last k kind name x other out.old out.new }
 {
     let at = 5 * k;
-    out[at] = kind;
-    out[at + 1] = name;
-    out[at + 2] = x;
-    out[at + 3] = other;
-    out[at + 4] = link(k, last);
+    let end = at + 5;
+    out[at..end].copy_from_slice(&[kind, name, x, other, link(k, last)]);
 }
 
 // The classes of row i, individual i + 1, rising.
@@ -161,13 +161,13 @@ fn write_values(work: &[u32], n: usize, x: u32, out: &mut [u32], k: usize, last:
     ensures { Written facts last k (value_facts work.now n x) out.old out.new result }
 {
     let mut at = k;
-    let mut m = next_pair(work, n, x, n);
-    while m < n {
-        let f = feature_of(work, m);
-        let v = piece_hi(work, m);
+    let mut m = next_pair(work, n, x, None);
+    while let Some(k) = m {
+        let f = feature_of(work, k);
+        let v = piece_hi(work, k);
         put(out, at, last, 3, f.0, x, v);
         at += 1;
-        m = next_pair(work, n, x, m);
+        m = next_pair(work, n, x, Some(k));
     }
     at
 }
@@ -216,10 +216,6 @@ pub fn write(work: &[u32], t: Tables, records: usize, out: &mut [u32])
     ensures out_len_unchanged { length out.new ≡ length out.old }
     ensures model_written { ModelWritten work.now t out.old out.new }
 {
-    out[0] = link(0, records);
-    out[1] = t.individuals;
-    out[2] = 0;
-    out[3] = 0;
-    out[4] = 0;
+    out[..5].copy_from_slice(&[link(0, records), t.individuals, 0, 0, 0]);
     write_rows(work, t, records, out);
 }

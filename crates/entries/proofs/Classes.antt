@@ -1,17 +1,19 @@
 -- The records of two sets of classes, compared by the least class that is in one of them alone. Assumes nothing.
 use Prim.Native.Nat.{◌*◌, ◌+◌, ◌/◌, ◌<◌, ◌≤◌, suc, zero, ℕ}
-use mathlib.Core.Bool.{Bool, ◌||◌, cond, false, not, true}
+use mathlib.Core.Bool.{Bool, beq, ◌||◌, cond, false, not, true}
 use mathlib.Core.List.{List, [], ◌∷◌}
 use mathlib.Core.Path.{◌∙◌, ◌≡◌, ap, refl, subst, sym}
-use lib.Dec.{T, eqb, ltb}
+use lib.Dec.{eqb, ltb}
 use lib.ListN.{get_or, length}
 use native.Mathlib.Omega.{arith}
 use borrow.Author.Tests.{eqb-false, eqb-true, le-ltb, ltb-false, ltb-true}
-use Rattle.entries.proofs.Ordering.{alike, by_less, opposite, order_opposite}
-use Rattle.entries.specs.Entries.{ComparesClasses, FirstDifference, class_fields}
-use Rattle.entries.specs.Order.{Continues, and_then, order_of}
-use Rattle.entries.specs.declared.Order.{Order}
-use Rattle.entries.specs.declared.Order.TheVariants as order
+use Rattle.std.proofs.lemmas.Cmp.{nat_list_cmp_total}
+use Rattle.std.specs.Ordering.{ordering_reverse, ordering_then}
+use Rattle.std.specs.declared.cmp.Ordering.{Ordering}
+use Rattle.std.specs.declared.cmp.Ordering.TheVariants.{Equal, Greater, Less}
+use Rattle.entries.proofs.Ordering.{alike, less_first}
+use Rattle.entries.specs.Entries.{AlikeTo, ComparesClasses, FirstDifference, HasSame, class_fields}
+use Rattle.entries.specs.Order.{Continues, order_of}
 use Rattle.meaning.specs.Lists.{counting, filter}
 use Rattle.words.proofs.Laws.{in_past, in_within}
 use Rattle.words.proofs.Listing.{next_none, next_some}
@@ -75,32 +77,32 @@ module _ (P Q : ℕ → Bool) (d c : ℕ) (agree : (x : ℕ) → x < c → P x �
 abbrev goes_on : List ℕ → ℕ → Bool → Bool
 goes_on t c other = other || not (eqb (next_member t c) 0)
 
-ending : (c : ℕ) (z : List ℕ) (other : Bool) (m : List ℕ) → Continues other m → order_of (1 ∷ (c ∷ z)) m ≡ cond (other || false) order.Before order.After
+ending : (c : ℕ) (z : List ℕ) (other : Bool) (m : List ℕ) → Continues other m → order_of (1 ∷ (c ∷ z)) m ≡ cond (other || false) Less Greater
 ending c z true [] k = absurd k
-ending c z true (x ∷ m) k = sym (by_less 1 x (order_of (c ∷ z) m) k)
+ending c z true (x ∷ m) k = less_first 1 x (c ∷ z) m k
 ending c z false [] k = refl
 ending c z false (x ∷ m) k = absurd (let e : length (x ∷ m) ≡ 0 = ap length k in omega arith)
 
 behind : (t : List ℕ) (c d : ℕ) (z : List ℕ) (other : Bool) (m : List ℕ) → Continues other m →
-    order_of (1 ∷ (c ∷ z)) (class_fields d (members_above t c) m) ≡ cond (goes_on t c other) order.Before order.After
+    order_of (1 ∷ (c ∷ z)) (class_fields d (members_above t c) m) ≡ cond (goes_on t c other) Less Greater
 behind t c d z other m k = go (eqb (next_member t c) 0) refl
   where
-    last : (o : Bool) → order.Before ≡ cond (o || true) order.Before order.After
+    last : (o : Bool) → Less ≡ cond (o || true) Less Greater
     last true = refl
     last false = refl
 
-    go : (b : Bool) → eqb (next_member t c) 0 ≡ b → order_of (1 ∷ (c ∷ z)) (class_fields d (members_above t c) m) ≡ cond (other || not b) order.Before order.After
+    go : (b : Bool) → eqb (next_member t c) 0 ≡ b → order_of (1 ∷ (c ∷ z)) (class_fields d (members_above t c) m) ≡ cond (other || not b) Less Greater
     go true e = rw (next_none t c (eqb-true (next_member t c) 0 e)) (ending c z other m k)
     go false e =
         let x = next_member t c in
         let s = next_some t c (eqb-false x 0 e) in
         let h : c < x = above_first c (members t) x (members_above t x) (unfold members_above in s) in
-        rw s (alike 1 (c ∷ z) (x ∷ (0 ∷ (0 ∷ (d ∷ class_fields d (members_above t x) m)))) ∙ sym (by_less c x _ h) ∙ last other)
+        rw s (alike 1 (c ∷ z) (x ∷ (0 ∷ (0 ∷ (d ∷ class_fields d (members_above t x) m)))) ∙ less_first c x z _ h ∙ last other)
 
 module _ (s t : List ℕ) (c : ℕ) (wide : length s ≡ length t) (agree : (x : ℕ) → x < c → in_set s x ≡ in_set t x) (has : in_set s c ≡ true)
     (lacks : in_set t c ≡ false) where
   goes : (other : Bool) (d : ℕ) (l m : List ℕ) → Continues other m →
-      order_of (class_fields d (members s) l) (class_fields d (members t) m) ≡ cond (goes_on t c other) order.Before order.After
+      order_of (class_fields d (members s) l) (class_fields d (members t) m) ≡ cond (goes_on t c other) Less Greater
   unfolding members members_above
   goes other d l m k =
       let inside = in_within s c has in
@@ -112,10 +114,6 @@ module _ (s t : List ℕ) (c : ℕ) (wide : length s ≡ length t) (agree : (x :
       ∙ behind t c d w.0 other m k
 
 -- ---- the functions
-
--- the words before a place are the same
-abbrev pub AlikeTo : List ℕ → List ℕ → ℕ → Type 0
-AlikeTo s t n = (j : ℕ) → j < n → get_or s j 0 ≡ get_or t j 0
 
 pub alike_more : (s t : List ℕ) (i : ℕ) → AlikeTo s t i → get_or s i 0 ≡ get_or t i 0 → AlikeTo s t (i + 1)
 alike_more s t i h e j k = go (ltb j i) refl
@@ -131,80 +129,66 @@ words_agree s t n h zero g = refl
 words_agree s t n h (suc i) g = rw (h (i / 32) (omega arith))
 
 module _ (s t : List ℕ) (left : length s ≡ class_words) (right : length t ≡ class_words) where
-  pub differs_here : (i d : ℕ) → ((c : ℕ) → c ≤ i → in_set s c ≡ in_set t c) → d ≡ i + 1 → (in_set s d ≡ in_set t d → ⊥) → FirstDifference s t d
-  differs_here i d h e n = record {
-    before = λ c k g. h c (omega arith);
-    at = λ k. n;
-    none = λ k. absurd (omega arith);
-  }
+  pub differs_nowhere : (i : ℕ) → ((c : ℕ) → c ≤ i → in_set s c ≡ in_set t c) → 32 * class_words ≤ i → HasSame s t
+  differs_nowhere i h g c = go (ltb i c) refl
+    where
+      go : (b : Bool) → ltb i c ≡ b → in_set s c ≡ in_set t c
+      go true e = let k = ltb-true i c e in in_past s c (omega arith) ∙ sym (in_past t c (omega arith))
+      go false e = h c (ltb-false i c e)
 
-  pub differs_nowhere : (i : ℕ) → ((c : ℕ) → c ≤ i → in_set s c ≡ in_set t c) → 32 * class_words ≤ i → FirstDifference s t 0
-  differs_nowhere i h g = record {
-    before = λ c k. absurd (k refl);
-    at = λ k. absurd (k refl);
-    none = λ k c. everywhere c;
+  pub compares_same : (more other : Bool) → HasSame s t → ComparesClasses s t more other Equal
+  unfolding members
+  compares_same more other f = record {
+    says = λ k l m g h.
+        ap (λ (cs : List ℕ). order_of (class_fields k (members s) l) (class_fields k cs m)) (sym same)
+        ∙ classes_alike k (members s) l m;
   }
     where
-      everywhere : (c : ℕ) → in_set s c ≡ in_set t c
-      everywhere c = go (ltb i c) refl
-        where
-          go : (b : Bool) → ltb i c ≡ b → in_set s c ≡ in_set t c
-          go true e = let k = ltb-true i c e in in_past s c (omega arith) ∙ sym (in_past t c (omega arith))
-          go false e = h c (ltb-false i c e)
+      same : members s ≡ members t
+      same = filter_alike (in_set s) (in_set t) f (counting 1 (capacity s)) ∙ ap (λ (n : ℕ). filter (in_set t) (counting 1 (32 * n))) (left ∙ sym right)
 
   module _ {d : ℕ} (f : FirstDifference s t d) (more other : Bool) where
-    pub compares_same : d ≡ 0 → ComparesClasses s t more other order.Same
-    unfolding members
-    compares_same e = record {
-      says = λ k l m g h.
-          ap (λ (cs : List ℕ). order_of (class_fields k (members s) l) (class_fields k cs m)) (sym same)
-          ∙ classes_alike k (members s) l m;
-    }
-      where
-        same : members s ≡ members t
-        same = filter_alike (in_set s) (in_set t) (f.none e) (counting 1 (capacity s)) ∙ ap (λ (n : ℕ). filter (in_set t) (counting 1 (32 * n))) (left ∙ sym right)
-
-    compares_left : (d ≡ 0 → ⊥) → in_set s d ≡ true → ComparesClasses s t more other (cond (goes_on t d other) order.Before order.After)
-    compares_left n h = record {
+    compares_left : in_set s d ≡ true → ComparesClasses s t more other (cond (goes_on t d other) Less Greater)
+    compares_left h = record {
       says = λ k l m g i.
-          goes s t d (left ∙ sym right) (λ x j. f.before x n j) h (lacks (in_set t d) refl) other k l m i ∙ sym (settled (goes_on t d other) (order_of l m));
+          goes s t d (left ∙ sym right) f.before h (lacks (in_set t d) refl) other k l m i ∙ sym (settled (goes_on t d other) (order_of l m));
     }
       where
         lacks : (b : Bool) → in_set t d ≡ b → in_set t d ≡ false
-        lacks true e = absurd (f.at n (h ∙ sym e))
+        lacks true e = absurd (f.at (h ∙ sym e))
         lacks false e = e
 
-        settled : (b : Bool) (o : Order) → and_then (cond b order.Before order.After) o ≡ cond b order.Before order.After
+        settled : (b : Bool) (o : Ordering) → ordering_then (cond b Less Greater) o ≡ cond b Less Greater
         settled true o = refl
         settled false o = refl
 
-    compares_right : (d ≡ 0 → ⊥) → in_set s d ≡ false → ComparesClasses s t more other (cond (goes_on s d more) order.After order.Before)
-    compares_right n h = record {
+    compares_right : in_set s d ≡ false → ComparesClasses s t more other (cond (goes_on s d more) Greater Less)
+    compares_right h = record {
       says = λ k l m g i.
-          order_opposite (class_fields k (members s) l) (class_fields k (members t) m)
-          ∙ ap opposite (goes t s d (right ∙ sym left) (λ x j. sym (f.before x n j)) (has (in_set t d) refl) h more k m l g)
+          nat_list_cmp_total.antisymm (class_fields k (members s) l) (class_fields k (members t) m)
+          ∙ ap ordering_reverse (goes t s d (right ∙ sym left) (λ x j. sym (f.before x j)) (has (in_set t d) refl) h more k m l g)
           ∙ settled (goes_on s d more) (order_of l m);
     }
       where
         has : (b : Bool) → in_set t d ≡ b → in_set t d ≡ true
         has true e = e
-        has false e = absurd (f.at n (h ∙ sym e))
+        has false e = absurd (f.at (h ∙ sym e))
 
-        settled : (b : Bool) (o : Order) → opposite (cond b order.Before order.After) ≡ and_then (cond b order.After order.Before) o
+        settled : (b : Bool) (o : Ordering) → ordering_reverse (cond b Less Greater) ≡ ordering_then (cond b Greater Less) o
         settled true o = refl
         settled false o = refl
 
-    pub left_before : (d ≡ 0 → ⊥) → in_set s d ≡ true → goes_on t d other ≡ true → ComparesClasses s t more other order.Before
-    left_before n h e = subst (λ (b : Bool). ComparesClasses s t more other (cond b order.Before order.After)) e (compares_left n h)
+    pub left_before : in_set s d ≡ true → goes_on t d other ≡ true → ComparesClasses s t more other Less
+    left_before h e = subst (λ (b : Bool). ComparesClasses s t more other (cond b Less Greater)) e (compares_left h)
 
-    pub left_after : (d ≡ 0 → ⊥) → in_set s d ≡ true → goes_on t d other ≡ false → ComparesClasses s t more other order.After
-    left_after n h e = subst (λ (b : Bool). ComparesClasses s t more other (cond b order.Before order.After)) e (compares_left n h)
+    pub left_after : in_set s d ≡ true → goes_on t d other ≡ false → ComparesClasses s t more other Greater
+    left_after h e = subst (λ (b : Bool). ComparesClasses s t more other (cond b Less Greater)) e (compares_left h)
 
-    pub right_after : (d ≡ 0 → ⊥) → in_set s d ≡ false → goes_on s d more ≡ true → ComparesClasses s t more other order.After
-    right_after n h e = subst (λ (b : Bool). ComparesClasses s t more other (cond b order.After order.Before)) e (compares_right n h)
+    pub right_after : in_set s d ≡ false → goes_on s d more ≡ true → ComparesClasses s t more other Greater
+    right_after h e = subst (λ (b : Bool). ComparesClasses s t more other (cond b Greater Less)) e (compares_right h)
 
-    pub right_before : (d ≡ 0 → ⊥) → in_set s d ≡ false → goes_on s d more ≡ false → ComparesClasses s t more other order.Before
-    right_before n h e = subst (λ (b : Bool). ComparesClasses s t more other (cond b order.After order.Before)) e (compares_right n h)
+    pub right_before : in_set s d ≡ false → goes_on s d more ≡ false → ComparesClasses s t more other Less
+    right_before h e = subst (λ (b : Bool). ComparesClasses s t more other (cond b Greater Less)) e (compares_right h)
 
 pub continues_else : {more : Bool} {n x : ℕ} → more ≡ false → n ≡ x → not (eqb n 0) ≡ (more || not (eqb x 0))
 continues_else p q = rw (p, q)
@@ -216,20 +200,16 @@ agree_more s t i c h e g x k = go (eqb x c) refl
     go true f = let z = eqb-true x c f in rw z g
     go false f = h x (let n = eqb-false x c f in omega arith)
 
-pub one_apart : (s t : List ℕ) (c : ℕ) {a b r : Bool} → a ≡ in_set s c → b ≡ in_set t c → r ≡ cond a (not b) b → r ≡ true → in_set s c ≡ in_set t c → ⊥
-one_apart s t c {a} {b} p q e f i = go a b (sym e ∙ f) (p ∙ i ∙ sym q)
-  where
-    go : (a b : Bool) → cond a (not b) b ≡ true → a ≡ b → ⊥
-    go true true e f = absurd (let z : T false = subst T (sym e) tt in z)
-    go true false e f = absurd (let z : T false = subst T f tt in z)
-    go false true e f = absurd (let z : T false = subst T (sym f) tt in z)
-    go false false e f = absurd (let z : T false = subst T (sym e) tt in z)
+-- ---- two tests that are told apart, or not
 
-pub both_alike : (s t : List ℕ) (c : ℕ) {a b r : Bool} → a ≡ in_set s c → b ≡ in_set t c → r ≡ cond a (not b) b → r ≡ false → in_set s c ≡ in_set t c
-both_alike s t c {a} {b} p q e f = sym p ∙ go a b (sym e ∙ f) ∙ q
-  where
-    go : (a b : Bool) → cond a (not b) b ≡ false → a ≡ b
-    go true true e = refl
-    go true false e = absurd (let z : T false = subst T e tt in z)
-    go false true e = absurd (let z : T false = subst T e tt in z)
-    go false false e = refl
+pub alike_tests : (a b : Bool) → not (beq a b) ≡ false → a ≡ b
+alike_tests true true e = refl
+alike_tests true false e = absurd (cc)
+alike_tests false true e = absurd (cc)
+alike_tests false false e = refl
+
+pub unlike_tests : (a b : Bool) → a ≡ b → not (beq a b) ≡ true → ⊥
+unlike_tests true true f e = absurd (cc)
+unlike_tests true false f e = absurd (cc)
+unlike_tests false true f e = absurd (cc)
+unlike_tests false false f e = absurd (cc)

@@ -1,8 +1,10 @@
 -- What the entries stand for, by the tables of the work slice, and the numbers by which their runs compare.
-use Rattle.std.specs.Prelude.{◌*◌, ◌+◌, ◌-◌, ◌<◌, ◌≤◌, suc, ℕ, Bool, cond, true, List, [], ◌∷◌, map, ◌≡◌, eqb, ltb, drop, get_or, length, replicate, take}
+use Rattle.std.specs.Ordering.{ordering_then}
+use Rattle.std.specs.Prelude.{◌*◌, ◌-◌, ◌<◌, ◌≤◌, suc, ℕ, Bool, cond, List, [], ◌∷◌, map, ◌≡◌, eqb, ltb, drop, get_or, length, replicate, take}
+use Rattle.std.specs.declared.cmp.Ordering.{Ordering}
+use Rattle.std.specs.declared.cmp.Ordering.TheVariants.{Equal}
 use Rattle.entries.specs.declared.Fields.{Fields}
-use Rattle.entries.specs.declared.Order.{Order}
-use Rattle.entries.specs.Order.{Continues, and_then, is_same, order_of}
+use Rattle.entries.specs.Order.{Continues, order_of}
 use Rattle.layout.specs.Places.{tables_end}
 use Rattle.layout.specs.Tables.{constraint_at, holder_at, parent_at, role_at, set_at}
 use Rattle.meaning.specs.Limits.{most_records}
@@ -52,9 +54,13 @@ classes_at w e = cond (ltb e most_records) (set_at w e) (replicate class_words 0
 unfoldable pub item_at : List ℕ → List ℕ → ℕ → Item
 item_at w ds e = record { fields = fields_at w ds e; classes = members (classes_at w e) }
 
--- the items of the order's entries from place a to before b
+-- the items of entries
+abbrev pub items_of : List ℕ → List ℕ → List ℕ → List Item
+items_of w ds l = map (item_at w ds) l
+
+-- those of the order's from place a to before b
 abbrev pub items_in : List ℕ → List ℕ → List ℕ → ℕ → ℕ → List Item
-items_in w ds o a b = map (item_at w ds) (take (b - a) (drop a o))
+items_in w ds o a b = items_of w ds (take (b - a) (drop a o))
 
 -- ---- the numbers by which they compare
 
@@ -93,43 +99,44 @@ run_key (x ∷ l) = sibling_fields x.fields (rest_fields (x ∷ l))
 
 -- ---- what the functions say
 
--- d is the least number that is in one set alone, or 0
+-- the words before a place are the same
+abbrev pub AlikeTo : List ℕ → List ℕ → ℕ → Type 0
+AlikeTo s t n = (j : ℕ) → j < n → get_or s j 0 ≡ get_or t j 0
+
+abbrev pub HasSame : List ℕ → List ℕ → Type 0
+HasSame s t = (c : ℕ) → in_set s c ≡ in_set t c
+
+-- d is the least number that is in one set alone
 pub record FirstDifference (s t : List ℕ) (d : ℕ) : Type 0 where
-  pub before : (c : ℕ) → (d ≡ 0 → ⊥) → c < d → in_set s c ≡ in_set t c
-  pub at : (d ≡ 0 → ⊥) → in_set s d ≡ in_set t d → ⊥
-  pub none : d ≡ 0 → (c : ℕ) → in_set s c ≡ in_set t c
+  pub before : (c : ℕ) → c < d → in_set s c ≡ in_set t c
+  pub at : in_set s d ≡ in_set t d → ⊥
 
 -- the records of two sets of classes compare so, whatever the records behind them are
-pub record ComparesClasses (s t : List ℕ) (more other : Bool) (r : Order) : Type 0 where
+pub record ComparesClasses (s t : List ℕ) (more other : Bool) (r : Ordering) : Type 0 where
   pub says : (d : ℕ) (l m : List ℕ) → Continues more l → Continues other m →
-      order_of (class_fields d (members s) l) (class_fields d (members t) m) ≡ and_then r (order_of l m)
+      order_of (class_fields d (members s) l) (class_fields d (members t) m) ≡ ordering_then r (order_of l m)
 
--- the slice has every entry of the order, and runs that end before b and d are inside
-pub record Known (w o : List ℕ) (b d : ℕ) : Type 0 where
-  pub items : HasItems w o
-  pub first : b ≤ length o
-  pub second : d ≤ length o
+-- the slice has every entry of two runs, which have one each
+pub record Comparable (w x y : List ℕ) : Type 0 where
+  pub first : HasItems w x
+  pub second : HasItems w y
+  pub some : 0 < length x
+  pub others : 0 < length y
 
--- there are runs from a to before b and from c to before d
-pub record Comparable (w o : List ℕ) (a b c d : ℕ) : Type 0 where
-  pub known : Known w o b d
-  pub first : a < b
-  pub second : c < d
+-- their first entries stand at one depth
+abbrev pub Beside : List ℕ → List ℕ → List ℕ → List ℕ → Type 0
+Beside w ds x y = (fields_at w ds (get_or x 0 0)).depth ≡ (fields_at w ds (get_or y 0 0)).depth
 
--- the entries at two places stand at one depth
-abbrev pub Beside : List ℕ → List ℕ → List ℕ → ℕ → ℕ → Type 0
-Beside w ds o i j = (fields_at w ds (get_or o i 0)).depth ≡ (fields_at w ds (get_or o j 0)).depth
+-- r compares the records of the first entries, and says the same only where both runs end, or both go on at one depth
+pub record ComparesNext (w ds x y : List ℕ) (r : Ordering) : Type 0 where
+  pub says : order_of (run_fields (items_of w ds x)) (run_fields (items_of w ds y))
+      ≡ ordering_then r (order_of (rest_fields (items_of w ds x)) (rest_fields (items_of w ds y)))
+  pub onward : r ≡ Equal → 0 < length x → (0 < length y) × Beside w ds x y
+  pub back : r ≡ Equal → 0 < length y → 0 < length x
 
--- r compares the records of the entries at i and j, and says the same only where both runs end, or both go on at one depth
-pub record ComparesNext (w ds o : List ℕ) (i b j d : ℕ) (r : Order) : Type 0 where
-  pub says : order_of (run_fields (items_in w ds o i b)) (run_fields (items_in w ds o j d))
-      ≡ and_then r (order_of (rest_fields (items_in w ds o i b)) (rest_fields (items_in w ds o j d)))
-  pub onward : is_same r ≡ true → i < b → (j < d) × Beside w ds o i j
-  pub back : is_same r ≡ true → j < d → i < b
-
--- r compares the records from the classes of the entries at i and j up to the next entries' own
-pub record Steps (w ds o : List ℕ) (i b j d : ℕ) (r : Order) : Type 0 where
-  pub says : order_of (rest_fields (items_in w ds o i b)) (rest_fields (items_in w ds o j d))
-      ≡ and_then r (order_of (rest_fields (items_in w ds o (i + 1) b)) (rest_fields (items_in w ds o (j + 1) d)))
-  pub onward : is_same r ≡ true → i + 1 < b → (j + 1 < d) × Beside w ds o (i + 1) (j + 1)
-  pub back : is_same r ≡ true → j + 1 < d → i + 1 < b
+-- r compares the records from the classes of the first entries up to the next entries' own
+pub record Steps (w ds x y : List ℕ) (r : Ordering) : Type 0 where
+  pub says : order_of (rest_fields (items_of w ds x)) (rest_fields (items_of w ds y))
+      ≡ ordering_then r (order_of (rest_fields (items_of w ds (drop 1 x))) (rest_fields (items_of w ds (drop 1 y))))
+  pub onward : r ≡ Equal → 0 < length (drop 1 x) → (0 < length (drop 1 y)) × Beside w ds (drop 1 x) (drop 1 y)
+  pub back : r ≡ Equal → 0 < length (drop 1 y) → 0 < length (drop 1 x)

@@ -16,20 +16,15 @@ use preparation::prepare;
 use records::word;
 
 // Word i of it: in a record of kind 1 the second name is the first.
+#[tactic(auto, unfolding(crate::specs::Flat::flat_word_at))]
 fn flat_word(v: &[u32], i: usize) -> u32
     ensures { result ≡ flat_word_at v.now i }
 {
-    if i < 4 {
-        return word(v, i);
+    if 4 <= i && i % 4 == 2 && word(v, i - 2) == 1 {
+        word(v, i - 1)
+    } else {
+        word(v, i)
     }
-    if i % 4 != 2 {
-        return word(v, i);
-    }
-    let first = i - 1;
-    if word(v, i - 2) != 1 {
-        return word(v, i);
-    }
-    word(v, first)
 }
 
 // All of them, in front of flat.
@@ -37,8 +32,8 @@ fn flatten(v: &[u32], flat: &mut [u32])
     requires { length v.now ≤ length flat.old }
     ensures { Flattens v.now flat.old flat.new }
 {
-    for i in 0..v.len() {
-        flat[i] = flat_word(v, i);
+    for (i, to) in flat[..v.len()].iter_mut().enumerate() {
+        *to = flat_word(v, i);
     }
 }
 
@@ -50,6 +45,5 @@ pub fn prepare_flat(v: &[u32], work: &mut [u32]) -> Functional
 {
     let mut flat = [0; MOST_VOCABULARY_WORDS];
     flatten(v, &mut flat[..]);
-    let n = v.len();
-    prepare(&flat[0..n], work)
+    prepare(&flat[..v.len()], work)
 }

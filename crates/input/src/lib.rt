@@ -11,22 +11,13 @@ use meaning::limits::MOST_BYTES;
 use records::word;
 use words::place;
 
-fn wide(x: u8) -> u32
-    ensures { (result ≡ x) × (result < 256) }
-{
-    x as u32
-}
-
 // Word i, its lowest byte first.
 fn word_at(input: &[u8], i: usize) -> u32
     requires { 4 * i + 3 < length input.now }
     ensures { result ≡ word_at input.now i }
 {
-    let a = wide(input[4 * i]);
-    let b = wide(input[4 * i + 1]);
-    let c = wide(input[4 * i + 2]);
-    let d = wide(input[4 * i + 3]);
-    a + 256 * b + 65536 * c + 16777216 * d
+    let at = 4 * i;
+    u32::from_le_bytes([input[at], input[at + 1], input[at + 2], input[at + 3]])
 }
 
 // The words of the input; bytes after the last whole word are left.
@@ -34,8 +25,8 @@ pub fn decode(input: &[u8], words: &mut [u32])
     requires { length input.now / 4 ≤ length words.old }
     ensures { take (length input.now / 4) words.new ≡ words_of input.now }
 {
-    for i in 0..input.len() / 4 {
-        words[i] = word_at(input, i);
+    for (i, word) in words[..input.len() / 4].iter_mut().enumerate() {
+        *word = word_at(input, i);
     }
 }
 
@@ -44,11 +35,9 @@ fn put_bytes(bytes: &mut [u8], at: usize, w: u32) -> usize
     requires { at + 4 ≤ length bytes.old }
     ensures { Put bytes.old at (word_bytes w) bytes.new result }
 {
-    bytes[at] = (w % 256) as u8;
-    bytes[at + 1] = (w / 256 % 256) as u8;
-    bytes[at + 2] = (w / 65536 % 256) as u8;
-    bytes[at + 3] = (w / 16777216 % 256) as u8;
-    at + 4
+    let next = at + 4;
+    bytes[at..next].copy_from_slice(&w.to_le_bytes());
+    next
 }
 
 // The bytes of words, as they are then read; how many they are is returned.
@@ -57,8 +46,8 @@ pub fn encode(words: &[u32], bytes: &mut [u8]) -> usize
     ensures { Put bytes.old 0 (bytes_of words.now) bytes.new result }
 {
     let mut at = 0;
-    for i in 0..words.len() {
-        at = put_bytes(bytes, at, words[i]);
+    for &w in words {
+        at = put_bytes(bytes, at, w);
     }
     at
 }

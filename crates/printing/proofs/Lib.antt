@@ -1,3 +1,2 @@
 -- The laws that the functions' proofs cite, and those for a caller that puts one piece after another.
-pub mod Printing
 pub mod Decimal

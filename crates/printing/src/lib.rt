@@ -18,17 +18,16 @@ pub fn put_name(text: &mut [u8], at: usize, name: &[u8]) -> usize
     requires { at + length name.now ≤ length text.old }
     ensures { Put text.old at name.now text.new result }
 {
-    for i in 0..name.len() {
-        text[at + i] = name[i];
-    }
-    at + name.len()
+    let next = at + name.len();
+    text[at..next].copy_from_slice(name);
+    next
 }
 
 fn digit(d: u32) -> u8
     requires { d < 10 }
     ensures { result ≡ 48 + d }
 {
-    (48 + d) as u8
+    b'0' + d as u8
 }
 
 // The tens and above, then the last digit: a number of 32 bits has at most ten, so the calls are at most ten deep.

@@ -34,38 +34,38 @@ fn say(rt: &impl Print, r: Result<(), Refusal>) {
 
 // The first n words.
 fn vocabulary_to(rt: &impl Print, v: &[u32], n: usize) {
-    if n <= v.len() {
-        say(rt, vocabulary::read_vocabulary(&v[..n]));
+    if let Some(words) = v.get(..n) {
+        say(rt, vocabulary::read_vocabulary(words));
     }
 }
 
 fn policy_to(rt: &impl Print, v: &[u32], p: &[u32], n: usize) {
-    if n <= p.len() {
-        say(rt, policy::read_policy(v, &p[..n]));
+    if let Some(words) = p.get(..n) {
+        say(rt, policy::read_policy(v, words));
     }
 }
 
 fn vocabularies(rt: &impl Print) {
-    for n in 0..45usize {
+    for n in 0..VOCABULARY.len() + 1 {
         vocabulary_to(rt, &VOCABULARY, n);
     }
-    for i in 0..44usize {
-        for j in 0..15usize {
+    for i in 0..VOCABULARY.len() {
+        for &value in &VALUES {
             let mut damaged = VOCABULARY;
-            damaged[i] = VALUES[j];
+            damaged[i] = value;
             say(rt, vocabulary::read_vocabulary(&damaged));
         }
     }
 }
 
 fn policies(rt: &impl Print) {
-    for n in 0..61usize {
+    for n in 0..POLICY.len() + 1 {
         policy_to(rt, &VOCABULARY, &POLICY, n);
     }
-    for i in 0..60usize {
-        for j in 0..15usize {
+    for i in 0..POLICY.len() {
+        for &value in &VALUES {
             let mut damaged = POLICY;
-            damaged[i] = VALUES[j];
+            damaged[i] = value;
             say(rt, policy::read_policy(&VOCABULARY, &damaged));
             say(rt, policy::read_second_policy(&VOCABULARY, &damaged));
         }

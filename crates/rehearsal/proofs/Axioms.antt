@@ -1,23 +1,17 @@
 -- The vocabulary's records drawn one after another. Assumes nothing.
-use Prim.Native.Nat.{◌%◌, ◌*◌, ◌+◌, ◌-◌, ◌<◌, ◌≤◌, suc, zero, ℕ}
+use Prim.Native.Nat.{◌*◌, ◌+◌, ◌-◌, ◌<◌, ◌≤◌, suc, zero, ℕ}
 use mathlib.Core.List.{List, [], ◌++◌, ◌∷◌}
 use mathlib.Core.Path.{◌∙◌, ◌≡◌, ap, refl, sym}
 use lib.ListN.{length}
-use native.Mathlib.Nat.{mod-lt}
 use native.Mathlib.Omega.{arith}
 use Rattle.frames.proofs.Puts.{Rest, rest_end, rest_more, rest_start}
 use Rattle.frames.specs.Rows.{Put}
-use Rattle.meaning.specs.Limits.{most_classes}
-use Rattle.meaning.specs.Records.{Name, chained_words, link_to}
+use Rattle.meaning.specs.Records.{chained_words, link_to}
 use Rattle.meaning.specs.Vocabulary.{Axiom, axiom_words, functional_feature}
 use Rattle.rehearsal.proofs.Seeds.{hierarchy_length}
 use Rattle.rehearsal.specs.Load.{advance, advance_by, draw, load_vocabulary, hierarchy}
 use Rattle.theory.proofs.Chained.{chained_length}
 use Rattle.theory.proofs.VocabularyWords.{axiom_length}
-
--- a class that is drawn fits a word
-pub class_fits : (s n : ℕ) → Name most_classes n → 1 + s % n ≤ most_classes
-class_fits s n h = omega (arith, mod-lt s {m = n} (omega arith))
 
 -- the last record
 abbrev pub feature : List Axiom
@@ -68,7 +62,7 @@ module _ {o₀ : List ℕ} {N at₀ s₀ : ℕ} {o : List ℕ} {at s k : ℕ} (g
   axioms_room =
       omega (arith, g.rest.ends, g.rest.size, words_size s g.j g.n, words_size s₀ 1 (N - 1))
 
-  pub axioms_more : {s' c : ℕ} {o' : List ℕ} {at' : ℕ} → k < N + 1 → s' ≡ advance s → c ≡ 1 + s' % (k - 1) →
+  pub axioms_more : {s' c : ℕ} {o' : List ℕ} {at' : ℕ} → k < N + 1 → s' ≡ advance s → c ≡ 1 + draw s (k - 1) →
       Put o at (1 ∷ (k ∷ (c ∷ (k ∷ [])))) o' at' → AxiomsLeft o₀ N at₀ s₀ o' at' s' (k + 1)
   axioms_more {s'} {c} {o'} {at'} h e f p = go g.n refl
     where

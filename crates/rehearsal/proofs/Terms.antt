@@ -1,5 +1,5 @@
 -- A policy's terms drawn one after another. Assumes nothing.
-use Prim.Native.Nat.{◌%◌, ◌*◌, ◌+◌, ◌<◌, ◌≤◌, suc, zero, ℕ}
+use Prim.Native.Nat.{◌*◌, ◌+◌, ◌<◌, ◌≤◌, suc, zero, ℕ}
 use mathlib.Core.Bool.{cond}
 use mathlib.Core.List.{List, [], ◌++◌}
 use mathlib.Core.Path.{◌∙◌, ◌≡◌, ap, refl, sym}
@@ -14,7 +14,7 @@ use Rattle.meaning.specs.PolicyWords.{chain_words, record_words, term_words}
 use Rattle.meaning.specs.Records.{link_to}
 use Rattle.rehearsal.proofs.Seeds.{terms_total, three_more}
 use Rattle.rehearsal.specs.Drawing.{Drawn, Drawable}
-use Rattle.rehearsal.specs.Load.{advance, advance_by, load_policy, load_term}
+use Rattle.rehearsal.specs.Load.{advance, advance_by, draw, load_policy, load_term}
 use Rattle.rehearsal.specs.declared.Cursor.{Cursor}
 use Rattle.theory.proofs.PolicyWords.{term_length}
 
@@ -77,13 +77,12 @@ module _ {o₀ : List ℕ} {c : Cursor} {N m : ℕ} {o : List ℕ} {d : Cursor} 
 
 -- ---- a term: three draws, three records
 
-pub term_put : (N k : ℕ) {o o₁ o₂ o₃ : List ℕ} {c r : Cursor} {next first second third class at₁ at₂ : ℕ} → first ≡ advance c.seed → second ≡ advance first →
-    third ≡ advance second → class ≡ 1 + first % N → Put o c.at (record_words 5 0 0 0 (k + 1) next []) o₁ at₁ →
-    Put o₁ at₁ (record_words 1 class 0 0 0 (k + 2) []) o₂ at₂ → Put o₂ at₂ (record_words 4 1 (second % 100) (second % 100 + third % 100) 0 0 []) o₃ r.at →
-    r.seed ≡ third → Drawn o c (one c.seed N k next) (advance_by 3 c.seed) o₃ r
-term_put N k {c = c} {next = next} {first = first} {second = second} {third = third} {class = class} e f g h p q r s =
+pub term_put : (N k : ℕ) {o o₁ o₂ o₃ : List ℕ} {c r : Cursor} {next class lo span at₁ at₂ : ℕ} → class ≡ 1 + draw c.seed N → lo ≡ draw (advance c.seed) 100 →
+    span ≡ draw (advance (advance c.seed)) 100 → Put o c.at (record_words 5 0 0 0 (k + 1) next []) o₁ at₁ → Put o₁ at₁ (record_words 1 class 0 0 0 (k + 2) []) o₂ at₂ →
+    Put o₂ at₂ (record_words 4 1 lo (lo + span) 0 0 []) o₃ r.at → r.seed ≡ advance_by 3 c.seed → Drawn o c (one c.seed N k next) (advance_by 3 c.seed) o₃ r
+term_put N k {c = c} {next = next} {class = class} {lo = lo} {span = span} e f g p q r s =
     let link : k + 2 ≡ suc (k + 1) = omega arith in
     let all = put_then (put_then p q) r in
-    let words : record_words 5 0 0 0 (k + 1) next (record_words 1 class 0 0 0 (k + 2) (record_words 4 1 (second % 100) (second % 100 + third % 100) 0 0 []))
-    ≡ one c.seed N k next = rw (h, link, g, f, e) in
-    record { words = put_as words all; seed = s ∙ g ∙ ap advance (f ∙ ap advance e) }
+    let words : record_words 5 0 0 0 (k + 1) next (record_words 1 class 0 0 0 (k + 2) (record_words 4 1 lo (lo + span) 0 0 [])) ≡ one c.seed N k next =
+    rw (e, f, g, link) in
+    record { words = put_as words all; seed = s }

@@ -1,13 +1,13 @@
 // The operation Rehearse: a load of a vocabulary and two policies, drawn from a seed, as the program reads them.
 #![tactic(auto)]
 
-ghost use Rattle.std.specs.Prelude.{cond, [], ◌≡◌, ◌%◌, ◌*◌, ◌+◌, ◌-◌, ◌<◌, ◌≤◌, eqb, length};
+ghost use Rattle.std.specs.Prelude.{cond, [], ◌≡◌, ◌*◌, ◌+◌, ◌-◌, ◌<◌, ◌≤◌, eqb, length};
 ghost use Rattle.meaning.specs.Limits.{most_classes};
 ghost use Rattle.meaning.specs.PolicyWords.{chain_words, policy_words, record_words, term_words};
 ghost use Rattle.meaning.specs.Records.{Name, chained_words};
 ghost use Rattle.meaning.specs.Vocabulary.{axiom_words};
 ghost use Rattle.rehearsal.specs.Drawing.{Drawn, Drawable, load_size};
-ghost use Rattle.rehearsal.specs.Load.{RehearsePost, advance, advance_by, counted, is_load, load_policy, load_term, load_vocabulary};
+ghost use Rattle.rehearsal.specs.Load.{RehearsePost, advance, advance_by, counted, draw, is_load, load_policy, load_term, load_vocabulary};
 ghost use Rattle.rehearsal.specs.Load.{most_terms, vocabulary_part};
 
 use meaning::limits::MOST_CLASSES;
@@ -32,21 +32,28 @@ pub struct Cursor {
     pub seed: u32,
 }
 
-// ---- draws
+impl Cursor {
+    // A draw moves the seed, which is then reduced: the generator of Park and Miller, with the numbers of C++'s minstd_rand.
+    #[tactic(auto, unfolding(crate::specs::Load::advance))]
+    fn draw(&mut self, n: u32) -> u32
+        requires { 0 < n }
+        ensures value { result ≡ draw self.old.seed n }
+        ensures at { self.new.at ≡ self.old.at }
+        ensures seed { self.new.seed ≡ advance self.old.seed }
+    {
+        self.seed = (48271 * u64::from(self.seed) % 2147483647) as u32;
+        self.seed % n
+    }
 
-// A draw moves the seed: the generator of Park and Miller, with the numbers of C++'s minstd_rand.
-fn advance(s: u32) -> u32
-    ensures { result ≡ advance s }
-{
-    (48271 * (s as u64) % 2147483647) as u32
-}
-
-// The class that a draw of n is, s being moved already.
-fn class_of(s: u32, n: u32) -> ClassNo
-    requires { Name most_classes n }
-    ensures { result.0 ≡ 1 + s % n }
-{
-    ClassNo(1 + s % n)
+    // One of n classes.
+    fn draw_class(&mut self, n: u32) -> ClassNo
+        requires { Name most_classes n }
+        ensures value { result.0 ≡ 1 + draw self.old.seed n }
+        ensures at { self.new.at ≡ self.old.at }
+        ensures seed { self.new.seed ≡ advance self.old.seed }
+    {
+        ClassNo(1 + self.draw(n))
+    }
 }
 
 // ---- the vocabulary
@@ -58,14 +65,13 @@ fn put_axioms(out: &mut [u32], c: Cursor, n: u32) -> Cursor
     ensures { Drawn out.old c (chained_words axiom_words 1 (load_vocabulary c.seed n).axioms)
         (advance_by (n - 1) c.seed) out.new result }
 {
-    let mut at = c.at;
-    let mut seed = c.seed;
+    let mut cursor = c;
     for k in 2..n + 1 {
-        seed = advance(seed);
-        at = put_four(out, at, 1, k, class_of(seed, k - 1).0, k);
+        let above = cursor.draw_class(k - 1);
+        cursor.at = put_four(out, cursor.at, 1, k, above.0, k);
     }
-    at = put_four(out, at, 4, FEATURE.0, 0, 0);
-    Cursor { at, seed }
+    cursor.at = put_four(out, cursor.at, 4, FEATURE.0, 0, 0);
+    cursor
 }
 
 // Its part, the first: its words behind their count.
@@ -87,15 +93,14 @@ fn put_term(out: &mut [u32], c: Cursor, n: u32, k: u32, next: u32) -> Cursor
     ensures { Drawn out.old c (record_words 5 0 0 0 (k + 1) next (chain_words (k + 1) (load_term c.seed n) []))
         (advance_by 3 c.seed) out.new result }
 {
-    let first = advance(c.seed);
-    let second = advance(first);
-    let third = advance(second);
-    let lo = second % 100;
-    let hi = lo + third % 100;
+    let mut cursor = c;
+    let class = cursor.draw_class(n);
+    let lo = cursor.draw(100);
+    let hi = lo + cursor.draw(100);
     let class_at = put_six(out, c.at, 5, 0, 0, 0, k + 1, next);
-    let interval_at = put_six(out, class_at, 1, class_of(first, n).0, 0, 0, 0, k + 2);
-    let at = put_six(out, interval_at, 4, FEATURE.0, lo, hi, 0, 0);
-    Cursor { at, seed: third }
+    let interval_at = put_six(out, class_at, 1, class.0, 0, 0, 0, k + 2);
+    cursor.at = put_six(out, interval_at, 4, FEATURE.0, lo, hi, 0, 0);
+    cursor
 }
 
 // The record of the term after term t of m, counted from 0; the last has none.

@@ -11,6 +11,7 @@ use meaning::limits::MOST_CLASSES;
 use rehearsal::{MOST_TERMS, rehearse};
 use std::env::{Env, FillError};
 use std::io::Write;
+use streams::write_answer;
 
 // The words of the longest load.
 const MOST_LOAD: usize = 3 + 4 * (MOST_CLASSES as usize + 1) + 12 * (3 * MOST_TERMS as usize + 1);
@@ -23,14 +24,14 @@ const MOST_WORD: u64 = 4294967295;
 fn is_digit(b: u8) -> bool
     ensures { result ≡ is_digit b }
 {
-    48 <= b && b <= 57
+    b.is_ascii_digit()
 }
 
 fn digit(b: u8) -> u64
     requires { (48 ≤ b) × (b ≤ 57) }
     ensures { (result ≡ b - 48) × (result ≤ 9) }
 {
-    (b - 48) as u64
+    u64::from(b - b'0')
 }
 
 // The number that an argument is. No argument may be 0, so that stands for one that is no number, or that no word holds.
@@ -38,8 +39,7 @@ fn number(text: &[u8]) -> u32
     ensures { result ≡ number_of text.now }
 {
     let mut value = 0;
-    for i in 0..text.len() {
-        let b = text[i];
+    for &b in text {
         if !is_digit(b) {
             return 0;
         }
@@ -90,10 +90,6 @@ fn tell_refused(rt: &impl Eprint) {
     );
 }
 
-fn tell_unwritten(rt: &impl Eprint) {
-    let _ = eprintln!(rt; "rehearse: the load cannot be written");
-}
-
 // What came of writing a load.
 #[derive(Clone, Copy)]
 pub enum Delivery {
@@ -109,12 +105,9 @@ fn write_load<W: Write>(rt: &impl Eprint, output: &mut W, bytes: &[u8]) -> Deliv
         tell_refused(rt);
         return Delivery::Refused;
     }
-    match output.write_all(bytes) {
+    match write_answer(rt, output, bytes, "rehearse: the load cannot be written") {
         Ok(()) => Delivery::Written,
-        Err(_) => {
-            tell_unwritten(rt);
-            Delivery::Failed
-        }
+        Err(_) => Delivery::Failed,
     }
 }
 

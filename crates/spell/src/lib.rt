@@ -70,14 +70,15 @@ fn file(work: &[u32], t: Tables, out: &mut [u32]) -> Result<usize, Refusal>
     let mut order = [0; MOST_RECORDS];
     find_depths(work, t.individuals, &mut depths[..]);
     let top = arrange(work, t, &depths[..], &mut order[..]);
-    if is_too_long(work, &depths[..], &order[..], top) {
+    let arranged = &order[top..];
+    if is_too_long(work, &depths[..], arranged) {
         return Err(Refusal::Spelling);
     }
-    let n = size(work, &order[..], top);
+    let n = size(work, arranged);
     if out.len() < n {
         return Err(Refusal::Output);
     }
-    write(work, &depths[..], &order[..], top, out);
+    write(work, &depths[..], arranged, out);
     Ok(n)
 }
 

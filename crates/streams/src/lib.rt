@@ -8,41 +8,19 @@ ghost use Rattle.streams.specs.Streams.{Fits, Held, Took, WasRead, WasWritten, b
 use std::io;
 use std::io::{Read, Write};
 
-// What one read brought.
-#[derive(Clone, Copy)]
-pub enum Brought {
-    Bytes(usize),
-    End,
-    Failure,
-}
-
-// What came of reading the input.
-#[derive(Clone, Copy)]
-pub enum Intake {
-    Bytes(usize),
-    Failed,
-}
-
-// What came of writing an answer.
-#[derive(Clone, Copy)]
-pub enum Delivery {
-    Written,
-    Failed,
-}
-
-// What the answer of a read says.
-fn brought_by(got: io::Result<usize>) -> Brought
+// What the answer of a read says: so many bytes, or none at the end of the input.
+fn brought_by(got: io::Result<usize>) -> io::Result<Option<usize>>
     ensures { result ≡ brought_by got }
 {
     match got {
-        Ok(0) => Brought::End,
-        Ok(n) => Brought::Bytes(n),
-        Err(_) => Brought::Failure,
+        Ok(0) => Ok(None),
+        Ok(n) => Ok(Some(n)),
+        Err(e) => Err(e),
     }
 }
 
 // One read into the buffer, from a place on.
-fn read_from<R: Read>(input: &mut R, buffer: &mut [u8], from: usize) -> Brought
+fn read_from<R: Read>(input: &mut R, buffer: &mut [u8], from: usize) -> io::Result<Option<usize>>
     requires { from ≤ length buffer.old }
     ensures fits { Fits result (length buffer.old - from) }
     ensures before { take from buffer.new ≡ take from buffer.old }
@@ -56,38 +34,37 @@ fn tell_unread(rt: &impl Eprint) {
     let _ = eprintln!(rt; "comply: the input cannot be read");
 }
 
-// Reads until the input ends or the buffer is full.
-pub fn read_input<R: Read>(rt: &impl Eprint, input: &mut R, buffer: &mut [u8]) -> Intake
+// Reads until the input ends or the buffer is full; how many bytes then stand at its front.
+pub fn read_input<R: Read>(rt: &impl Eprint, input: &mut R, buffer: &mut [u8]) -> io::Result<usize>
     ensures held { Held result buffer.new }
     ensures bytes { WasRead (R.remaining input.old) (R.remaining input.new) result buffer.new }
 {
     let mut done = 0;
     while done < buffer.len() {
-        let brought = read_from(input, buffer, done);
-        match brought {
-            Brought::Bytes(n) => done += n,
-            Brought::End => return Intake::Bytes(done),
-            Brought::Failure => {
+        match read_from(input, buffer, done) {
+            Ok(Some(n)) => done += n,
+            Ok(None) => return Ok(done),
+            Err(e) => {
                 tell_unread(rt);
-                return Intake::Failed;
+                return Err(e);
             }
         }
     }
-    Intake::Bytes(done)
+    Ok(done)
 }
 
-fn tell_unwritten(rt: &impl Eprint) {
-    let _ = eprintln!(rt; "comply: the answer cannot be written");
-}
-
-pub fn write_answer<W: Write>(rt: &impl Eprint, output: &mut W, answer: &[u8]) -> Delivery
+// Writes an answer, and tells of the failure where it cannot be written.
+pub fn write_answer<W: Write>(
+    rt: &impl Eprint,
+    output: &mut W,
+    answer: &[u8],
+    failure: &str,
+) -> io::Result<()>
     ensures { WasWritten (W.contents output.old) (W.contents output.new) result answer.now }
 {
-    match output.write_all(answer) {
-        Ok(()) => Delivery::Written,
-        Err(_) => {
-            tell_unwritten(rt);
-            Delivery::Failed
-        }
+    let written = output.write_all(answer);
+    if written.is_err() {
+        let _ = eprintln!(rt; "{failure}");
     }
+    written
 }

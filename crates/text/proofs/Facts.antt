@@ -1,7 +1,6 @@
 -- The records of a model's words, one after the other, and the lines printed for them. Assumes nothing.
 use Rattle.std.specs.Prelude.{Ok}
 use Prim.Native.Nat.{◌*◌, ◌+◌, ◌-◌, ◌/◌, suc, ℕ}
-use borrow.Author.Tests.{eq-eqb, ne_eqb}
 use lib.ListN.{drop, length, take-append-drop}
 use mathlib.Core.List.{List, [], ◌++◌, ◌∷◌, append_assoc, append-nil, map}
 use mathlib.Core.Path.{◌∙◌, ◌≡◌, ap, refl, sym}
@@ -13,24 +12,13 @@ use Rattle.frames.specs.Rows.{Put}
 use Rattle.input.proofs.Words.{counted}
 use Rattle.meaning.specs.Answers.{Answer, VerdictResult}
 use Rattle.meaning.specs.Lists.{counting, flat_map}
-use Rattle.meaning.specs.Model.{Fact, fact_at, fact_kind, fact_name, fact_other, fact_owner, fact_words, facts_of}
+use Rattle.meaning.specs.Model.{Fact, fact_at, fact_words, facts_of}
 use Rattle.meaning.specs.Model.{model_words}
 use Rattle.meaning.specs.Program.{answer_line, bytes, fact_line, line, printed}
 use Rattle.meaning.specs.Records.{chained_words, link_to}
 use Rattle.meaning.specs.declared.Verdict.TheVariants.{Outside}
 use Rattle.text.specs.Text.{Model, records_to, shown}
 use Rattle.theory.proofs.ModelWords.{model_facts, model_length, stated}
-
--- the line of record k, of the words read
-module _ (m : List ℕ) (k : ℕ) {x a i j : ℕ} (kind : x ≡ fact_kind m k) (name : a ≡ fact_name m k) (owner : i ≡ fact_owner m k) (other : j ≡ fact_other m k) where
-  pub fact_member : x ≡ 1 → line (bytes "member") (a ∷ (i ∷ [])) ≡ fact_line (fact_at m k)
-  fact_member h = rw (← kind, ← name, ← owner, eq-eqb x 1 h)
-
-  pub fact_edge : (x ≡ 1 → ⊥) → x ≡ 2 → line (bytes "edge") (a ∷ (i ∷ (j ∷ []))) ≡ fact_line (fact_at m k)
-  fact_edge n h = rw (← kind, ← name, ← owner, ← other, ne_eqb x 1 n, eq-eqb x 2 h)
-
-  pub fact_value : (x ≡ 1 → ⊥) → (x ≡ 2 → ⊥) → line (bytes "value") (a ∷ (i ∷ (j ∷ []))) ≡ fact_line (fact_at m k)
-  fact_value n h = rw (← kind, ← name, ← owner, ← other, ne_eqb x 1 n, ne_eqb x 2 h)
 
 lines_more : (F : List Fact) (x : Fact) → flat_map fact_line (F ++ (x ∷ [])) ≡ flat_map fact_line F ++ fact_line x
 lines_more [] x = append-nil (fact_line x)

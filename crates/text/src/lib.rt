@@ -1,10 +1,10 @@
 // The program's output: the lines that it prints.
 #![tactic(auto)]
 
-ghost use Rattle.std.specs.Prelude.{[], ◌∷◌, ◌*◌, ◌+◌, ◌<◌, ◌≤◌, length};
+ghost use Rattle.std.specs.Prelude.{◌∷◌, ◌*◌, ◌+◌, ◌<◌, ◌≤◌, length};
 ghost use Rattle.meaning.specs.Lists.{flat_map};
 ghost use Rattle.meaning.specs.Model.{fact_at};
-ghost use Rattle.meaning.specs.Program.{bytes, decimal, fact_line, line, printed};
+ghost use Rattle.meaning.specs.Program.{decimal, fact_line, line, printed};
 ghost use Rattle.frames.specs.Rows.{Put};
 ghost use Rattle.text.specs.Text.{Reported, most_line, records_to, shown, text_size};
 
@@ -26,27 +26,17 @@ fn put_number(text: &mut [u8], at: usize, n: u32) -> usize
     put_decimal(text, next, n)
 }
 
-fn put_pair(text: &mut [u8], at: usize, name: &[u8], a: u32, b: u32) -> usize
-    requires { (at + most_line ≤ length text.old) × (length name.now ≤ 7) }
-    ensures put { Put text.old at (line name.now (a ∷ (b ∷ []))) text.new result }
-    ensures upper_bound { result ≤ at + most_line }
+// A name, numbers with a space before each, and a line feed.
+fn put_line(text: &mut [u8], at: usize, name: &[u8], numbers: &[u32]) -> usize
+    requires { at + (length name.now + 11 * length numbers.now + 1) ≤ length text.old }
+    ensures put { Put text.old at (line name.now numbers.now) text.new result }
+    ensures upper_bound { result ≤ at + (length name.now + 11 * length numbers.now + 1) }
 {
-    let first = put_name(text, at, name);
-    let second = put_number(text, first, a);
-    let third = put_number(text, second, b);
-    put_byte(text, third, b'\n')
-}
-
-fn put_triple(text: &mut [u8], at: usize, name: &[u8], a: u32, b: u32, c: u32) -> usize
-    requires { (at + most_line ≤ length text.old) × (length name.now ≤ 7) }
-    ensures put { Put text.old at (line name.now (a ∷ (b ∷ (c ∷ [])))) text.new result }
-    ensures upper_bound { result ≤ at + most_line }
-{
-    let first = put_name(text, at, name);
-    let second = put_number(text, first, a);
-    let third = put_number(text, second, b);
-    let fourth = put_number(text, third, c);
-    put_byte(text, fourth, b'\n')
+    let mut next = put_name(text, at, name);
+    for &n in numbers {
+        next = put_number(text, next, n);
+    }
+    put_byte(text, next, b'\n')
 }
 
 // Record k of a model's words.
@@ -59,13 +49,11 @@ fn put_fact(text: &mut [u8], at: usize, out: &[u32], k: usize) -> usize
     let name = word(out, 5 * k + 1);
     let owner = word(out, 5 * k + 2);
     let other = word(out, 5 * k + 3);
-    if kind == 1 {
-        return put_pair(text, at, b"member", name, owner);
+    match kind {
+        1 => put_line(text, at, b"member", &[name, owner]),
+        2 => put_line(text, at, b"edge", &[name, owner, other]),
+        _ => put_line(text, at, b"value", &[name, owner, other]),
     }
-    if kind == 2 {
-        return put_triple(text, at, b"edge", name, owner, other);
-    }
-    put_triple(text, at, b"value", name, owner, other)
 }
 
 // Records 1 to n.
@@ -80,29 +68,12 @@ fn put_facts(text: &mut [u8], at: usize, out: &[u32], n: usize) -> usize
     next
 }
 
-fn put_compliant(text: &mut [u8]) -> usize
-    requires { most_line ≤ length text.old }
-    ensures { Put text.old 0 (line (bytes "compliant") []) text.new result }
-{
-    let next = put_name(text, 0, b"compliant");
-    put_byte(text, next, b'\n')
-}
-
-fn put_refused(text: &mut [u8], n: u32) -> usize
-    requires { most_line ≤ length text.old }
-    ensures { Put text.old 0 (line (bytes "refused") (n ∷ [])) text.new result }
-{
-    let first = put_name(text, 0, b"refused");
-    let second = put_number(text, first, n);
-    put_byte(text, second, b'\n')
-}
-
 fn put_outside(text: &mut [u8], out: &[u32], s: u32, q: u32, n: usize) -> usize
     requires { (text_size ≤ length text.old) × Reported (Ok (Verdict.Outside s q n)) out.now }
     ensures { Put text.old 0 (printed (shown (Ok (Verdict.Outside s q n)) out.now))
         text.new result }
 {
-    let next = put_pair(text, 0, b"outside", s, q);
+    let next = put_line(text, 0, b"outside", &[s, q]);
     put_facts(text, next, out, n / 5 - 1)
 }
 
@@ -112,8 +83,8 @@ pub fn put_verdict(text: &mut [u8], out: &[u32], verdict: Result<Verdict, Refusa
     ensures { Put text.old 0 (printed (shown verdict out.now)) text.new result }
 {
     match verdict {
-        Ok(Verdict::Compliant) => put_compliant(text),
+        Ok(Verdict::Compliant) => put_line(text, 0, b"compliant", &[]),
         Ok(Verdict::Outside(s, q, n)) => put_outside(text, out, s, q, n),
-        Err(e) => put_refused(text, e.number()),
+        Err(e) => put_line(text, 0, b"refused", &[e.number()]),
     }
 }

@@ -1,29 +1,31 @@
 -- The entries of an order from a place on, counted, and asked how deep they are. Assumes nothing.
-use Prim.Native.Nat.{◌*◌, ◌+◌, ◌<◌, ◌≤◌, suc, ℕ}
+use Prim.Native.Nat.{◌*◌, ◌+◌, ◌-◌, ◌<◌, ◌≤◌, suc, ℕ}
 use mathlib.Core.Bool.{Bool, ◌||◌, cond, false, true}
 use mathlib.Core.List.{List, [], ◌∷◌}
 use mathlib.Core.Path.{◌∙◌, ◌≡◌, ap, refl, sym}
 use lib.Dec.{leb, leb-suc-suc, ltb}
-use lib.ListN.{get_or, length}
+use lib.ListN.{drop, get_or, length, length-drop, take}
+use lib.Seq.{take_all}
+use Rattle.std.proofs.lemmas.List.{length-take}
 use native.Mathlib.Omega.{arith}
 use borrow.Author.Tests.{le-ltb, lt-ltb}
-use Rattle.entries.proofs.Runs.{items_first, items_none}
-use Rattle.entries.specs.Entries.{Item, classes_at, depth_at, fields_at, item_at}
+use Rattle.entries.proofs.Runs.{items_behind, items_first, items_front, items_none}
+use Rattle.entries.specs.Entries.{Item, classes_at, depth_at, fields_at, item_at, items_in, items_of}
 use Rattle.entries.specs.declared.Fields.{Fields}
 use Rattle.meaning.specs.Limits.{most_classes, most_depth, most_records}
 use Rattle.meaning.specs.Lists.{any}
 use Rattle.words.proofs.Laws.{members_few}
 use Rattle.words.specs.Members.{members}
 use Rattle.words.specs.Rows.{class_words}
-use Rattle.writing.specs.Written.{CountsEntry, Ordered, are_too_long, is_deep, items_from, records_in, where_any}
+use Rattle.writing.specs.Written.{CountsEntry, Ordered, are_too_long, is_deep, records_in, where_any}
 
 -- ---- an entry
 
-pub place_known : {w o : List ℕ} {i j : ℕ} → Ordered w o i → j ≤ length o → Ordered w o j
-place_known r h = record { items = r.items; few = r.few; within = h }
-
-pub next_known : {w o : List ℕ} {i : ℕ} → Ordered w o i → i < length o → Ordered w o (i + 1)
-next_known r h = place_known r (omega arith)
+pub rest_known : {w o : List ℕ} → Ordered w o → (i : ℕ) → Ordered w (take (length o - i) (drop i o))
+rest_known {o = o} r i = record {
+  items = items_front (items_behind r.items i) (length o - i);
+  few = (let e = length-take (length o - i) (drop i o) in let f = length-drop i o in let g = r.few in omega arith);
+}
 
 module _ (w ds : List ℕ) (e : ℕ) where
   pub depth_here : (item_at w ds e).fields.depth ≡ depth_at w ds e
@@ -64,7 +66,14 @@ entry_counted w e {s} {n} p q r = record {
 
 -- ---- entry after entry
 
+-- the items of the entries from place i on
+abbrev pub items_from : List ℕ → List ℕ → List ℕ → ℕ → List Item
+items_from w ds o i = items_in w ds o i (length o)
+
 module _ (w ds o : List ℕ) where
+  pub from_start : items_from w ds o 0 ≡ items_of w ds o
+  from_start = ap (items_of w ds) (take_all (length o - 0) o (omega arith))
+
   pub from_first : (i : ℕ) {e : ℕ} → e ≡ get_or o i 0 → i < length o → items_from w ds o i ≡ item_at w ds e ∷ items_from w ds o (i + 1)
   from_first i p h = rw p (items_first w ds o i (length o) h (omega arith))
 
@@ -72,46 +81,44 @@ module _ (w ds o : List ℕ) where
   from_none i h = items_none w ds o i (length o) h
 
 -- n records are counted before place i
-pub record Counting (w o : List ℕ) (top i n : ℕ) : Type 0 where
-  pub within : i ≤ length o
+pub record Counting (w o : List ℕ) (i n : ℕ) : Type 0 where
   pub few : n ≤ (most_classes + 1) * i
-  pub says : (ds : List ℕ) → n + records_in (items_from w ds o i) ≡ records_in (items_from w ds o top)
+  pub says : (ds : List ℕ) → n + records_in (items_from w ds o i) ≡ records_in (items_of w ds o)
 
-pub counting_starts : {w o : List ℕ} {i : ℕ} → Ordered w o i → Counting w o i i 0
-counting_starts r = record { within = r.within; few = omega arith; says = λ ds. omega arith }
+pub counting_starts : (w o : List ℕ) → Counting w o 0 0
+counting_starts w o = record { few = omega arith; says = λ ds. omega (arith, ap records_in (from_start w ds o)) }
 
-module _ {w o : List ℕ} {top i n : ℕ} (x : Counting w o top i n) where
-  pub counting_more : {e m : ℕ} → i < length o → e ≡ get_or o i 0 → CountsEntry w e m → Counting w o top (i + 1) (n + m)
+module _ {w o : List ℕ} {i n : ℕ} (x : Counting w o i n) where
+  pub counting_more : {e m : ℕ} → i < length o → e ≡ get_or o i 0 → CountsEntry w e m → Counting w o (i + 1) (n + m)
   counting_more h p q = record {
-    within = omega arith;
     few = omega (arith, x.few, q.few);
     says = λ ds. omega (arith, ap records_in (from_first w ds o i p h), q.says ds, x.says ds);
   }
 
-  pub counting_ends : length o ≤ i → (ds : List ℕ) → n ≡ records_in (items_from w ds o top)
+  pub counting_ends : length o ≤ i → (ds : List ℕ) → n ≡ records_in (items_of w ds o)
   counting_ends h ds = omega (arith, ap records_in (from_none w ds o i h), x.says ds)
 
 -- no entry before place i is deep
-pub record Passing (w ds o : List ℕ) (top i : ℕ) : Type 0 where
-  pub within : i ≤ length o
-  pub says : any is_deep (items_from w ds o i) ≡ any is_deep (items_from w ds o top)
+abbrev pub Passing : List ℕ → List ℕ → List ℕ → ℕ → Type 0
+Passing w ds o i = any is_deep (items_from w ds o i) ≡ any is_deep (items_of w ds o)
 
-pub passing_starts : {w ds o : List ℕ} {i : ℕ} → Ordered w o i → Passing w ds o i i
-passing_starts r = record { within = r.within; says = refl }
+module _ (w ds o : List ℕ) where
+  pub passing_starts : Passing w ds o 0
+  passing_starts = ap (any is_deep) (from_start w ds o)
 
-module _ {w ds o : List ℕ} {top i : ℕ} (x : Passing w ds o top i) where
-  module _ {e : ℕ} {b : Bool} (h : i < length o) (p : e ≡ get_or o i 0) (q : b ≡ is_deep (item_at w ds e)) where
-    told : (c : Bool) → b ≡ c → c || any is_deep (items_from w ds o (i + 1)) ≡ any is_deep (items_from w ds o top)
-    told c t = rw (← t, q) (ap (any is_deep) (sym (from_first w ds o i p h)) ∙ x.says)
+  module _ {i : ℕ} (x : Passing w ds o i) where
+    module _ {e : ℕ} {b : Bool} (h : i < length o) (p : e ≡ get_or o i 0) (q : b ≡ is_deep (item_at w ds e)) where
+      told : (c : Bool) → b ≡ c → c || any is_deep (items_from w ds o (i + 1)) ≡ any is_deep (items_of w ds o)
+      told c t = rw (← t, q) (ap (any is_deep) (sym (from_first w ds o i p h)) ∙ x)
 
-    pub passing_found : b ≡ true → true ≡ any is_deep (items_from w ds o top)
-    passing_found t = told true t
+      pub passing_found : b ≡ true → true ≡ any is_deep (items_of w ds o)
+      passing_found t = told true t
 
-    pub passing_more : b ≡ false → Passing w ds o top (i + 1)
-    passing_more t = record { within = omega arith; says = told false t }
+      pub passing_more : b ≡ false → Passing w ds o (i + 1)
+      passing_more t = told false t
 
-  pub passing_ends : length o ≤ i → false ≡ any is_deep (items_from w ds o top)
-  passing_ends h = ap (any is_deep) (sym (from_none w ds o i h)) ∙ x.says
+    pub passing_ends : length o ≤ i → false ≡ any is_deep (items_of w ds o)
+    passing_ends h = ap (any is_deep) (sym (from_none w ds o i h)) ∙ x
 
 -- ---- too long
 

@@ -5,16 +5,16 @@ use mathlib.Core.Path.{◌∙◌, ◌≡◌, ap, ap₂, refl, sym}
 use lib.ListN.{drop, get_or, length}
 use native.Mathlib.Nat.{zero-add}
 use native.Mathlib.Omega.{arith}
-use Rattle.entries.specs.Entries.{Item, item_at}
+use Rattle.entries.specs.Entries.{Item, item_at, items_of}
 use Rattle.frames.proofs.Rows.{put_append, put_nil}
 use Rattle.frames.specs.Rows.{put_at}
 use Rattle.meaning.specs.Operations.{output_after}
 use Rattle.meaning.specs.PolicyWords.{record_words}
 use Rattle.meaning.specs.Records.{link_to}
-use Rattle.writing.proofs.Counting.{from_first, from_none}
+use Rattle.writing.proofs.Counting.{from_first, from_none, from_start, items_from}
 use Rattle.writing.proofs.Words.{record_then}
-use Rattle.writing.specs.Written.{CountsEntry, Ordered, RoomFrom, Writable, class_records, entry_at, first_records, item_records, item_words}
-use Rattle.writing.specs.Written.{items_from, link_below, record_count, records_in, where_any}
+use Rattle.writing.specs.Written.{CountsEntry, RoomFrom, Writable, class_records, first_records, item_records, item_words}
+use Rattle.writing.specs.Written.{link_below, record_count, records_in, where_any}
 
 -- ---- how many words
 
@@ -60,35 +60,34 @@ records_more k x l = refl
 
 -- ---- at place i, record k the entries from there on are left
 
-pub record Writing (w ds o : List ℕ) (top : ℕ) (out₀ : List ℕ) (i k : ℕ) (out : List ℕ) : Type 0 where
-  pub within : i ≤ length o
-  pub count : records_in (items_from w ds o i) + k ≡ records_in (items_from w ds o top) + 1
+pub record Writing (w ds o out₀ : List ℕ) (i k : ℕ) (out : List ℕ) : Type 0 where
+  pub count : records_in (items_from w ds o i) + k ≡ records_in (items_of w ds o) + 1
   pub long : length out ≡ length out₀
-  pub says : put_at out (6 * k) (item_records k (items_from w ds o i)) ≡ put_at out₀ 6 (item_records 1 (items_from w ds o top))
+  pub says : put_at out (6 * k) (item_records k (items_from w ds o i)) ≡ put_at out₀ 6 (item_records 1 (items_of w ds o))
 
-pub writing_starts : {w ds o : List ℕ} {top : ℕ} (out : List ℕ) → Ordered w o top → Writing w ds o top out top 1 out
-writing_starts out r = record { within = r.within; count = refl; long = refl; says = refl }
+pub writing_starts : (w ds o out : List ℕ) → Writing w ds o out 0 1 out
+writing_starts w ds o out =
+    let e = from_start w ds o in
+    record { count = ap (λ (l : List Item). records_in l + 1) e; long = refl; says = ap (λ (l : List Item). put_at out 6 (item_records 1 l)) e }
 
-module _ {w ds o : List ℕ} {top : ℕ} {out₀ : List ℕ} {i k : ℕ} {out o₀ : List ℕ} (x : Writing w ds o top out₀ i k out)
-    (room : Writable w ds o top o₀) (same : length out₀ ≡ length o₀) where
-  module _ (h : i < length o) where
-    left : items_from w ds o i ≡ entry_at w ds o i ∷ items_from w ds o (i + 1)
-    left = from_first w ds o i refl h
+module _ {w ds o out₀ : List ℕ} {i k : ℕ} {out o₀ : List ℕ} (x : Writing w ds o out₀ i k out) (room : Writable w ds o o₀) (same : length out₀ ≡ length o₀) where
+  module _ {e : ℕ} (h : i < length o) (p : e ≡ get_or o i 0) where
+    left : items_from w ds o i ≡ item_at w ds e ∷ items_from w ds o (i + 1)
+    left = from_first w ds o i p h
 
-    pub writing_room : RoomFrom k (record_count (entry_at w ds o i)) out
+    pub writing_room : RoomFrom k (record_count (item_at w ds e)) out
     writing_room =
         let n = ap records_in left in
         record { long = omega (arith, x.count, x.long, room.long); few = omega (arith, x.count, room.few) }
 
-    pub writing_more : {e m : ℕ} {out' : List ℕ} → e ≡ get_or o i 0 → CountsEntry w e m → length out' ≡ length out →
-        out' ≡ put_at out (6 * k) (first_records k (entry_at w ds o i) (items_from w ds o (i + 1)) []) → Writing w ds o top out₀ (i + 1) (k + m) out'
-    writing_more {e} {m} p q g v =
-        let y = entry_at w ds o i in
+    pub writing_more : {m : ℕ} {out' : List ℕ} → CountsEntry w e m → length out' ≡ length out →
+        out' ≡ put_at out (6 * k) (first_records k (item_at w ds e) (items_from w ds o (i + 1)) []) → Writing w ds o out₀ (i + 1) (k + m) out'
+    writing_more {m} q g v =
+        let y = item_at w ds e in
         let l = items_from w ds o (i + 1) in
-        let c : m ≡ record_count y = q.says ds ∙ ap (λ (j : ℕ). record_count (item_at w ds j)) p in
+        let c : m ≡ record_count y = q.says ds in
         let n = ap records_in left in
         record {
-          within = omega arith;
           count = omega (arith, x.count);
           long = g ∙ x.long;
           says =
@@ -98,11 +97,11 @@ module _ {w ds o : List ℕ} {top : ℕ} {out₀ : List ℕ} {i k : ℕ} {out o�
               ∙ x.says;
         }
 
-  pub writing_ends : {first : ℕ} → length o ≤ i → first ≡ link_to 1 (items_from w ds o top) → out₀ ≡ put_at o₀ 0 (record_words first 0 0 0 0 0 []) →
-      out ≡ output_after (item_words (items_from w ds o top)) o₀
+  pub writing_ends : {first : ℕ} → length o ≤ i → first ≡ link_to 1 (items_of w ds o) → out₀ ≡ put_at o₀ 0 (record_words first 0 0 0 0 0 []) →
+      out ≡ output_after (item_words (items_of w ds o)) o₀
   unfolding item_words item_records output_after
   writing_ends {first} h p v =
-      let ws = item_records 1 (items_from w ds o top) in
+      let ws = item_records 1 (items_of w ds o) in
       sym (put_nil out (6 * k))
       ∙ ap (λ (l : List Item). put_at out (6 * k) (item_records k l)) (sym (from_none w ds o i h))
       ∙ x.says

@@ -4,7 +4,7 @@ use mathlib.Core.Bool.{cond}
 use mathlib.Core.List.{List, [], ◌∷◌}
 use mathlib.Core.Path.{◌∙◌, ◌≡◌, ap, refl, sym}
 use lib.Dec.{eqb, eqb-suc-zero}
-use lib.ListN.{get_or, length}
+use lib.ListN.{length}
 use native.Mathlib.Numerals.{add-one}
 use native.Mathlib.Omega.{arith}
 use Rattle.entries.specs.Entries.{Item, classes_at, fields_at, item_at}
@@ -15,7 +15,7 @@ use Rattle.meaning.specs.Limits.{most_records}
 use Rattle.meaning.specs.PolicyWords.{record_words}
 use Rattle.words.proofs.Listing.{from_end, from_more, from_start}
 use Rattle.words.specs.Members.{members, members_from, next_member}
-use Rattle.writing.specs.Written.{RoomFrom, class_records, entry_at, first_records, link_below, link_beside, record_count, where_any}
+use Rattle.writing.specs.Written.{RoomFrom, class_records, first_records, link_below, link_beside, record_count, where_any}
 
 -- ---- one record
 
@@ -88,11 +88,11 @@ any_cond : (cs : List ℕ) (x none : ℕ) → cond (eqb (length cs) 0) none x �
 any_cond [] x none = refl
 any_cond (c ∷ cs) x none = rw (eqb-suc-zero (length cs))
 
-module _ (w ds o : List ℕ) (i : ℕ) {k n e : ℕ} {s out : List ℕ} (room : RoomFrom k (record_count (entry_at w ds o i)) out) (p : e ≡ get_or o i 0)
+module _ (w ds : List ℕ) (e : ℕ) {k n : ℕ} {s out : List ℕ} (room : RoomFrom k (record_count (item_at w ds e)) out)
     (q : s ≡ classes_at w e) (r : n ≡ length (members s)) where
-  entry_classes : members s ≡ (entry_at w ds o i).classes
+  entry_classes : members s ≡ (item_at w ds e).classes
   unfolding item_at
-  entry_classes = rw (q, p)
+  entry_classes = rw q
 
   pub entry_few : k + 1 + n ≤ most_records + 1
   entry_few = omega (arith, room.few, r, ap length entry_classes)
@@ -109,19 +109,19 @@ module _ (w ds o : List ℕ) (i : ℕ) {k n e : ℕ} {s out : List ℕ} (room : 
     abbrev rest : List ℕ
     rest = class_records (k + 1) (members s) below []
 
-    entry_fields : f ≡ (entry_at w ds o i).fields
+    entry_fields : f ≡ (item_at w ds e).fields
     unfolding item_at
-    entry_fields = rw (t, p)
+    entry_fields = rw t
 
-    entry_words : record_words kind f.name f.lo f.hi child beside rest ≡ first_records k (entry_at w ds o i) l []
+    entry_words : record_words kind f.name f.lo f.hi child beside rest ≡ first_records k (item_at w ds e) l []
     unfolding first_records
     entry_words =
-        let cs = (entry_at w ds o i).classes in
+        let cs = (item_at w ds e).classes in
         let m : k + 1 + length cs ≡ k + suc (length cs) = omega arith in
         rw (h, c, g, b, r, entry_classes, entry_fields, m, any_cond cs, add-one k)
 
     pub entry_put : {o₁ o₂ : List ℕ} → o₁ ≡ put_at out (6 * k) (record_words kind f.name f.lo f.hi child beside []) →
-        o₂ ≡ put_at o₁ (6 * (k + 1)) rest → o₂ ≡ put_at out (6 * k) (first_records k (entry_at w ds o i) l [])
+        o₂ ≡ put_at o₁ (6 * (k + 1)) rest → o₂ ≡ put_at out (6 * k) (first_records k (item_at w ds e) l [])
     entry_put u v =
         v
         ∙ ap (λ (z : List ℕ). put_at z (6 * (k + 1)) rest) u

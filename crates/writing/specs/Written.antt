@@ -1,6 +1,6 @@
 -- The words that items are written as: an item's record, its individual's classes behind it, then those below it.
-use Rattle.std.specs.Prelude.{◌*◌, ◌+◌, ◌≤◌, suc, ℕ, Bool, ◌||◌, cond, List, [], ◌∷◌, ◌≡◌, eqb, ltb, get_or, length}
-use Rattle.entries.specs.Entries.{HasItems, Item, item_at, items_in}
+use Rattle.std.specs.Prelude.{◌*◌, ◌+◌, ◌≤◌, suc, ℕ, Bool, ◌||◌, cond, List, [], ◌∷◌, ◌≡◌, eqb, ltb, length}
+use Rattle.entries.specs.Entries.{HasItems, Item, item_at, items_of}
 use Rattle.meaning.specs.Limits.{most_classes, most_depth, most_records}
 use Rattle.meaning.specs.Lists.{any}
 use Rattle.meaning.specs.PolicyWords.{record_words}
@@ -75,30 +75,21 @@ item_words l = record_words (link_to 1 l) 0 0 0 0 0 (item_records 1 l)
 
 -- ---- what the functions ask and say
 
--- the item of the order's entry at a place
-abbrev pub entry_at : List ℕ → List ℕ → List ℕ → ℕ → Item
-entry_at w ds o i = item_at w ds (get_or o i 0)
-
--- the items of its entries from a place on
-abbrev pub items_from : List ℕ → List ℕ → List ℕ → ℕ → List Item
-items_from w ds o i = items_in w ds o i (length o)
-
--- the slice has every entry of the order, they are few, and it has a place i
-pub record Ordered (w o : List ℕ) (i : ℕ) : Type 0 where
+-- the slice has every entry, and they are few
+pub record Ordered (w o : List ℕ) : Type 0 where
   pub items : HasItems w o
   pub few : length o ≤ most_records
-  pub within : i ≤ length o
 
 -- there is room for n records from record k on, and they are no more than a policy may have
 pub record RoomFrom (k n : ℕ) (out : List ℕ) : Type 0 where
   pub long : 6 * (n + k) ≤ length out
   pub few : n + k ≤ most_records + 1
 
--- there is room for the header and the records of the entries from a place on, and they are no more than a policy may have
-pub record Writable (w ds o : List ℕ) (top : ℕ) (out : List ℕ) : Type 0 where
-  pub ordered : Ordered w o top
-  pub long : 6 * (records_in (items_from w ds o top) + 1) ≤ length out
-  pub few : records_in (items_from w ds o top) ≤ most_records
+-- there is room for the header and the records of the entries, and they are no more than a policy may have
+pub record Writable (w ds o out : List ℕ) : Type 0 where
+  pub ordered : Ordered w o
+  pub long : 6 * (records_in (items_of w ds o) + 1) ≤ length out
+  pub few : records_in (items_of w ds o) ≤ most_records
 
 -- n is how many records entry e is written as
 pub record CountsEntry (w : List ℕ) (e n : ℕ) : Type 0 where

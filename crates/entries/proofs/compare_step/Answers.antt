@@ -1,34 +1,22 @@
-use borrow.Author.Tests.{not-false, not-true}
-use mathlib.Core.Path.{◌∙◌, ap, refl, sym}
-use Rattle.entries.specs.Entries.{classes_at}
-use Rattle.entries.proofs.Runs.{has_item, step_classes, step_next}
+use Rattle.std.proofs.lemmas.Slice.{between_to_end}
+use native.Mathlib.Omega.{arith}
+use borrow.Author.Rules.{rules}
+use Prim.Native.Nat.{◌-◌}
+use mathlib.Core.Path.{◌≡◌, refl}
+use lib.ListN.{drop, length, take}
+use Rattle.std.specs.Ordering.{MatchOrdering}
+use Rattle.std.specs.declared.cmp.Ordering.TheVariants.{Greater, Less}
+use Rattle.entries.specs.Entries.{ComparesNext}
+use Rattle.entries.proofs.Runs.{stepped}
 use Rattle.entries.proofs.compare_step.Goals as goal
-
-pub classes_at-s-requires : goal.classes_at-s-requires
-classes_at-s-requires c =
-    let a = c.args in
-    has_item c.requires.0.known.items a.i c.word.ensures
-
-pub classes_at-t-requires : goal.classes_at-t-requires
-classes_at-t-requires c =
-    let a = c.args in
-    has_item c.requires.0.known.items a.j c.word-2.ensures
-
-pub returns-then-not-is_same : goal.returns-then-not-is_same
-returns-then-not-is_same c =
-    let a = c.args in
-    let at = classes_at a.work.now in
-    step_classes a.work.now a.depths.now a.order.now a.i a.b a.j a.d c.requires.0 c.requires.1
-    (c.classes_at-s.ensures ∙ ap at c.word.ensures) (c.classes_at-t.ensures ∙ ap at c.word-2.ensures) refl refl c.compare_classes-classes.ensures
-    (sym c.is_same.ensures ∙ not-true _ c.if-not-is_same.true-raw)
-
-pub compare_next-requires : goal.compare_next-requires
-compare_next-requires c = c.requires.0.known
 
 pub returns : goal.returns
 returns c =
     let a = c.args in
-    let at = classes_at a.work.now in
-    step_next a.work.now a.depths.now a.order.now a.i a.b a.j a.d c.requires.0 c.requires.1
-    (c.classes_at-s.ensures ∙ ap at c.word.ensures) (c.classes_at-t.ensures ∙ ap at c.word-2.ensures) refl refl c.compare_classes-classes.ensures
-    (sym c.is_same.ensures ∙ not-false _ c.if-not-is_same.false-raw) c.compare_next.ensures
+    let x = a.x.now in
+    let y = a.y.now in
+    let z = c.then_with.result in
+    let next : MatchOrdering c.compare_classes-classes.result (z ≡ Less)
+    (ComparesNext a.work.now a.depths.now (take (length x - 1) (drop 1 x)) (take (length y - 1) (drop 1 y)) z) (z ≡ Greater) = search rules in
+    stepped a.work.now a.depths.now x y c.requires.0 c.requires.1 c.classes_at-s.ensures c.classes_at-t.ensures refl refl c.compare_classes-classes.ensures
+    (rw (between_to_end x 1 (length x) (omega arith), between_to_end y 1 (length y) (omega arith)) at next)

@@ -1,21 +1,20 @@
-use borrow.Author.Rules.{rules}
-use mathlib.Core.Path.{◌∙◌, refl}
-use lib.ListN.{length-set}
 use native.Mathlib.Omega.{arith}
+use lib.ListN.{length, length-take}
+use mathlib.Core.Path.{◌≡◌}
 use Rattle.flattening.proofs.Steps.{words_all, words_more}
 use Rattle.flattening.proofs.flatten.Goals as goal
-
-pub loop-i-init : goal.loop-i-init
-loop-i-init c = (search rules, refl, refl)
 
 pub loop-i-preserved : goal.loop-i-preserved
 loop-i-preserved c =
     let l = c.loop-i in
-    let a = c.args in
-    (search rules, length-set l.flat _ _ ∙ l.invariant.1, rw c.flat_word.ensures (words_more a.v.now l.flat l.i (search rules) l.invariant.2))
+    let t = c.loop-i-test.true in
+    rw c.flat_word.ensures (words_more c.args.v.now l.to-items l.i (omega arith) l.invariant)
 
 pub returns : goal.returns
 returns c =
     let l = c.loop-i in
     let a = c.args in
-    words_all a.v.now a.flat.now l.flat l.i (omega (arith, l.invariant.0, c.loop-i-test.false)) l.invariant.1 l.invariant.2
+    let t = length-take (length a.v.now) a.flat.now in
+    let n : length l.to-items ≡ length a.v.now = omega arith in
+    let e : l.i ≡ length a.v.now = omega (arith, l.auto.i-end, c.loop-i-test.false) in
+    words_all a.v.now a.flat.now l.to-items n (rw e at l.invariant) c.requires

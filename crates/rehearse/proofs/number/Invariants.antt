@@ -1,11 +1,6 @@
--- `number`: at byte i the value is the number that the digits before it are.
-use Prim.Native.Nat.{◌-◌}
-use lib.ListN.{length}
+-- `number`: at each byte the value is the number that the digits before it are.
 use Rattle.rehearse.proofs.Numbers.{DigitsLeft}
 use Rattle.rehearse.proofs.number.Given as goal
 
-abbrev pub invariant-loop-i : goal.invariant-loop-i
-invariant-loop-i l = DigitsLeft l.text l.value l.i
-
-abbrev pub decreases-loop-i : goal.decreases-loop-i
-decreases-loop-i l = length l.text - l.i
+abbrev pub invariant-loop-b : goal.invariant-loop-b
+invariant-loop-b l = DigitsLeft l.text l.value l.b-index

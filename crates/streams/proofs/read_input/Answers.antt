@@ -12,6 +12,6 @@ pub loop-done-preserved : goal.loop-done-preserved
 loop-done-preserved g c = record {
   within = search rules;
   same = search rules;
-  taken = subst (Consumes _ _) (joined c.loop-done.done c.in-Bytes.n c.loop-done.buffer c.read_from-brought.new.buffer c.read_from-brought.ensures.before)
-      (Consumes-trans _ _ _ _ _ c.loop-done.invariant.taken c.in-Bytes.ensures.bytes);
+  taken = subst (Consumes _ _) (joined c.loop-done.done c.in-Ok-Some.n c.loop-done.buffer c.read_from.new.buffer c.read_from.ensures.before)
+      (Consumes-trans _ _ _ _ _ c.loop-done.invariant.taken (rw c.in-Ok-Some.field-0-is at c.in-Ok-Some.ensures.bytes));
 }

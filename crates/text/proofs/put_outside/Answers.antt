@@ -9,4 +9,4 @@ overflow_sub-n c = omega (arith, model_count _ _ c.requires.1)
 
 pub returns : goal.returns
 returns c = put_as (model_printed _ _ c.requires.1 _ _)
-    (put_then c.put_pair-next.ensures.put c.put_facts.ensures)
+    (put_then c.put_line-next.ensures.put c.put_facts.ensures)

@@ -1,28 +1,22 @@
 use native.Mathlib.Omega.{arith}
-use Rattle.entries.proofs.Runs.{has_item}
+use mathlib.Core.Path.{refl}
 use Rattle.writing.proofs.Linking.{beside_above, beside_here, skipping_ends, skipping_more, skipping_starts}
 use Rattle.writing.proofs.link_beside.Goals as goal
 
-pub loop-at-init : goal.loop-at-init
-loop-at-init c = skipping_starts c.args.d c.args.first c.requires.0 c.requires.1
-
-pub depth_of-depth-requires : goal.depth_of-depth-requires
-depth_of-depth-requires c = has_item c.requires.0.items c.loop-at.at c.word-e.ensures
+pub loop-e-init : goal.loop-e-init
+loop-e-init c = let a = c.args in skipping_starts a.work.now a.depths.now a.rest.now a.d a.first c.requires.1
 
 pub returns-then-depth-d-2 : goal.returns-then-depth-d-2
-returns-then-depth-d-2 c = beside_here c.loop-at.invariant c.loop-at-test.true c.word-e.ensures c.depth_of-depth.ensures c.if-depth-d.true c.if-depth-d-2.true
+returns-then-depth-d-2 c = beside_here c.loop-e.invariant c.loop-e-test.true refl c.depth_of-depth.ensures c.if-depth-d.true c.if-depth-d-2.true
 
 pub returns-else-depth-d-2 : goal.returns-else-depth-d-2
-returns-else-depth-d-2 c = beside_above c.loop-at.invariant c.loop-at-test.true c.word-e.ensures c.depth_of-depth.ensures c.if-depth-d.true c.if-depth-d-2.false
-
-pub count_at-k-requires : goal.count_at-k-requires
-count_at-k-requires c = has_item c.requires.0.items c.loop-at.at c.word-e.ensures
+returns-else-depth-d-2 c = beside_above c.loop-e.invariant c.loop-e-test.true refl c.depth_of-depth.ensures c.if-depth-d.true c.if-depth-d-2.false
 
 pub overflow_add-k : goal.overflow_add-k
-overflow_add-k c = omega (arith, c.loop-at.invariant.few, c.count_at-k.ensures.few, c.requires.0.few)
+overflow_add-k c = omega (arith, c.loop-e.invariant.few, c.count_at-k.ensures.few, c.requires.0.few, c.loop-e-test.true)
 
-pub loop-at-preserved : goal.loop-at-preserved
-loop-at-preserved c = skipping_more c.loop-at.invariant c.loop-at-test.true c.word-e.ensures c.depth_of-depth.ensures c.if-depth-d.false c.count_at-k.ensures
+pub loop-e-preserved : goal.loop-e-preserved
+loop-e-preserved c = skipping_more c.loop-e.invariant c.loop-e-test.true refl c.depth_of-depth.ensures c.if-depth-d.false c.count_at-k.ensures
 
 pub returns : goal.returns
-returns c = skipping_ends c.loop-at.invariant c.loop-at-test.false
+returns c = skipping_ends c.loop-e.invariant c.loop-e-test.false

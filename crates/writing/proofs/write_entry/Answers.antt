@@ -1,15 +1,7 @@
 use borrow.Author.Rules.{rules}
 use native.Mathlib.Omega.{arith}
-use Rattle.entries.proofs.Runs.{has_item}
-use Rattle.writing.proofs.Counting.{next_known}
 use Rattle.writing.proofs.Words.{entry_few, entry_put, entry_rest, entry_room}
 use Rattle.writing.proofs.write_entry.Goals as goal
-
-pub fields_of-x-requires : goal.fields_of-x-requires
-fields_of-x-requires c = has_item c.requires.ordered.0.items c.args.i c.word-e.ensures
-
-pub classes_at-s-requires : goal.classes_at-s-requires
-classes_at-s-requires c = has_item c.requires.ordered.0.items c.args.i c.word-e.ensures
 
 pub overflow_add-first : goal.overflow_add-first
 overflow_add-first c = omega (arith, c.requires.room_from.few)
@@ -17,29 +9,26 @@ overflow_add-first c = omega (arith, c.requires.room_from.few)
 pub overflow_add-after : goal.overflow_add-after
 overflow_add-after c =
     let a = c.args in
-    omega (arith, entry_few a.work.now a.depths.now a.order.now a.i c.requires.room_from c.word-e.ensures c.classes_at-s.ensures c.count-n.ensures)
-
-pub link_below-below-requires : goal.link_below-below-requires
-link_below-below-requires c = next_known c.requires.ordered.0 c.requires.ordered.1
+    omega (arith, entry_few a.work.now a.depths.now a.e c.requires.room_from c.classes_at-s.ensures c.count-n.ensures)
 
 pub link_beside-beside-requires : goal.link_beside-beside-requires
 link_beside-beside-requires c =
     let a = c.args in
-    (next_known c.requires.ordered.0 c.requires.ordered.1, entry_few a.work.now a.depths.now a.order.now a.i c.requires.room_from c.word-e.ensures c.classes_at-s.ensures c.count-n.ensures)
+    (c.requires.ordered, entry_few a.work.now a.depths.now a.e c.requires.room_from c.classes_at-s.ensures c.count-n.ensures)
 
 pub put-requires : goal.put-requires
 put-requires c =
     let a = c.args in
-    entry_room a.work.now a.depths.now a.order.now a.i c.requires.room_from c.word-e.ensures c.classes_at-s.ensures c.count-n.ensures
+    entry_room a.work.now a.depths.now a.e c.requires.room_from c.classes_at-s.ensures c.count-n.ensures
 
 pub write_classes-requires : goal.write_classes-requires
 write_classes-requires c =
     let a = c.args in
-    entry_rest a.work.now a.depths.now a.order.now a.i c.requires.room_from c.word-e.ensures c.classes_at-s.ensures c.count-n.ensures (search rules)
+    entry_rest a.work.now a.depths.now a.e c.requires.room_from c.classes_at-s.ensures c.count-n.ensures (search rules)
 
 pub returns : goal.returns
 returns c =
     let a = c.args in
-    entry_put a.work.now a.depths.now a.order.now a.i c.requires.room_from c.word-e.ensures c.classes_at-s.ensures c.count-n.ensures _
+    entry_put a.work.now a.depths.now a.e c.requires.room_from c.classes_at-s.ensures c.count-n.ensures _
     c.fields_of-x.ensures c.link_below-below.ensures c.link_beside-beside.ensures c.where_any-kind.ensures c.where_any-child.ensures
     c.put.ensures c.write_classes.ensures
