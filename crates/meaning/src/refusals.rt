@@ -50,8 +50,8 @@ pub enum Refusal {
 impl From<VocabularyFault> for Refusal {
     ghost from_gives = { λ f r. r ≡ Vocabulary f };
 
-    fn from(f: VocabularyFault) -> Refusal {
-        Refusal::Vocabulary(f)
+    fn from(fault: VocabularyFault) -> Refusal {
+        Refusal::Vocabulary(fault)
     }
 }
 
@@ -59,21 +59,21 @@ impl From<VocabularyFault> for Refusal {
 impl From<PolicyFault> for Refusal {
     ghost from_gives = { λ f r. r ≡ Policy f };
 
-    fn from(f: PolicyFault) -> Refusal {
-        Refusal::Policy(f)
+    fn from(fault: PolicyFault) -> Refusal {
+        Refusal::Policy(fault)
     }
 }
 
 impl From<ModelFault> for Refusal {
     ghost from_gives = { λ f r. r ≡ Model f };
 
-    fn from(f: ModelFault) -> Refusal {
-        Refusal::Model(f)
+    fn from(fault: ModelFault) -> Refusal {
+        Refusal::Model(fault)
     }
 }
 
 impl VocabularyFault {
-    pub fn number(self) -> u32
+    fn number(self) -> u32
         ensures { result ≡ vocabulary_number self }
     {
         match self {
@@ -86,7 +86,7 @@ impl VocabularyFault {
 }
 
 impl PolicyFault {
-    pub fn number(self) -> u32
+    fn number(self) -> u32
         ensures { result ≡ policy_number self }
     {
         match self {
@@ -100,7 +100,7 @@ impl PolicyFault {
 }
 
 impl ModelFault {
-    pub fn number(self) -> u32
+    fn number(self) -> u32
         ensures { result ≡ model_number self }
     {
         match self {
