@@ -139,7 +139,7 @@ fn put(out: &mut [u32], k: usize, last: usize, kind: u32, name: u32, x: u32, oth
     out[at..end].copy_from_slice(&[kind, name, x, other, link(k, last)]);
 }
 
-// The classes of row i, individual i + 1, rising.
+// The classes of row i, individual i + 1, rising; behind the last `ClassSet::next` answers 0.
 fn write_classes(work: &[u32], i: u32, out: &mut [u32], k: usize, last: usize) -> usize
     requires { HasEntry i work.now × RoomFor 5 last k (member_facts work.now i) out.old }
     ensures { Written facts last k (member_facts work.now i) out.old out.new result }
@@ -172,7 +172,7 @@ fn write_values(work: &[u32], n: usize, x: u32, out: &mut [u32], k: usize, last:
     at
 }
 
-// The edges of individual x, by target.
+// The edges of individual x, by target; behind the last `next_successor` answers n.
 fn write_edges(work: &[u32], n: usize, x: u32, out: &mut [u32], k: usize, last: usize) -> usize
     requires { (x ≤ n) × HasEntries n work.now × RoomFor 5 last k (edge_facts work.now n x) out.old }
     ensures { Written facts last k (edge_facts work.now n x) out.old out.new result }

@@ -84,7 +84,7 @@ pub fn is_too_long(work: &[u32], depths: &[u32], order: &[u32]) -> bool
 
 // ---- the links
 
-// x where n is not 0.
+// x where n, a count or the class that follows, is not 0.
 fn where_any(n: u32, x: u32, none: u32) -> u32
     ensures { result ≡ cond (eqb n 0) none x }
 {
@@ -129,7 +129,8 @@ fn put(out: &mut [u32], k: u32, kind: u32, a: u32, lo: u32, hi: u32, child: u32,
     put_six(out, 6 * place(k), kind, a, lo, hi, child, next);
 }
 
-// The records of the classes from record first on, each with a link to the next, and the last with a link to what follows.
+// The records of the classes from record first on, each with a link to the next, and the last with a link to what follows. Behind the last
+// class `ClassSet::next` answers 0.
 fn write_classes(out: &mut [u32], s: ClassSet, first: u32, last: u32)
     requires { RoomFrom first (length (members s.words)) out.old }
     ensures { out.new ≡ put_at out.old (6 * first) (class_records first (members s.words) last []) }
