@@ -19,7 +19,7 @@ use meaning::limits::MOST_DEPTH;
 use odometer::{DIALS, count_pieces, find_dials, skip};
 use policy::{child_of, first_term, next_of};
 use records::{put_word, word};
-use retest::{MEMORY, test};
+use retest::{Asking, MEMORY, test};
 use splitting::start;
 use words::place;
 
@@ -34,31 +34,12 @@ pub struct Taken {
 const FIRST: u32 = 1;
 
 // Term k of q, where one is asked of and it takes the combination that the tables hold.
-fn taken_by(
-    q: &[u32],
-    work: &[u32],
-    dials: &[u32],
-    carriers: &[u32],
-    memory: &mut [u32],
-    t: Tables,
-    k: Option<u32>,
-) -> Option<Taken>
-    requires { Askable q.now dials.now carriers.now work.now t memory.old × IfSome k (Term q.now) }
-    ensures { TakenBy q.now dials.now carriers.now work.now
-        t memory.new k result }
+fn taken_by(a: &Asking, memory: &mut [u32], k: Option<u32>) -> Option<Taken>
+    requires { Askable a.now.q.now a.now.dials.now a.now.carriers.now a.now.work.now a.now.t memory.old × IfSome k (Term a.now.q.now) }
+    ensures { TakenBy a.now.q.now a.now.dials.now a.now.carriers.now a.now.work.now a.now.t memory.new k result }
 {
     let term = k?;
-    let one = test(
-        q,
-        work,
-        dials,
-        carriers,
-        memory,
-        t,
-        MOST_DEPTH,
-        child_of(q, term),
-        FIRST,
-    );
+    let one = test(a, memory, MOST_DEPTH, child_of(a.q, term), FIRST);
     if one.holds {
         Some(Taken {
             term,
@@ -70,52 +51,36 @@ fn taken_by(
 }
 
 // A term of q that takes the combination that the tables hold, asked from the first on.
-fn first_taker(
-    q: &[u32],
-    work: &[u32],
-    dials: &[u32],
-    carriers: &[u32],
-    memory: &mut [u32],
-    t: Tables,
-) -> Option<Taken>
-    requires { Askable q.now dials.now carriers.now work.now t memory.old }
-    ensures { Taker q.now dials.now carriers.now work.now t memory.new result }
+fn first_taker(a: &Asking, memory: &mut [u32]) -> Option<Taken>
+    requires { Askable a.now.q.now a.now.dials.now a.now.carriers.now a.now.work.now a.now.t memory.old }
+    ensures { Taker a.now.q.now a.now.dials.now a.now.carriers.now a.now.work.now a.now.t memory.new result }
 {
-    let mut k = first_term(q);
+    let mut k = first_term(a.q);
     while k != 0 {
-        let one = taken_by(q, work, dials, carriers, memory, t, Some(k));
+        let one = taken_by(a, memory, Some(k));
         if one.is_some() {
             return one;
         }
-        k = next_of(q, k);
+        k = next_of(a.q, k);
     }
     None
 }
 
 // The same, with two asked first: the one that took the last combination whose number ended alike, and the one that took the last.
-fn taker(
-    q: &[u32],
-    work: &[u32],
-    dials: &[u32],
-    carriers: &[u32],
-    memory: &mut [u32],
-    t: Tables,
-    alike: Option<u32>,
-    last: Option<u32>,
-) -> Option<Taken>
-    requires askable { Askable q.now dials.now carriers.now work.now t memory.old }
-    requires known { IfSome alike (Term q.now) × IfSome last (Term q.now) }
-    ensures { Taker q.now dials.now carriers.now work.now t memory.new result }
+fn taker(a: &Asking, memory: &mut [u32], alike: Option<u32>, last: Option<u32>) -> Option<Taken>
+    requires askable { Askable a.now.q.now a.now.dials.now a.now.carriers.now a.now.work.now a.now.t memory.old }
+    requires known { IfSome alike (Term a.now.q.now) × IfSome last (Term a.now.q.now) }
+    ensures { Taker a.now.q.now a.now.dials.now a.now.carriers.now a.now.work.now a.now.t memory.new result }
 {
-    let one = taken_by(q, work, dials, carriers, memory, t, alike);
+    let one = taken_by(a, memory, alike);
     if one.is_some() {
         return one;
     }
-    let other = taken_by(q, work, dials, carriers, memory, t, last);
+    let other = taken_by(a, memory, last);
     if other.is_some() {
         return other;
     }
-    first_taker(q, work, dials, carriers, memory, t)
+    first_taker(a, memory)
 }
 
 // From the first combination on, the first that fails, counted from 1, if any; the tables are left at it. Numbers end alike that leave the
@@ -143,7 +108,14 @@ fn search(
     while let Some(c) = next {
         let at = place((c - 1) % round);
         let alike = named(word(takers, at));
-        let Some(taken) = taker(q, work, dials, carriers, memory, t, alike, last) else {
+        let asking = Asking {
+            q,
+            work: &*work,
+            dials,
+            carriers,
+            t,
+        };
+        let Some(taken) = taker(&asking, memory, alike, last) else {
             return Some(c);
         };
         put_word(takers, at, taken.term);
