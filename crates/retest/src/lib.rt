@@ -30,7 +30,17 @@ use records::{put_word, word};
 use subsumption::{first_constraint, is_whole_inside};
 use words::place;
 
-// A dial is a constraint with several pieces; dial d is the one at place dials[d].
+// What is asked of a combination: the other policy, the tables with the combination, its dials and its carriers. A dial is a constraint with
+// several pieces; dial d is the one at place dials[d].
+#[derive(Clone, Copy)]
+pub struct Asking<'a> {
+    pub q: &'a [u32],
+    pub work: &'a [u32],
+    pub dials: &'a [u32],
+    pub carriers: &'a [u32],
+    pub t: Tables,
+}
+
 #[derive(Clone, Copy)]
 pub struct Reason {
     pub holds: bool,
@@ -179,21 +189,13 @@ fn test_dial(work: &[u32], m: usize, d: usize, x: u32, f: FeatureNo, lo: u32, hi
 }
 
 // Line 4, where no constraint lies inside whole: some dial's piece of individual x.
-fn test_dials(
-    work: &[u32],
-    dials: &[u32],
-    t: Tables,
-    x: u32,
-    f: FeatureNo,
-    lo: u32,
-    hi: u32,
-) -> Reason
-    requires { Testing dials.now work.now t × (has_whole work.now t.constraints x f.0 lo hi ≡ false) }
-    ensures { TellsPiece dials.now work.now t x f.0 lo hi result }
+fn test_dials(a: &Asking, x: u32, f: FeatureNo, lo: u32, hi: u32) -> Reason
+    requires { Testing a.now.dials.now a.now.work.now a.now.t × (has_whole a.now.work.now a.now.t.constraints x f.0 lo hi ≡ false) }
+    ensures { TellsPiece a.now.dials.now a.now.work.now a.now.t x f.0 lo hi result }
 {
     let mut all: u32 = 0;
-    for (d, m) in dials.iter().enumerate() {
-        let one = test_dial(work, place(*m), d, x, f, lo, hi);
+    for (d, m) in a.dials.iter().enumerate() {
+        let one = test_dial(a.work, place(*m), d, x, f, lo, hi);
         if one.holds {
             return one;
         }
@@ -207,35 +209,30 @@ fn test_dials(
 
 // A feature's conjunct, record k, of individual x.
 fn test_feature(
-    q: &[u32],
-    work: &[u32],
-    dials: &[u32],
-    carriers: &[u32],
+    a: &Asking,
     memory: &mut [u32],
-    t: Tables,
     left: u32,
     k: u32,
     x: u32,
     slot: u32,
     state: Option<State>,
 ) -> Reason
-    requires pending { Pending q.now dials.now carriers.now work.now t memory.old left k x slot state }
-    requires fact { kind_of q.now k ≡ 3 → ⊥ }
-    ensures { TellsOne q.now dials.now carriers.now work.now
-        t k x memory.new result }
+    requires pending { Pending a.now.q.now a.now.dials.now a.now.carriers.now a.now.work.now a.now.t memory.old left k x slot state }
+    requires fact { kind_of a.now.q.now k ≡ 3 → ⊥ }
+    ensures { TellsOne a.now.q.now a.now.dials.now a.now.carriers.now a.now.work.now a.now.t k x memory.new result }
 {
-    let f = FeatureNo(name_of(q, k));
-    let lo = lo_of(q, k);
-    let hi = hi_of(q, k);
+    let f = FeatureNo(name_of(a.q, k));
+    let lo = lo_of(a.q, k);
+    let hi = hi_of(a.q, k);
     if let Some(State::Rests) = state {
-        return test_dials(work, dials, t, x, f, lo, hi);
+        return test_dials(a, x, f, lo, hi);
     }
-    match span_state(work, t, x, f, lo, hi) {
+    match span_state(a.work, a.t, x, f, lo, hi) {
         State::Passes => YES,
         State::Fails => NO,
         State::Rests => {
             remember(memory, k, slot, x, State::Rests);
-            test_dials(work, dials, t, x, f, lo, hi)
+            test_dials(a, x, f, lo, hi)
         }
     }
 }
@@ -244,57 +241,33 @@ fn test_feature(
 
 // Individual x, where its parent reaches it by role r, against the conjuncts from record k on, which stand on its level, one below left.
 #[cycle(test_test_anew_test_carriers_test_conjunct_test_recalled_test_role_test_row_test_still)]
-fn test_row(
-    q: &[u32],
-    work: &[u32],
-    dials: &[u32],
-    carriers: &[u32],
-    memory: &mut [u32],
-    t: Tables,
-    left: u32,
-    k: u32,
-    x: u32,
-    r: RoleNo,
-) -> Reason
-    requires { Below q.now dials.now carriers.now work.now t memory.old left k x }
-    ensures { TellsRow q.now dials.now carriers.now work.now
-        t k x r.0 memory.new result }
+fn test_row(a: &Asking, memory: &mut [u32], left: u32, k: u32, x: u32, r: RoleNo) -> Reason
+    requires { Below a.now.q.now a.now.dials.now a.now.carriers.now a.now.work.now a.now.t memory.old left k x }
+    ensures { TellsRow a.now.q.now a.now.dials.now a.now.carriers.now a.now.work.now a.now.t k x r.0 memory.new result }
 {
-    let role = role_of(work, place(x - 1));
+    let role = role_of(a.work, place(x - 1));
     if role.0 != r.0 {
         return NO;
     }
-    test(q, work, dials, carriers, memory, t, left - 1, k, x)
+    test(a, memory, left - 1, k, x)
 }
 
 // Line 5, what has no dial: some successor of individual x by role r that is in no list of carriers passes the conjuncts from record k on.
 #[cycle(test_test_anew_test_carriers_test_conjunct_test_recalled_test_role_test_row_test_still)]
-fn test_still(
-    q: &[u32],
-    work: &[u32],
-    dials: &[u32],
-    carriers: &[u32],
-    memory: &mut [u32],
-    t: Tables,
-    left: u32,
-    k: u32,
-    x: u32,
-    r: RoleNo,
-) -> Reason
-    requires { Below q.now dials.now carriers.now work.now t memory.old left k x }
-    ensures { TellsStill q.now dials.now carriers.now work.now
-        t k x r.0 memory.new result }
+fn test_still(a: &Asking, memory: &mut [u32], left: u32, k: u32, x: u32, r: RoleNo) -> Reason
+    requires { Below a.now.q.now a.now.dials.now a.now.carriers.now a.now.work.now a.now.t memory.old left k x }
+    ensures { TellsStill a.now.q.now a.now.dials.now a.now.carriers.now a.now.work.now a.now.t k x r.0 memory.new result }
 {
-    let n = place(t.individuals);
+    let n = place(a.t.individuals);
     let mut all: u32 = 0;
-    let mut j = next_successor(work, n, x, place(x));
+    let mut j = next_successor(a.work, n, x, place(x));
     while j < n {
         let y = j as u32 + 1;
-        j = next_successor(work, n, x, j + 1);
-        if slot_of(carriers, y) != 0 {
+        j = next_successor(a.work, n, x, j + 1);
+        if slot_of(a.carriers, y) != 0 {
             continue;
         }
-        let one = test_row(q, work, dials, carriers, memory, t, left, k, y, r);
+        let one = test_row(a, memory, left, k, y, r);
         if one.holds {
             return one;
         }
@@ -308,31 +281,19 @@ fn test_still(
 
 // Line 5, what has a dial: some successor that is in the list of carriers does.
 #[cycle(test_test_anew_test_carriers_test_conjunct_test_recalled_test_role_test_row_test_still)]
-fn test_carriers(
-    q: &[u32],
-    work: &[u32],
-    dials: &[u32],
-    carriers: &[u32],
-    memory: &mut [u32],
-    t: Tables,
-    left: u32,
-    k: u32,
-    x: u32,
-    r: RoleNo,
-) -> Reason
-    requires { Below q.now dials.now carriers.now work.now t memory.old left k x }
-    ensures { TellsCarried q.now dials.now carriers.now work.now
-        t k x r.0 memory.new result }
+fn test_carriers(a: &Asking, memory: &mut [u32], left: u32, k: u32, x: u32, r: RoleNo) -> Reason
+    requires { Below a.now.q.now a.now.dials.now a.now.carriers.now a.now.work.now a.now.t memory.old left k x }
+    ensures { TellsCarried a.now.q.now a.now.dials.now a.now.carriers.now a.now.work.now a.now.t k x r.0 memory.new result }
 {
     let mut all: u32 = 0;
-    let mut next = first_carrier(carriers, x);
+    let mut next = first_carrier(a.carriers, x);
     while let Some(y) = next {
-        let one = test_row(q, work, dials, carriers, memory, t, left, k, y, r);
+        let one = test_row(a, memory, left, k, y, r);
         if one.holds {
             return one;
         }
         all |= one.dials;
-        next = next_carrier(carriers, y);
+        next = next_carrier(a.carriers, y);
     }
     Reason {
         holds: false,
@@ -343,34 +304,29 @@ fn test_carriers(
 // A role's conjunct, record k, of individual x.
 #[cycle(test_test_anew_test_carriers_test_conjunct_test_recalled_test_role_test_row_test_still)]
 fn test_role(
-    q: &[u32],
-    work: &[u32],
-    dials: &[u32],
-    carriers: &[u32],
+    a: &Asking,
     memory: &mut [u32],
-    t: Tables,
     left: u32,
     k: u32,
     x: u32,
     slot: u32,
     state: Option<State>,
 ) -> Reason
-    requires pending { Pending q.now dials.now carriers.now work.now t memory.old left k x slot state }
-    requires k_value { kind_of q.now k ≡ 3 }
-    ensures { TellsOne q.now dials.now carriers.now work.now
-        t k x memory.new result }
+    requires pending { Pending a.now.q.now a.now.dials.now a.now.carriers.now a.now.work.now a.now.t memory.old left k x slot state }
+    requires k_value { kind_of a.now.q.now k ≡ 3 }
+    ensures { TellsOne a.now.q.now a.now.dials.now a.now.carriers.now a.now.work.now a.now.t k x memory.new result }
 {
-    let r = RoleNo(name_of(q, k));
-    let child = child_of(q, k);
+    let r = RoleNo(name_of(a.q, k));
+    let child = child_of(a.q, k);
     if let Some(State::Rests) = state {
-        return test_carriers(q, work, dials, carriers, memory, t, left, child, x, r);
+        return test_carriers(a, memory, left, child, x, r);
     }
-    let still = test_still(q, work, dials, carriers, memory, t, left, child, x, r);
+    let still = test_still(a, memory, left, child, x, r);
     if still.holds {
         return still;
     }
     remember_open(memory, k, slot, x, still.dials);
-    let one = test_carriers(q, work, dials, carriers, memory, t, left, child, x, r);
+    let one = test_carriers(a, memory, left, child, x, r);
     if one.holds {
         return one;
     }
@@ -383,54 +339,38 @@ fn test_role(
 // A role's or a feature's conjunct, record k, of individual x, where it is not known to pass or to fail.
 #[cycle(test_test_anew_test_carriers_test_conjunct_test_recalled_test_role_test_row_test_still)]
 fn test_anew(
-    q: &[u32],
-    work: &[u32],
-    dials: &[u32],
-    carriers: &[u32],
+    a: &Asking,
     memory: &mut [u32],
-    t: Tables,
     left: u32,
     k: u32,
     x: u32,
     slot: u32,
     state: Option<State>,
 ) -> Reason
-    requires { Pending q.now dials.now carriers.now work.now t memory.old left k x slot state }
-    ensures { TellsOne q.now dials.now carriers.now work.now
-        t k x memory.new result }
+    requires { Pending a.now.q.now a.now.dials.now a.now.carriers.now a.now.work.now a.now.t memory.old left k x slot state }
+    ensures { TellsOne a.now.q.now a.now.dials.now a.now.carriers.now a.now.work.now a.now.t k x memory.new result }
 {
-    if kind_of(q, k) == 3 {
-        return test_role(q, work, dials, carriers, memory, t, left, k, x, slot, state);
+    if kind_of(a.q, k) == 3 {
+        return test_role(a, memory, left, k, x, slot, state);
     }
-    test_feature(q, work, dials, carriers, memory, t, left, k, x, slot, state)
+    test_feature(a, memory, left, k, x, slot, state)
 }
 
 // The same, by what is remembered; an answer that relies on no dial is remembered.
 #[cycle(test_test_anew_test_carriers_test_conjunct_test_recalled_test_role_test_row_test_still)]
-fn test_recalled(
-    q: &[u32],
-    work: &[u32],
-    dials: &[u32],
-    carriers: &[u32],
-    memory: &mut [u32],
-    t: Tables,
-    left: u32,
-    k: u32,
-    x: u32,
-) -> Reason
-    requires asked { Asked q.now dials.now carriers.now work.now t memory.old left k x }
-    requires fact { (kind_of q.now k ≡ 1 → ⊥) × (kind_of q.now k ≡ 2 → ⊥) }
-    ensures { TellsOne q.now dials.now carriers.now work.now
-        t k x memory.new result }
+fn test_recalled(a: &Asking, memory: &mut [u32], left: u32, k: u32, x: u32) -> Reason
+    requires asked { Asked a.now.q.now a.now.dials.now a.now.carriers.now a.now.work.now a.now.t memory.old left k x }
+    requires fact { (kind_of a.now.q.now k ≡ 1 → ⊥) × (kind_of a.now.q.now k ≡ 2 → ⊥) }
+    ensures { TellsOne a.now.q.now a.now.dials.now a.now.carriers.now a.now.work.now a.now.t k x memory.new result }
 {
-    let slot = slot_of(carriers, x);
+    let slot = slot_of(a.carriers, x);
     let state = recall(memory, k, slot, x);
     match state {
         Some(State::Passes) => return YES,
         Some(State::Fails) => return NO,
         _ => {}
     }
-    let one = test_anew(q, work, dials, carriers, memory, t, left, k, x, slot, state);
+    let one = test_anew(a, memory, left, k, x, slot, state);
     if one.dials == 0 {
         remember(memory, k, slot, x, settled(one.holds));
     }
@@ -439,59 +379,37 @@ fn test_recalled(
 
 // One conjunct, record k, of individual x. Line 3: its set is closed upward, so one bit tells.
 #[cycle(test_test_anew_test_carriers_test_conjunct_test_recalled_test_role_test_row_test_still)]
-fn test_conjunct(
-    q: &[u32],
-    work: &[u32],
-    dials: &[u32],
-    carriers: &[u32],
-    memory: &mut [u32],
-    t: Tables,
-    left: u32,
-    k: u32,
-    x: u32,
-) -> Reason
-    requires { Asked q.now dials.now carriers.now work.now t memory.old left k x }
-    ensures { TellsOne q.now dials.now carriers.now work.now
-        t k x memory.new result }
+fn test_conjunct(a: &Asking, memory: &mut [u32], left: u32, k: u32, x: u32) -> Reason
+    requires { Asked a.now.q.now a.now.dials.now a.now.carriers.now a.now.work.now a.now.t memory.old left k x }
+    ensures { TellsOne a.now.q.now a.now.dials.now a.now.carriers.now a.now.work.now a.now.t k x memory.new result }
 {
-    let kind = kind_of(q, k);
+    let kind = kind_of(a.q, k);
     match kind {
         1 => Reason {
-            holds: has_class(work, place(x - 1), ClassNo(name_of(q, k))),
+            holds: has_class(a.work, place(x - 1), ClassNo(name_of(a.q, k))),
             dials: 0,
         },
         2 => NO,
-        _ => test_recalled(q, work, dials, carriers, memory, t, left, k, x),
+        _ => test_recalled(a, memory, left, k, x),
     }
 }
 
 // Whether individual x passes the conjuncts from record k on. left counts the levels of conjuncts that may still stand, theirs among
 // them. It ends, since levels fall into a child chain and links rise along a chain.
 #[cycle(test_test_anew_test_carriers_test_conjunct_test_recalled_test_role_test_row_test_still)]
-pub fn test(
-    q: &[u32],
-    work: &[u32],
-    dials: &[u32],
-    carriers: &[u32],
-    memory: &mut [u32],
-    t: Tables,
-    left: u32,
-    k: u32,
-    x: u32,
-) -> Reason
-    requires { Testable q.now dials.now carriers.now work.now t memory.old left k × Individual t x }
-    ensures { TellsAll q.now dials.now carriers.now work.now
-        t k x memory.new result }
+pub fn test(a: &Asking, memory: &mut [u32], left: u32, k: u32, x: u32) -> Reason
+    requires { Testable a.now.q.now a.now.dials.now a.now.carriers.now a.now.work.now a.now.t memory.old left k × Individual a.now.t x }
+    ensures { TellsAll a.now.q.now a.now.dials.now a.now.carriers.now a.now.work.now a.now.t k x memory.new result }
 {
     let mut all: u32 = 0;
     let mut at = k;
     while at != 0 {
-        let one = test_conjunct(q, work, dials, carriers, memory, t, left, at, x);
+        let one = test_conjunct(a, memory, left, at, x);
         if !one.holds {
             return one;
         }
         all |= one.dials;
-        at = next_of(q, at);
+        at = next_of(a.q, at);
     }
     Reason {
         holds: true,

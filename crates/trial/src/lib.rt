@@ -19,7 +19,7 @@ use meaning::limits::MOST_DEPTH;
 use odometer::{DIALS, count_pieces, find_dials, skip};
 use policy::{child_of, first_term, next_of};
 use records::{put_word, word};
-use retest::{MEMORY, test};
+use retest::{Asking, MEMORY, test};
 use splitting::start;
 use words::place;
 
@@ -30,35 +30,26 @@ pub struct Taken {
     pub dials: u32,
 }
 
+// What the combinations of a term are tried by: the other policy and its ends, the term's tables, its dials and how many pieces each has.
+#[derive(Clone, Copy)]
+struct Trial<'a> {
+    q: &'a [u32],
+    ends: &'a [u64],
+    t: Tables,
+    dials: &'a [u32],
+    counts: &'a [u32],
+}
+
 // The individual that is asked of.
 const FIRST: u32 = 1;
 
 // Term k of q, where one is asked of and it takes the combination that the tables hold.
-fn taken_by(
-    q: &[u32],
-    work: &[u32],
-    dials: &[u32],
-    carriers: &[u32],
-    memory: &mut [u32],
-    t: Tables,
-    k: Option<u32>,
-) -> Option<Taken>
-    requires { Askable q.now dials.now carriers.now work.now t memory.old × IfSome k (Term q.now) }
-    ensures { TakenBy q.now dials.now carriers.now work.now
-        t memory.new k result }
+fn taken_by(a: &Asking, memory: &mut [u32], k: Option<u32>) -> Option<Taken>
+    requires { Askable a.now.q.now a.now.dials.now a.now.carriers.now a.now.work.now a.now.t memory.old × IfSome k (Term a.now.q.now) }
+    ensures { TakenBy a.now.q.now a.now.dials.now a.now.carriers.now a.now.work.now a.now.t memory.new k result }
 {
     let term = k?;
-    let one = test(
-        q,
-        work,
-        dials,
-        carriers,
-        memory,
-        t,
-        MOST_DEPTH,
-        child_of(q, term),
-        FIRST,
-    );
+    let one = test(a, memory, MOST_DEPTH, child_of(a.q, term), FIRST);
     if one.holds {
         Some(Taken {
             term,
@@ -70,90 +61,77 @@ fn taken_by(
 }
 
 // A term of q that takes the combination that the tables hold, asked from the first on.
-fn first_taker(
-    q: &[u32],
-    work: &[u32],
-    dials: &[u32],
-    carriers: &[u32],
-    memory: &mut [u32],
-    t: Tables,
-) -> Option<Taken>
-    requires { Askable q.now dials.now carriers.now work.now t memory.old }
-    ensures { Taker q.now dials.now carriers.now work.now t memory.new result }
+fn first_taker(a: &Asking, memory: &mut [u32]) -> Option<Taken>
+    requires { Askable a.now.q.now a.now.dials.now a.now.carriers.now a.now.work.now a.now.t memory.old }
+    ensures { Taker a.now.q.now a.now.dials.now a.now.carriers.now a.now.work.now a.now.t memory.new result }
 {
-    let mut k = first_term(q);
+    let mut k = first_term(a.q);
     while k != 0 {
-        let one = taken_by(q, work, dials, carriers, memory, t, Some(k));
+        let one = taken_by(a, memory, Some(k));
         if one.is_some() {
             return one;
         }
-        k = next_of(q, k);
+        k = next_of(a.q, k);
     }
     None
 }
 
 // The same, with two asked first: the one that took the last combination whose number ended alike, and the one that took the last.
-fn taker(
-    q: &[u32],
-    work: &[u32],
-    dials: &[u32],
-    carriers: &[u32],
-    memory: &mut [u32],
-    t: Tables,
-    alike: Option<u32>,
-    last: Option<u32>,
-) -> Option<Taken>
-    requires askable { Askable q.now dials.now carriers.now work.now t memory.old }
-    requires known { IfSome alike (Term q.now) × IfSome last (Term q.now) }
-    ensures { Taker q.now dials.now carriers.now work.now t memory.new result }
+fn taker(a: &Asking, memory: &mut [u32], alike: Option<u32>, last: Option<u32>) -> Option<Taken>
+    requires askable { Askable a.now.q.now a.now.dials.now a.now.carriers.now a.now.work.now a.now.t memory.old }
+    requires known { IfSome alike (Term a.now.q.now) × IfSome last (Term a.now.q.now) }
+    ensures { Taker a.now.q.now a.now.dials.now a.now.carriers.now a.now.work.now a.now.t memory.new result }
 {
-    let one = taken_by(q, work, dials, carriers, memory, t, alike);
+    let one = taken_by(a, memory, alike);
     if one.is_some() {
         return one;
     }
-    let other = taken_by(q, work, dials, carriers, memory, t, last);
+    let other = taken_by(a, memory, last);
     if other.is_some() {
         return other;
     }
-    first_taker(q, work, dials, carriers, memory, t)
+    first_taker(a, memory)
 }
 
 // From the first combination on, the first that fails, counted from 1, if any; the tables are left at it. Numbers end alike that leave the
 // same remainder by round. Time grows with the other policy's records times the individuals, once, and then with the combinations that
 // are looked at times the other policy's records, each held to at most 16 individuals with a dial at or below.
 fn search(
-    q: &[u32],
+    a: &Trial,
     work: &mut [u32],
-    ends: &[u64],
-    t: Tables,
-    dials: &[u32],
-    counts: &[u32],
     earlier: &mut [u32],
     carriers: &[u32],
     memory: &mut [u32],
     takers: &mut [u32],
     round: u32,
 ) -> Option<u32>
-    requires searchable { Searchable q.now ends.now dials.now counts.now earlier.old work.old t × (1 ≤ round) }
-    requires remembers { Remembers q.now carriers.now work.old t memory.old takers.old }
-    ensures { Tried (policy_of q.now) work.old work.new t result }
+    requires searchable { Searchable a.now.q.now a.now.ends.now a.now.dials.now a.now.counts.now earlier.old work.old a.now.t × (1 ≤ round) }
+    requires remembers { Remembers a.now.q.now carriers.now work.old a.now.t memory.old takers.old }
+    ensures { Tried (policy_of a.now.q.now) work.old work.new a.now.t result }
 {
     let mut next = Some(1);
     let mut last = None;
     while let Some(c) = next {
         let at = place((c - 1) % round);
         let alike = named(word(takers, at));
-        let Some(taken) = taker(q, work, dials, carriers, memory, t, alike, last) else {
+        let asking = Asking {
+            q: a.q,
+            work: &*work,
+            dials: a.dials,
+            carriers,
+            t: a.t,
+        };
+        let Some(taken) = taker(&asking, memory, alike, last) else {
             return Some(c);
         };
         put_word(takers, at, taken.term);
         last = Some(taken.term);
         next = skip(
-            ends,
+            a.ends,
             work,
-            t.constraints,
-            dials,
-            counts,
+            a.t.constraints,
+            a.dials,
+            a.counts,
             earlier,
             taken.dials,
             c,
@@ -184,85 +162,44 @@ fn round_of(counts: &[u32]) -> u32
 
 // The search in tables that are lent, of which the last two are 0.
 fn search_in(
-    q: &[u32],
+    a: &Trial,
     work: &mut [u32],
-    ends: &[u64],
-    t: Tables,
-    dials: &[u32],
-    counts: &[u32],
     earlier: &mut [u32],
     carriers: &mut [u32],
     memory: &mut [u32],
     takers: &mut [u32],
 ) -> Option<u32>
-    requires searchable { Searchable q.now ends.now dials.now counts.now earlier.old work.old t }
+    requires searchable { Searchable a.now.q.now a.now.ends.now a.now.dials.now a.now.counts.now earlier.old work.old a.now.t }
     requires carriers_end_in_bounds { (carriers_end ≤ length carriers.old) × Blank memory.old × Blank takers.old }
-    ensures { Tried (policy_of q.now) work.old work.new t result }
+    ensures { Tried (policy_of a.now.q.now) work.old work.new a.now.t result }
 {
-    list_carriers(work, t, dials, carriers);
-    let round = round_of(counts);
-    search(
-        q, work, ends, t, dials, counts, earlier, carriers, memory, takers, round,
-    )
+    list_carriers(work, a.t, a.dials, carriers);
+    let round = round_of(a.counts);
+    search(a, work, earlier, carriers, memory, takers, round)
 }
 
 // In tables of so many words. What there is no room for is not remembered.
 fn search_with<const REMEMBERED: usize, const TAKEN: usize>(
-    q: &[u32],
+    a: &Trial,
     work: &mut [u32],
-    ends: &[u64],
-    t: Tables,
-    dials: &[u32],
-    counts: &[u32],
     earlier: &mut [u32],
 ) -> Option<u32>
-    requires searchable { Searchable q.now ends.now dials.now counts.now earlier.old work.old t }
+    requires searchable { Searchable a.now.q.now a.now.ends.now a.now.dials.now a.now.counts.now earlier.old work.old a.now.t }
     requires sizes { (REMEMBERED ≤ 65536) × (TAKEN ≤ 65536) }
-    ensures { Tried (policy_of q.now) work.old work.new t result }
+    ensures { Tried (policy_of a.now.q.now) work.old work.new a.now.t result }
 {
     let mut carriers = [0; CARRIERS];
     let mut memory = [0; REMEMBERED];
     let mut takers = [0; TAKEN];
-    search_in(
-        q,
-        work,
-        ends,
-        t,
-        dials,
-        counts,
-        earlier,
-        &mut carriers,
-        &mut memory,
-        &mut takers,
-    )
+    search_in(a, work, earlier, &mut carriers, &mut memory, &mut takers)
 }
 
 // With nothing remembered: so few combinations are looked at sooner than tables are cleared.
-fn search_few(
-    q: &[u32],
-    work: &mut [u32],
-    ends: &[u64],
-    t: Tables,
-    dials: &[u32],
-    counts: &[u32],
-    earlier: &mut [u32],
-) -> Option<u32>
-    requires { Searchable q.now ends.now dials.now counts.now earlier.old work.old t }
-    ensures { Tried (policy_of q.now) work.old work.new t result }
+fn search_few(a: &Trial, work: &mut [u32], earlier: &mut [u32]) -> Option<u32>
+    requires { Searchable a.now.q.now a.now.ends.now a.now.dials.now a.now.counts.now earlier.old work.old a.now.t }
+    ensures { Tried (policy_of a.now.q.now) work.old work.new a.now.t result }
 {
-    search(
-        q,
-        work,
-        ends,
-        t,
-        dials,
-        counts,
-        earlier,
-        &[],
-        &mut [],
-        &mut [],
-        1,
-    )
+    search(a, work, earlier, &[], &mut [], &mut [], 1)
 }
 
 // A policy that is not long: small tables serve, which are cleared sooner.
@@ -300,13 +237,20 @@ fn try_pieces(
 {
     start(work, t.constraints);
     count_pieces(ends, work, t.constraints, dials, counts);
-    if are_few(counts) {
-        return search_few(q, work, ends, t, dials, counts, earlier);
+    let trial = Trial {
+        q,
+        ends,
+        t,
+        dials,
+        counts: &*counts,
+    };
+    if are_few(trial.counts) {
+        return search_few(&trial, work, earlier);
     }
     if q.len() <= SHORT {
-        return search_with::<2048, 256>(q, work, ends, t, dials, counts, earlier);
+        return search_with::<2048, 256>(&trial, work, earlier);
     }
-    search_with::<MEMORY, TAKER_WORDS>(q, work, ends, t, dials, counts, earlier)
+    search_with::<MEMORY, TAKER_WORDS>(&trial, work, earlier)
 }
 
 // Whether a term of q takes the constraints whole.

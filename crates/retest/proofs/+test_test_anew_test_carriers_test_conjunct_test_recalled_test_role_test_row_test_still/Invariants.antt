@@ -16,10 +16,10 @@ abbrev pub decreases-test : goal.decreases-test
 decreases-test l = 8 * l.left + 7
 
 abbrev pub invariant-test-loop-at : goal.invariant-test-loop-at
-invariant-test-loop-at l = (length l.memory ≡ length l.initial.memory) × Sure l.q l.carriers l.work l.t l.memory × Going (Rest l.q l.dials l.work l.t l.left l.k l.x l.all) l.q l.at
+invariant-test-loop-at l = (length l.memory ≡ length l.initial.memory) × Sure l.a.q.now l.a.carriers.now l.a.work.now l.a.t l.memory × Going (Rest l.a.q.now l.a.dials.now l.a.work.now l.a.t l.left l.k l.x l.all) l.a.q.now l.at
 
 abbrev pub decreases-test-loop-at : goal.decreases-test-loop-at
-decreases-test-loop-at l = falling (last_of 6 l.q) l.at
+decreases-test-loop-at l = falling (last_of 6 l.a.q.now) l.at
 
 abbrev pub decreases-test_anew : goal.decreases-test_anew
 decreases-test_anew l = 8 * l.left + 4
@@ -28,10 +28,10 @@ abbrev pub decreases-test_carriers : goal.decreases-test_carriers
 decreases-test_carriers l = 8 * l.left + 2
 
 abbrev pub invariant-test_carriers-loop-next : goal.invariant-test_carriers-loop-next
-invariant-test_carriers-loop-next l = (length l.memory ≡ length l.initial.memory) × Walking l.q l.dials l.carriers l.work l.t l.memory l.left l.k l.x l.r.0 l.all l.next
+invariant-test_carriers-loop-next l = (length l.memory ≡ length l.initial.memory) × Walking l.a.q.now l.a.dials.now l.a.carriers.now l.a.work.now l.a.t l.memory l.left l.k l.x l.r.0 l.all l.next
 
 abbrev pub decreases-test_carriers-loop-next : goal.decreases-test_carriers-loop-next
-decreases-test_carriers-loop-next l = falling l.t.individuals (unwrap_or l.next 0)
+decreases-test_carriers-loop-next l = falling l.a.t.individuals (unwrap_or l.next 0)
 
 abbrev pub decreases-test_conjunct : goal.decreases-test_conjunct
 decreases-test_conjunct l = 8 * l.left + 6
@@ -49,7 +49,7 @@ abbrev pub decreases-test_still : goal.decreases-test_still
 decreases-test_still l = 8 * l.left + 2
 
 abbrev pub invariant-test_still-loop-j : goal.invariant-test_still-loop-j
-invariant-test_still-loop-j l = (length l.memory ≡ length l.initial.memory) × Seeking l.q l.dials l.carriers l.work l.t l.memory l.left l.k l.x l.r.0 l.all l.j
+invariant-test_still-loop-j l = (length l.memory ≡ length l.initial.memory) × Seeking l.a.q.now l.a.dials.now l.a.carriers.now l.a.work.now l.a.t l.memory l.left l.k l.x l.r.0 l.all l.j
 
 abbrev pub decreases-test_still-loop-j : goal.decreases-test_still-loop-j
 decreases-test_still-loop-j l = l.n - l.j

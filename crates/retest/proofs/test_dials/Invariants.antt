@@ -3,4 +3,4 @@ use Rattle.retest.proofs.Dials.{Missed}
 use Rattle.retest.proofs.test_dials.Given as goal
 
 abbrev pub invariant-loop-d : goal.invariant-loop-d
-invariant-loop-d l = Missed l.dials l.work l.x l.f.0 l.lo l.hi l.all l.d
+invariant-loop-d l = Missed l.a.dials.now l.a.work.now l.x l.f.0 l.lo l.hi l.all l.d

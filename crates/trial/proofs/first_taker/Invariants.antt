@@ -6,7 +6,7 @@ use Rattle.trial.proofs.Passing.{Seeking}
 use Rattle.trial.proofs.first_taker.Given as goal
 
 abbrev pub invariant-loop-k : goal.invariant-loop-k
-invariant-loop-k l = (length l.memory ≡ length l.initial.memory) × Seeking l.q l.dials l.carriers l.work l.t l.memory l.k
+invariant-loop-k l = (length l.memory ≡ length l.initial.memory) × Seeking l.a.q.now l.a.dials.now l.a.carriers.now l.a.work.now l.a.t l.memory l.k
 
 abbrev pub decreases-loop-k : goal.decreases-loop-k
-decreases-loop-k l = falling (last_of 6 l.q) l.k
+decreases-loop-k l = falling (last_of 6 l.a.q.now) l.k
