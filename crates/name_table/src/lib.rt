@@ -45,7 +45,7 @@ pub fn number(text: &[u8], table: &[u32], base: usize, n: usize, name: &[u8]) ->
 
 // One name more.
 pub fn enter(text: &[u8], table: &mut [u32], j: usize, name: Token)
-    requires { (3 * j + 2 < length table.old) × (j ≤ 65536) × Within text.now name × (length text.now ≤ 65536) }
+    requires { (3 * j + 2 < length table.old) × (j ≤ 65536) × (name.from ≤ name.to) × (name.to ≤ length text.now) × (length text.now ≤ 65536) }
     ensures { table.new ≡ entered text.now table.old j name.from name.to }
 {
     table[3 * j] = name.from as u32;

@@ -20,7 +20,7 @@ loop-k-smaller-then-child-eq0 t c = next_falls c.loop-k.invariant.0 c.loop-k-tes
 pub loop-k-preserved-then-child-eq0 : goal.loop-k-preserved-then-child-eq0
 loop-k-preserved-then-child-eq0 t c = (
   walk_past c.loop-k.invariant.0 c.loop-k-test.true c.in_ok-check_record.ensures (search rules) refl (search rules)
-  c.child_of-child.ensures (search rules) c.insert.ensures c.next_of-k.ensures,
+      c.child_of-child.ensures (search rules) c.insert.ensures c.next_of-k.ensures,
   search rules,
 )
 
@@ -49,7 +49,7 @@ loop-k-smaller t c = next_falls c.loop-k.invariant.0 c.loop-k-test.true c.in_ok-
 pub loop-k-preserved : goal.loop-k-preserved
 loop-k-preserved t c = (
   walk_on c.loop-k.invariant.0 c.loop-k-test.true c.in_ok-check_record.ensures (search rules) refl (search rules)
-  c.child_of-child.ensures c.insert.ensures c.in_ok-walk_from.ensures refl c.next_of-k.ensures,
+      c.child_of-child.ensures c.insert.ensures c.in_ok-walk_from.ensures refl c.next_of-k.ensures,
   search rules,
 )
 
