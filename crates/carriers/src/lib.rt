@@ -31,7 +31,7 @@ pub const CARRIERS: usize = 3 * (MOST_RECORDS + 1);
 
 // ---- what the lists hold
 
-// The lowest dial at or below individual x, counted from 1; 0 for none.
+// The lowest dial at or below individual x, counted from 1; 0 for none, and a number, since crate retest has a place for each slot, 0 too.
 pub fn slot_of(carriers: &[u32], x: u32) -> u32
     ensures { result ≡ slot_of carriers.now x }
 {

@@ -1,5 +1,6 @@
 // One policy against another, from where the short way stops: whether a term has too many combinations, and the first combination
 // to fail.
+// Kinds and links of records are numbers, as crate policy reads them; link 0 ends a chain.
 #![tactic(auto)]
 
 ghost use Rattle.std.specs.Prelude.{false, List, ◌≡◌, ◌≤◌, ℕ, length};

@@ -7,8 +7,7 @@ use native.Mathlib.Nat.{mul-le-mul_left, mul-le-mul_right, mul-one, one-mul}
 use native.Mathlib.Omega.{arith}
 use lib.ListN.{get_or, length, length-set, set}
 use lib.Seq.{get_or-set_other, get_or-set_same}
-use Rattle.layout.specs.Tables.{HasEntry, constraint_at, interval_of}
-use Rattle.meaning.specs.Intervals.{NonEmpty}
+use Rattle.layout.specs.Tables.{constraint_at, interval_of}
 use Rattle.meaning.specs.Limits.{most_combinations}
 use Rattle.meaning.specs.Lists.{counting}
 use Rattle.meaning.specs.Policy.{Policy}
@@ -44,12 +43,6 @@ counting_starts e w dials counts = record { size = refl; count = λ Q ends i h. 
 
 module _ {e w dials counts₀ : List ℕ} {n d m : ℕ} (pre : PiecesCountable e dials w counts₀ n) (less : d < length dials)
     (em : m ≡ get_or dials d 0) where
-  pub counting_inside : HasEntry m w
-  counting_inside = let i = pre.dialled.dial d less in (omega (arith, pre.split.splittable.few), pre.split.splittable.long)
-
-  pub counting_full : {lo hi : ℕ} → lo ≡ (constraint_at w m).lo → hi ≡ (constraint_at w m).hi → NonEmpty lo hi
-  counting_full el eh = let i = pre.dialled.dial d less in let f = pre.split.splittable.full m (omega arith) in omega arith
-
   module _ {f lo hi r : ℕ} (ef : f ≡ (constraint_at w m).feature) (el : lo ≡ (constraint_at w m).lo) (eh : hi ≡ (constraint_at w m).hi)
       (c : (Q : Policy) → Ends Q e → r ≡ length (pieces Q (interval_of f lo hi))) where
     told : (Q : Policy) → Ends Q e → r ≡ piece_count Q w m

@@ -94,7 +94,7 @@ fn onward(q: u32, weight: u32) -> u32
 
 // From combination q, counted from 1, which passes by the dials of the mask, to the next that has to be looked at, whose number is told;
 // none where all pass. Dials that are not relied on start again; the last of the others that has a next piece takes it, and keeps what its
-// earlier pieces relied on; one that has none hands that on.
+// earlier pieces relied on; one that has none hands that on. Parameters stand one by one: a struct of them would be made for each call.
 pub fn skip(
     ends: &[u64],
     work: &mut [u32],

@@ -5,6 +5,7 @@
 // the conjunct and the individual; and where such a pair has to be tested again, what has no dial is not looked at again. An individual
 // has its place by the lowest dial at or below it: those that one conjunct is held to stand on one level and have different ones, so
 // that none takes another's place. An empty memory remembers nothing.
+// Kinds and links of records are numbers, as crate policy reads them; link 0 ends a chain.
 #![tactic(auto)]
 
 ghost use Rattle.std.specs.Prelude.{cond, false, ◌≡◌, ◌-◌, ◌<◌, ◌≤◌, eqb};
@@ -261,6 +262,7 @@ fn test_still(a: &Asking, memory: &mut [u32], left: u32, k: u32, x: u32, r: Role
     let n = place(a.t.individuals);
     let mut all: u32 = 0;
     let mut j = next_successor(a.work, n, x, place(x));
+    // By hand: the row to go on at is told by next_successor.
     while j < n {
         let y = j as u32 + 1;
         j = next_successor(a.work, n, x, j + 1);

@@ -1,4 +1,5 @@
 // The short way: the terms of a policy with their constraints whole, one after another, until one is not taken by the other policy.
+// Kinds and links of records are numbers, as crate policy reads them; link 0 ends a chain.
 #![tactic(auto)]
 
 ghost use Rattle.std.specs.Prelude.{List, ℕ};

@@ -1,6 +1,7 @@
 // Splitting: the ends of the second policy, and the pieces of a constraint between them.
 // A piece needs no more than its two ends: the one after it starts at the next number, and a search among the ends, which rise, tells
 // where it stops.
+// Kinds and links of records are numbers, as crate policy reads them; link 0 ends a chain.
 #![tactic(auto)]
 
 ghost use Rattle.std.specs.Prelude.{false, [], ◌∷◌, ◌≡◌, ◌+◌, ◌<◌, ◌≤◌, length};

@@ -1,4 +1,5 @@
 // Algorithm 1: the structural test of a term's normal form, which the tables of the work slice hold, against a term, its constraints whole.
+// Kinds and links of records are numbers, as crate policy reads them; link 0 ends a chain.
 #![tactic(auto)]
 
 ghost use Rattle.std.specs.Prelude.{◌≡◌, ◌-◌, ◌≤◌};
@@ -67,6 +68,7 @@ fn test_successors(q: &[u32], work: &[u32], t: Tables, left: u32, k: u32, x: u32
 {
     let n = place(t.individuals);
     let mut j = next_successor(work, n, x, place(x));
+    // By hand: the row to go on at is told by next_successor.
     while j < n {
         let y = j as u32 + 1;
         let role = role_of(work, j);

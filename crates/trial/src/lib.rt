@@ -3,6 +3,7 @@
 // While more than two combinations are tried, three tables are kept beside the work slice: the individuals with a dial at or below (crate
 // carriers), what the structural test remembers (crate retest), and who took the last combination whose number ended alike. They take
 // 46 KB of stack, and 15 KB for a policy of at most 119 records.
+// Kinds and links of records are numbers, as crate policy reads them; link 0 ends a chain.
 #![tactic(auto)]
 
 ghost use Rattle.std.specs.Prelude.{IfSome, ◌≡◌, ◌≤◌, length};
