@@ -53,22 +53,18 @@ module _ (v : List ℕ) where
   later : {h : List ℕ} {b b' : ℕ} → b ≤ b' → Heads v h b → Heads v h b'
   later l e = record { at = λ a z. let x = e.at a z in (omega (arith, x.0), x.1) }
 
-  -- `enter`: record k is of another kind, or a is its class
+  -- `enter`
   module _ (h n : List ℕ) (k : ℕ) (pre : (class_count v ≤ most_classes) × Met v k × Heads v h k × Nexts v n) where
-    pub enter_other : Heads v h (k + 1) × Nexts v n
-    enter_other = (later (omega arith) pre.2, pre.3)
+    same : Heads v h (k + 1)
+    same = later (omega arith) pre.2
 
-    module _ {kind a : ℕ} (e : kind ≡ axiom_kind v k) (o : kind ≡ 1) (p : a ≡ axiom_left v k) where
-      pub enter_class : a ≤ most_classes
-      enter_class = let l = (rising_named v k (sym e ∙ o) pre.1.fits).0 in omega (arith, pre.0)
-
-      pub enter_below : {m : ℕ} → m ≡ k → Heads v (set h a k) (k + 1) × Nexts v (set n m (get_or h a 0))
-      enter_below q =
-          let new : Rises v k = record { met = pre.1; kind = sym e ∙ o } in
-          rw q (
-            record { at = set_all (λ i x. Entry v (k + 1) x) h a k enter_other.0.at (λ z. (omega arith, new)) },
-            record { at = set_all (λ i x. Entry v i x) n k (get_or h a 0) pre.3.at (pre.2.at a) },
-          )
+    pub enter_below : (a : ℕ) {m : ℕ} → axiom_kind v k ≡ 1 → m ≡ k → Heads v (set h a k) (k + 1) × Nexts v (set n m (get_or h a 0))
+    enter_below a o q =
+        let new : Rises v k = record { met = pre.1; kind = o } in
+        rw q (
+          record { at = set_all (λ i x. Entry v (k + 1) x) h a k same.at (λ z. (omega arith, new)) },
+          record { at = set_all (λ i x. Entry v i x) n k (get_or h a 0) pre.3.at (pre.2.at a) },
+        )
 
 -- ---- the walk that fills the index
 

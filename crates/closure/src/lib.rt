@@ -14,9 +14,7 @@ ghost use Rattle.words.specs.Rows.{class_words};
 use layout::{ROLE_ROWS, row_at};
 use meaning::limits::{MOST_AXIOMS, MOST_CLASSES};
 use meaning::{ClassNo, RoleNo};
-use vocabulary::{
-    axiom_kind, axiom_left, axiom_next, axiom_right, class_count, first_axiom, role_count,
-};
+use vocabulary::{Axiom, axiom_at, axiom_next, axiom_right, class_count, first_axiom, role_count};
 use words::{ClassSet, place};
 
 fn row(work: &[u32], i: u32) -> ClassSet
@@ -57,12 +55,10 @@ fn lift(v: &[u32], work: &mut [u32], k: u32) -> bool
     ensures work_after { work.new ≡ lifted work.old (axiom_at v.now k) }
     ensures grown { Grown result work.old work.new }
 {
-    if axiom_kind(v, k) != 1 {
+    let Some(Axiom::Below(a, b)) = axiom_at(v, k) else {
         return false;
-    }
-    let a = axiom_left(v, k);
-    let b = axiom_right(v, k);
-    join(work, a, b)
+    };
+    join(work, a.0, b.0)
 }
 
 // One pass over the records, in the chain's order; whether a row grew.
@@ -94,12 +90,12 @@ fn enter(v: &[u32], heads: &mut [u32; HEADS], next: &mut [u32; NEXTS], k: u32)
     requires { Enterable v.now heads.old next.old k }
     ensures { Heads v.now heads.new (k + 1) × Nexts v.now next.new }
 {
-    if axiom_kind(v, k) != 1 {
+    let Some(Axiom::Below(a, _)) = axiom_at(v, k) else {
         return;
-    }
-    let a = place(axiom_left(v, k));
-    next[place(k)] = heads[a];
-    heads[a] = k;
+    };
+    let at = place(a.0);
+    next[place(k)] = heads[at];
+    heads[at] = k;
 }
 
 // The records that put a class below another, class by class: a class's head is its last one in the chain, and a record's next the
@@ -126,6 +122,7 @@ fn raise(v: &[u32], work: &mut [u32], heads: &mut [u32; HEADS], next: &[u32; NEX
     let mut k = heads[at];
     heads[at] = 0;
     while k != 0 {
+        // Each record of the index puts its first class below its second: only the second is asked here.
         raise(v, work, heads, next, axiom_right(v, k));
         lift(v, work, k);
         k = next[place(k)];
@@ -184,12 +181,10 @@ fn widen(v: &[u32], work: &mut [u32], k: u32)
     requires { (axiom_fits v.now k ≡ true) × RoleRoom v.now work.old }
     ensures { work.new ≡ widened work.old (axiom_at v.now k) }
 {
-    if axiom_kind(v, k) != 5 {
+    let Some(Axiom::Range(r, c)) = axiom_at(v, k) else {
         return;
-    }
-    let r = axiom_left(v, k);
-    let c = axiom_right(v, k);
-    join(work, ROLE_ROWS + r, c);
+    };
+    join(work, ROLE_ROWS + r.0, c.0);
 }
 
 // Writes the rows of the roles from those of the classes, by one walk over the records.

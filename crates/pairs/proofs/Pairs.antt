@@ -14,14 +14,14 @@ use Rattle.layout.specs.Places.{most_pairs, pair_place, pairs_at, pairs_end}
 use Rattle.meaning.specs.Lists.{all, counting, flat_map}
 use Rattle.meaning.specs.Records.{falling, last_of}
 use Rattle.meaning.specs.Stated.{disjoint_pair, disjoint_pairs}
-use Rattle.meaning.specs.Vocabulary.{Axiom, axiom_at, axiom_kind, axiom_left, axiom_next, axiom_right, first_axiom, vocabulary_of}
+use Rattle.meaning.specs.Vocabulary.{Axiom, axiom_at, axiom_next, first_axiom, vocabulary_of}
 use Rattle.meaning.specs.Vocabulary.{vocabulary_refusal}
 use Rattle.pairs.specs.Pairs.{Listed, PairRoom, PairRows, enlisted, has_both, pair_at, pair_count, pairs_in, with_pair}
 use Rattle.std.specs.List.{list_all, range_with_len}
 use Rattle.theory.proofs.Counting.{counted_more, counted_same}
 use Rattle.theory.proofs.Links.{falling_le}
 use Rattle.theory.proofs.Wellformed.{accepted_size}
-use Rattle.theory.proofs.Stated.{disjoint_pair_at, disjoint_pair_one, disjoint_pair_other}
+use Rattle.theory.proofs.Stated.{disjoint_pair_one}
 use Rattle.vocabulary.proofs.Chain.{Folding, folding_ends, folding_falls, folding_on, folding_starts}
 use Rattle.words.specs.Sets.{in_set}
 
@@ -81,15 +81,6 @@ module _ (w : List ℕ) (a b : ℕ) where
         (counted_same (pair_at (with_pair w a b)) (pair_at w) 0 (pair_count w) (λ i l. ap₂ (λ (x y : ℕ). (x, y))
         (with_only.others (pair_place i) (⊎_elim (λ z. omega arith) (⊎_elim (λ z. omega arith) (λ z. omega arith))))
         (with_only.others (pair_place i + 1) (⊎_elim (λ z. omega arith) (⊎_elim (λ z. omega arith) (λ z. omega arith)))))) with_last
-
--- ---- `enlist`: record k is of another kind, or a and b are its classes
-
-module _ (v w : List ℕ) (k : ℕ) {kind : ℕ} (e : kind ≡ axiom_kind v k) where
-  pub enlist_other : (kind ≡ 2 → ⊥) → w ≡ enlisted w (axiom_at v k)
-  enlist_other n = sym (ap (foldl (λ u p. with_pair u p.0 p.1) w) (disjoint_pair_other v k (λ z. n (e ∙ z))))
-
-  pub enlist_pair : {a b : ℕ} {u : List ℕ} → kind ≡ 2 → a ≡ axiom_left v k → b ≡ axiom_right v k → u ≡ with_pair w a b → u ≡ enlisted w (axiom_at v k)
-  enlist_pair o p q h = h ∙ rw (p, q) (sym (ap (foldl (λ u p. with_pair u p.0 p.1) w) (disjoint_pair_at v k (sym e ∙ o))))
 
 -- ---- `list_pairs`
 

@@ -8,7 +8,7 @@ ghost use Rattle.pairs.specs.Pairs.{Listed, PairRoom, agree_in, enlisted, has_bo
 
 use layout::{PAIRS, pair_at};
 use meaning::ClassNo;
-use vocabulary::{axiom_kind, axiom_left, axiom_next, axiom_right, first_axiom};
+use vocabulary::{Axiom, axiom_at, axiom_next, first_axiom};
 use words::ClassSet;
 
 fn add_pair(work: &mut [u32], a: ClassNo, b: ClassNo)
@@ -27,11 +27,9 @@ fn enlist(v: &[u32], work: &mut [u32], k: u32)
     requires { PairRoom work.old }
     ensures { work.new ≡ enlisted work.old (axiom_at v.now k) }
 {
-    if axiom_kind(v, k) != 2 {
+    let Some(Axiom::Disjoint(a, b)) = axiom_at(v, k) else {
         return;
-    }
-    let a = ClassNo(axiom_left(v, k));
-    let b = ClassNo(axiom_right(v, k));
+    };
     add_pair(work, a, b);
 }
 

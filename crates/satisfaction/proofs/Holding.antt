@@ -4,6 +4,7 @@ use mathlib.Core.Bool.{Bool, ◌&&◌, cond, false, not, true, true≢false}
 use mathlib.Core.List.{List}
 use mathlib.Core.Logic.{◌↔◌}
 use mathlib.Core.Path.{◌∙◌, ◌≡◌, ap, refl, subst, sym}
+use Rattle.std.specs.Prelude.{Option}
 use lib.Ieee.Bits.{is_true as is_true_lem}
 use lib.Dec.{T, eqb, leb}
 use native.Mathlib.Omega.{arith}
@@ -16,7 +17,7 @@ use Rattle.meaning.specs.Model.{Fact, facts_of}
 use Rattle.meaning.specs.ModelCheck.{is_model, obeys}
 use Rattle.meaning.specs.Records.{Name, is_name}
 use Rattle.meaning.specs.Stated.{is_functional_feature, is_functional_role, is_many_feature, is_many_role}
-use Rattle.meaning.specs.Vocabulary.{Axiom, Vocabulary, axiom_at, axiom_kind, axiom_next, below, defaults, disjoint, first_axiom}
+use Rattle.meaning.specs.Vocabulary.{Axiom, Vocabulary, axiom_at, axiom_next, below, defaults, disjoint, first_axiom}
 use Rattle.meaning.specs.Vocabulary.{functional_feature, functional_role, many_feature, many_role, range, stated, vocabulary_of, vocabulary_refusal}
 use Rattle.satisfaction.proofs.Classes.{interpreted_kept}
 use Rattle.satisfaction.proofs.Rows.{none_in}
@@ -32,6 +33,9 @@ use Rattle.theory.proofs.Links.{tests}
 use Rattle.theory.proofs.Rules.{T_and, all_at, all_fst, all_in, all_mono, all_of, all_out, is_false, is_true, not_true, same_test}
 use Rattle.theory.proofs.Stated.{AllStated, all_stated, axiom_stated, functional_feature_stated, functional_role_stated, stated_more}
 use Rattle.theory.proofs.Wellformed.{accepted_counts}
+use Rattle.vocabulary.proofs.Axioms.{kind_read}
+use Rattle.vocabulary.specs.Axioms.{AxiomRead}
+use Rattle.vocabulary.specs.declared.Axiom.{Axiom as Read}
 use Rattle.words.specs.Sets.{in_set}
 
 -- ---- one record after another
@@ -58,9 +62,9 @@ module _ {v m w₁ w₂ : List ℕ} {k : ℕ} {ranged : Bool} (x : Judging v m w
   pub judging_ends : k ≡ 0 → RecordsHeld v m w₁ w₂ true
   judging_ends z = held only_none x.state.interpreted (obeying_ends x.obeying z)
 
-  module _ {kind : ℕ} {made : Bool} {w₃ : List ℕ} (n : k ≡ 0 → ⊥) (a : RangesMade kind m w₂ w₃ made) where
-    pub judging_askable : kind ≡ axiom_kind v k → Askable v m w₃ k
-    judging_askable ek = obeying_askable x.obeying n a.state.interpreted (λ e. a.state.ranged (a.asked (ek ∙ e)))
+  module _ {r : Option Read} {made : Bool} {w₃ : List ℕ} (n : k ≡ 0 → ⊥) (a : RangesMade r m w₂ w₃ made) where
+    pub judging_askable : AxiomRead v k r → Askable v m w₃ k
+    judging_askable p = obeying_askable x.obeying n a.state.interpreted (λ e. a.state.ranged (a.asked (kind_read v k 5 r p refl e)))
 
     module _ {b : Bool} (e : b ≡ is_held (facts_of m) (axiom_at v k)) where
       pub judging_fails : not b ≡ true → RecordsHeld v m w₁ w₃ false

@@ -12,6 +12,7 @@ use lib.Seq.{drop-drop, get_or-set_other, get_or-set_same}
 use native.Mathlib.Nat.{mod-lt, pow-suc, zero-lt-suc}
 use native.Mathlib.Omega.{arith}
 use borrow.Author.Tests.{eqb-false, eqb-true, not-false, not-true}
+use Rattle.std.specs.Prelude.{Option}
 use Rattle.frames.proofs.Frames.{only_none, only_put, only_set, only_span, only_then, row_before, row_behind, row_word}
 use Rattle.frames.proofs.Rows.{length_row, put_row}
 use Rattle.std.proofs.lemmas.List.{get_or-replicate, length-replicate}
@@ -31,6 +32,8 @@ use Rattle.satisfaction.specs.Places.{class_place, range_place, range_words, ran
 use Rattle.satisfaction.specs.Ranges.{Intersected, Narrowed, Opened, Ranged, RangedIf, RangesMade}
 use Rattle.theory.proofs.Links.{tests}
 use Rattle.theory.proofs.Rules.{order}
+use Rattle.vocabulary.specs.Axioms.{is_of}
+use Rattle.vocabulary.specs.declared.Axiom.{Axiom}
 use Rattle.words.proofs.Bits.{bit_suc, bit_zero}
 use Rattle.words.proofs.Laws.{named_within}
 use Rattle.words.specs.Rows.{class_words}
@@ -210,7 +213,7 @@ module _ {m w w₁ : List ℕ} (e : Opened range_words w w₁) where
     pub ranging_interpreted : Ranging m w₁ w₂ l → Interpreted m w → Interpreted m w₂
     ranging_interpreted t i = interpreted_kept (omega arith) (only_then e.only t.only) i
 
-  pub ranging_ends : {w₂ : List ℕ} {kind : ℕ} → Interpreted m w → Ranging m w₁ w₂ [] → RangesMade kind m w w₂ true
+  pub ranging_ends : {w₂ : List ℕ} {stated : Option Axiom} → Interpreted m w → Ranging m w₁ w₂ [] → RangesMade stated m w w₂ true
   ranging_ends {w₂} i t = record {
     state = record {
       interpreted = ranging_interpreted t i;
@@ -221,13 +224,13 @@ module _ {m w w₁ : List ℕ} (e : Opened range_words w w₁) where
   }
 
 -- there is nothing to make
-module _ {m w : List ℕ} {made : Bool} {kind : ℕ} (p : RangedIf made m w) where
-  pub ranges_there : made ≡ true → RangesMade kind m w w true
+module _ {m w : List ℕ} {made : Bool} {stated : Option Axiom} (p : RangedIf made m w) where
+  pub ranges_there : made ≡ true → RangesMade stated m w w true
   ranges_there e = record { state = record { interpreted = p.interpreted; ranged = λ _. p.ranged e }; asked = λ _. refl; only = only_none }
 
-  pub ranges_unasked : (kind ≡ 5 → ⊥) → RangesMade kind m w w false
+  pub ranges_unasked : is_of 5 stated ≡ false → RangesMade stated m w w false
   ranges_unasked n = record {
     state = record { interpreted = p.interpreted; ranged = λ e. absurd (true≢false (sym e)) };
-    asked = λ e. absurd (n e);
+    asked = λ e. absurd (true≢false (sym e ∙ n));
     only = only_none;
   }

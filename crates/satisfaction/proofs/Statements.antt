@@ -3,32 +3,39 @@ use Prim.Native.Nat.{◌+◌, ◌<◌, ◌≤◌, suc, zero, ℕ}
 use mathlib.Core.Bool.{Bool, ◌&&◌, cond, false, not, true}
 use mathlib.Core.List.{List, ◌∷◌}
 use mathlib.Core.Logic.{◌↔◌}
-use mathlib.Core.Path.{◌∙◌, ◌≡◌, ap, refl, sym}
+use mathlib.Core.Path.{◌∙◌, ◌≡◌, ap, refl, subst, sym}
 use Rattle.std.specs.List.{list_all, range_with_len}
-use lib.Dec.{T, T_not, eqb, not_T}
+use lib.Dec.{T, T_not, not_T}
 use native.Mathlib.Numerals.{add-one}
 use native.Mathlib.Omega.{arith}
-use borrow.Author.Tests.{ne_eqb, not-false, not-true}
+use borrow.Author.Tests.{not-false, not-true}
+use Rattle.std.specs.Prelude.{Some}
+use Rattle.meaning.specs.declared.ClassNo.{ClassNo}
+use Rattle.meaning.specs.declared.RoleNo.{RoleNo}
 use Rattle.meaning.specs.Limits.{most_classes, most_roles}
 use Rattle.meaning.specs.Lists.{All, ◌∈◌, all, any, cons, counting, nil}
 use Rattle.meaning.specs.Model.{Fact, facts_of, individual_count, member}
 use Rattle.meaning.specs.ModelCheck.{is_member, obeys}
 use Rattle.meaning.specs.Records.{Name, falling, last_of}
-use Rattle.meaning.specs.Vocabulary.{axiom_at, axiom_kind, axiom_left, axiom_next, axiom_right, below, disjoint}
+use Rattle.meaning.specs.Vocabulary.{Axiom, axiom_at, axiom_kind, axiom_left, axiom_next, axiom_right, below, disjoint}
 use Rattle.meaning.specs.Vocabulary.{first_axiom, range, vocabulary_of, vocabulary_refusal}
 use Rattle.model.specs.Chain.{Readable}
 use Rattle.records.proofs.Chains.{Walking, walking_ends, walking_falls, walking_found, walking_on, walking_sound, walking_starts}
 use Rattle.satisfaction.proofs.Facts.{owners_named}
+use Rattle.satisfaction.proofs.Ranges.{range_told}
 use Rattle.satisfaction.specs.Classes.{Classed, Interpreted, follows}
 use Rattle.satisfaction.specs.Holding.{Askable, is_held}
-use Rattle.satisfaction.specs.Places.{classes_of}
+use Rattle.satisfaction.specs.Places.{classes_of, ranges_of}
 use Rattle.satisfaction.specs.Ranges.{Ranged}
 use Rattle.theory.proofs.ModelCheck.{is_member_lem, member_is, obeys_iff}
 use Rattle.theory.proofs.Counting.{in_counting}
 use Rattle.theory.proofs.Rules.{all_at, all_in, all_out, any_in, any_mono, any_out, imp_in, imp_out, same_test}
-use Rattle.theory.proofs.Links.{split, tests}
+use Rattle.theory.proofs.Links.{tests}
 use Rattle.theory.proofs.Wellformed.{accepted_counts}
 use Rattle.vocabulary.proofs.Chain.{axiom_links, axioms_along}
+use Rattle.vocabulary.specs.Axioms.{AxiomRead, stated_by}
+use Rattle.vocabulary.specs.declared.Axiom.{Axiom as Read}
+use Rattle.vocabulary.specs.declared.Axiom.TheVariants as kind
 use Rattle.words.specs.Sets.{in_set}
 
 -- ---- one after another
@@ -95,37 +102,39 @@ module _ {m w : List ℕ} (r : Readable m) (c : Classed m w) (a b : ℕ) where
         (λ h. o.1 (λ i k l. let n = named a i k in T_not (in_set (classes_of w i) b) ((pairs true).0 h i n k) ((in_iff b i n).1 l)))
         (λ h. (pairs true).1 (λ i n k. not_T (in_set (classes_of w i) b) (λ l. o.0 h i k ((in_iff b i n).0 l)))))
 
--- ---- what record k of the vocabulary asks, by its kind
+-- ---- what record k of the vocabulary asks, by what is read of it
 
-module _ (F : List Fact) (v : List ℕ) (k : ℕ) {kind : ℕ} (ek : kind ≡ axiom_kind v k) where
-  module _ {a b : ℕ} (ea : a ≡ axiom_left v k) (eb : b ≡ axiom_right v k) {t : Bool} where
-    pub asks_below : kind ≡ 1 → t ≡ obeys F (below a b) → t ≡ is_held F (axiom_at v k)
-    asks_below e h = h ∙ rw (← ek, e, ea, eb)
+abbrev first_name : Axiom → ℕ
+first_name (range r c) = r
+first_name x = 0
 
-    pub asks_disjoint : kind ≡ 2 → t ≡ obeys F (disjoint a b) → t ≡ is_held F (axiom_at v k)
-    asks_disjoint e h = h ∙ rw (← ek, e, ea, eb)
+abbrev second_name : Axiom → ℕ
+second_name (range r c) = c
+second_name x = 0
 
-    pub asks_range : kind ≡ 5 → t ≡ obeys F (range a b) → t ≡ is_held F (axiom_at v k)
-    asks_range e h = h ∙ rw (← ek, e, ea, eb)
+module _ {v : List ℕ} {k : ℕ} {x y : Read} (e : AxiomRead v k (Some x)) (p : x ≡ y) where
+  as_read : AxiomRead v k (Some y)
+  as_read = rw p at e
 
-  -- one of another kind asks nothing
-  pub asks_nothing : (kind ≡ 1 → ⊥) → (kind ≡ 2 → ⊥) → (kind ≡ 5 → ⊥) → true ≡ is_held F (axiom_at v k)
-  asks_nothing n₁ n₂ n₅ =
-      rw (← ek, ne_eqb kind 1 n₁, ne_eqb kind 2 n₂, ne_eqb kind 5 n₅)
-      (split (λ x. true ≡ is_held F x) (eqb kind 3) (λ _. refl) (λ _.
-      split (λ x. true ≡ is_held F x) (eqb kind 4) (λ _. refl) (λ _.
-      split (λ x. true ≡ is_held F x) (eqb kind 6) (λ _. refl) (λ _. refl))))
+  pub asks : (F : List Fact) {t : Bool} → t ≡ is_held F (stated_by y) → t ≡ is_held F (axiom_at v k)
+  asks F h = h ∙ ap (is_held F) (sym as_read.stated)
 
 -- a range
-module _ {v m w : List ℕ} {k kind : ℕ} (x : Askable v m w k) (ek : kind ≡ axiom_kind v k) (e : kind ≡ 5) where
-  pub range_role : {a : ℕ} → a ≡ axiom_left v k → Name most_roles a
-  range_role ea = rw ea (x.role (sym ek ∙ e))
+module _ {v m w : List ℕ} {k : ℕ} {x : Read} {r : RoleNo} {c : ClassNo} (a : Askable v m w k) (e : AxiomRead v k (Some x)) (p : x ≡ kind.Range r c) where
+  is_range : axiom_kind v k ≡ 5
+  is_range = (as_read e p).kind
 
-  pub range_class : {b : ℕ} → b ≡ axiom_right v k → Name most_classes b
-  range_class eb = rw eb (x.class (sym ek ∙ e))
+  names : range (axiom_left v k) (axiom_right v k) ≡ range r.0 c.0
+  names = rw is_range at (as_read e p).stated
 
-  pub range_made : Ranged m w
-  range_made = x.ranged (sym ek ∙ e)
+  role : Name most_roles r.0
+  role = subst (Name most_roles) (ap first_name names) (a.role is_range)
+
+  class : Name most_classes c.0
+  class = subst (Name most_classes) (ap second_name names) (a.class is_range)
+
+  pub asks_range : {t : Bool} → t ≡ in_set (ranges_of w r.0) c.0 → t ≡ is_held (facts_of m) (axiom_at v k)
+  asks_range h = asks e p (facts_of m) (range_told (a.ranged is_range) role class h)
 
 -- ---- all that the records ask
 

@@ -1,5 +1,5 @@
 -- The classes that the targets of a role's edges have in common.
-use Rattle.std.specs.Prelude.{◌+◌, ◌-◌, ◌<◌, ◌^◌, ◌≤◌, ℕ, Bool, ◌&&◌, true, List, ◌≡◌, get_or}
+use Rattle.std.specs.Prelude.{◌+◌, ◌-◌, ◌<◌, ◌^◌, ◌≤◌, ℕ, Bool, ◌&&◌, true, List, Option, ◌≡◌, get_or}
 use Rattle.std.specs.Int.Bits.{bit_and}
 use Rattle.frames.specs.Frames.{Only, Span}
 use Rattle.meaning.specs.Limits.{most_classes, most_roles}
@@ -9,6 +9,8 @@ use Rattle.meaning.specs.Records.{Name}
 use Rattle.meaning.specs.Vocabulary.{range}
 use Rattle.satisfaction.specs.Classes.{Interpreted, is_ranged}
 use Rattle.satisfaction.specs.Places.{ranges_at, ranges_end, ranges_of}
+use Rattle.vocabulary.specs.Axioms.{is_of}
+use Rattle.vocabulary.specs.declared.Axiom.{Axiom}
 use Rattle.words.specs.Rows.{class_words}
 use Rattle.words.specs.Sets.{in_set}
 
@@ -38,8 +40,8 @@ pub record RangedIf (made : Bool) (m w : List ℕ) : Type 0 where
   pub interpreted : Interpreted m w
   pub ranged : made ≡ true → Ranged m w
 
--- they are made if a record of this kind asks for them, and nothing else changed
-pub record RangesMade (kind : ℕ) (m w w' : List ℕ) (made : Bool) : Type 0 where
+-- they are made if what a record states asks for them, and nothing else changed
+pub record RangesMade (stated : Option Axiom) (m w w' : List ℕ) (made : Bool) : Type 0 where
   pub state : RangedIf made m w'
-  pub asked : kind ≡ 5 → made ≡ true
+  pub asked : is_of 5 stated ≡ true → made ≡ true
   pub only : Only (Span ranges_at ranges_end) w w'

@@ -44,7 +44,7 @@ use model::{
     fact_kind, fact_name, fact_next, fact_other, fact_owner, first_fact, individual_count,
 };
 use records::is_name;
-use vocabulary::{axiom_kind, axiom_left, axiom_next, axiom_right, first_axiom};
+use vocabulary::{Axiom, axiom_at, axiom_next, first_axiom};
 use words::{ClassSet, has, insert, place};
 
 const INDIVIDUALS: usize = MOST_INDIVIDUALS as usize;
@@ -192,17 +192,17 @@ fn narrow(m: &[u32], work: &mut [u32], f: u32)
     intersect(work, range_place(RoleNo(r)), class_place(target));
 }
 
-// Makes the sets of all roles, by one walk over the records, for the first record of kind 5; the answer is whether they are made.
-fn make_ranges(m: &[u32], work: &mut [u32], made: bool, kind: u32) -> bool
+// Makes the sets of all roles, by one walk over the records, for the first record that states a range; the answer is whether they are made.
+fn make_ranges(m: &[u32], work: &mut [u32], made: bool, stated: Option<Axiom>) -> bool
     requires { RangedIf made m.now work.old }
-    ensures { RangesMade kind m.now work.old work.new result }
+    ensures { RangesMade stated m.now work.old work.new result }
 {
     if made {
         return true;
     }
-    if kind != 5 {
+    let Some(Axiom::Range(..)) = stated else {
         return false;
-    }
+    };
     open_ranges(work);
     let mut f = first_fact(m);
     while f != 0 {
@@ -296,19 +296,16 @@ fn is_functional(work: &[u32], u: u32) -> bool
     !has(&work[CLASHES..end], u)
 }
 
-// Whether what record k of the vocabulary asks of the model is so. What kinds 3 and 4 say is so by default, and is asked of all functional
+// Whether what record k of the vocabulary asks of the model is so. That a name is functional is so by default, and is asked of all such
 // names together.
 fn is_held(v: &[u32], m: &[u32], work: &[u32], k: u32) -> bool
     requires { Askable v.now m.now work.now k }
     ensures { result ≡ is_held (facts_of m.now) (axiom_at v.now k) }
 {
-    let kind = axiom_kind(v, k);
-    let a = axiom_left(v, k);
-    let b = axiom_right(v, k);
-    match kind {
-        1 => do_follow(work, individual_count(m), ClassNo(a), ClassNo(b), false),
-        2 => do_follow(work, individual_count(m), ClassNo(a), ClassNo(b), true),
-        5 => is_range(work, RoleNo(a), ClassNo(b)),
+    match axiom_at(v, k) {
+        Some(Axiom::Below(a, b)) => do_follow(work, individual_count(m), a, b, false),
+        Some(Axiom::Disjoint(a, b)) => do_follow(work, individual_count(m), a, b, true),
+        Some(Axiom::Range(r, c)) => is_range(work, r, c),
         _ => true,
     }
 }
@@ -321,7 +318,7 @@ fn hold_records(v: &[u32], m: &[u32], work: &mut [u32]) -> bool
     let mut ranged = false;
     let mut k = first_axiom(v);
     while k != 0 {
-        ranged = make_ranges(m, work, ranged, axiom_kind(v, k));
+        ranged = make_ranges(m, work, ranged, axiom_at(v, k));
         if !is_held(v, m, work, k) {
             return false;
         }

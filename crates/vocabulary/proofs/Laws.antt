@@ -1,17 +1,17 @@
 -- Laws of the definitions, over plain lists and numbers: what a function's proof cites at its returns.
 use Prim.Native.Nat.{◌<◌, ◌≤◌, ℕ}
-use mathlib.Core.Bool.{Bool, ◌&&◌, and-false, and-true, cond, false, not, true}
+use mathlib.Core.Bool.{Bool, cond, false, not, true}
 use mathlib.Core.List.{List}
 use mathlib.Core.Path.{◌∙◌, ◌≡◌, ap, refl, sym}
-use lib.Dec.{eqb, leb}
+use lib.Dec.{leb}
 use lib.ListN.{length}
 use native.Mathlib.Omega.{arith}
-use borrow.Author.Tests.{le-leb, lt-leb, ne_eqb, not-false, not-true}
+use borrow.Author.Tests.{le-leb, lt-leb, not-false, not-true}
 use Rattle.meaning.specs.Answers.{Answer, ReadingResult, accepted, refused, result}
 use Rattle.meaning.specs.Limits.{most_classes, most_features, most_roles, most_vocabulary_words}
 use Rattle.meaning.specs.Operations.{read_vocabulary, unless}
-use Rattle.meaning.specs.Records.{Onward, falling, is_name, is_onward, is_sized, last_of}
-use Rattle.meaning.specs.Vocabulary.{axiom_fits, axiom_kind, axiom_left, axiom_next, axiom_right, axioms_refusal, class_count, feature_count}
+use Rattle.meaning.specs.Records.{Onward, falling, is_name, is_sized, last_of}
+use Rattle.meaning.specs.Vocabulary.{axiom_next, axioms_refusal, class_count, feature_count}
 use Rattle.meaning.specs.Vocabulary.{first_axiom, headed_vocabulary, role_count, sound_axiom, vocabulary_refusal}
 use Rattle.records.proofs.Chains.{Reading, reading_ends, reading_falls, reading_on, reading_starts, reading_stops}
 use Rattle.theory.proofs.Links.{bounds, falling_le, passed, tests}
@@ -39,48 +39,6 @@ module _ (v : List ℕ) {N : ℕ} {t : Bool} (eN : N ≡ class_count v) (et : t 
 -- the refusal of record k; 0 is none
 abbrev Refuses : List ℕ → ℕ → ℕ → Type 0
 Refuses v k r = r ≡ cond (sound_axiom v k) 0 3
-
--- t is the test of record k's link
-module _ (v : List ℕ) (k : ℕ) {l x : ℕ} {t : Bool} (p : l ≡ last_of 4 v) (q : x ≡ axiom_next v k) (e : t ≡ is_onward l k x) where
-  link : t ≡ is_onward (last_of 4 v) k (axiom_next v k)
-  link = rw (sym p, sym q) e
-
-  pub bad_link : not t ≡ true → Refuses v k 3
-  bad_link h = rw (sym link ∙ not-true t h, and-false (axiom_fits v k))
-
-  -- and kind, a and b are its other words
-  module _ {kind a b : ℕ} (h : not t ≡ false) (ek : kind ≡ axiom_kind v k) (ea : a ≡ axiom_left v k) (eb : b ≡ axiom_right v k) where
-    fitted : {r : ℕ} (f : Bool) → r ≡ cond f 0 3 → f ≡ axiom_fits v k → Refuses v k r
-    fitted f c g = c ∙ rw (sym link ∙ not-false t h, and-true (axiom_fits v k), sym g)
-
-    pub unknown : (kind ≡ 1 → ⊥) → (kind ≡ 2 → ⊥) → (kind ≡ 3 → ⊥) → (kind ≡ 4 → ⊥) → (kind ≡ 5 → ⊥) → (kind ≡ 6 → ⊥) → (kind ≡ 7 → ⊥) → Refuses v k 3
-    unknown n₁ n₂ n₃ n₄ n₅ n₆ n₇ =
-        fitted false refl (rw (sym ek, ne_eqb kind 1 n₁, ne_eqb kind 2 n₂, ne_eqb kind 3 n₃, ne_eqb kind 4 n₄, ne_eqb kind 5 n₅, ne_eqb kind 6 n₆, ne_eqb kind 7 n₇))
-
-    -- the two tests of a kind
-    module _ {f : Bool} {r : ℕ} where
-      module _ {g : Bool} (c : r ≡ cond (f && g) 0 3) where
-        pub below_fits : kind ≡ 1 → f ≡ is_name (class_count v) a → g ≡ is_name (class_count v) b → Refuses v k r
-        below_fits z m n = fitted (f && g) c (rw (sym ek ∙ z, sym ea, sym eb, m, n))
-
-        pub disjoint_fits : kind ≡ 2 → f ≡ is_name (class_count v) a → g ≡ is_name (class_count v) b → Refuses v k r
-        disjoint_fits z m n = fitted (f && g) c (rw (sym ek ∙ z, sym ea, sym eb, m, n))
-
-        pub range_fits : kind ≡ 5 → f ≡ is_name (role_count v) a → g ≡ is_name (class_count v) b → Refuses v k r
-        range_fits z m n = fitted (f && g) c (rw (sym ek ∙ z, sym ea, sym eb, m, n))
-
-      module _ (c : r ≡ cond (f && eqb b 0) 0 3) where
-        pub role_fits : kind ≡ 3 → f ≡ is_name (role_count v) a → Refuses v k r
-        role_fits z m = fitted (f && eqb b 0) c (rw (sym ek ∙ z, sym ea, sym eb, m))
-
-        pub feature_fits : kind ≡ 4 → f ≡ is_name (feature_count v) a → Refuses v k r
-        feature_fits z m = fitted (f && eqb b 0) c (rw (sym ek ∙ z, sym ea, sym eb, m))
-
-        pub many_role_fits : kind ≡ 6 → f ≡ is_name (role_count v) a → Refuses v k r
-        many_role_fits z m = fitted (f && eqb b 0) c (rw (sym ek ∙ z, sym ea, sym eb, m))
-
-        pub many_feature_fits : kind ≡ 7 → f ≡ is_name (feature_count v) a → Refuses v k r
-        many_feature_fits z m = fitted (f && eqb b 0) c (rw (sym ek ∙ z, sym ea, sym eb, m))
 
 -- ---- the chain
 

@@ -9,6 +9,7 @@ ghost use Rattle.meaning.specs.Refusals.{fault_in, vocabulary_number};
 ghost use Rattle.meaning.specs.Vocabulary.{axiom_kind, axiom_left, axiom_next, axiom_right, axioms_refusal, class_count, feature_count};
 ghost use Rattle.meaning.specs.Vocabulary.{first_axiom, headed_vocabulary, role_count, sound_axiom, vocabulary_refusal};
 ghost use Rattle.vocabulary.specs.Names.{Noted, chain_refusal, name_at};
+ghost use Rattle.vocabulary.specs.Axioms.{AxiomRead};
 ghost use Rattle.words.specs.Sets.{including_all};
 
 use meaning::limits::{MOST_CLASSES, MOST_FEATURES, MOST_ROLES, MOST_VOCABULARY_WORDS};
@@ -41,13 +42,13 @@ pub fn first_axiom(v: &[u32]) -> u32
     word(v, 3)
 }
 
-pub fn axiom_kind(v: &[u32], k: u32) -> u32
+fn axiom_kind(v: &[u32], k: u32) -> u32
     ensures { result ≡ axiom_kind v.now k }
 {
     word(v, 4 * (k as usize))
 }
 
-pub fn axiom_left(v: &[u32], k: u32) -> u32
+fn axiom_left(v: &[u32], k: u32) -> u32
     ensures { result ≡ axiom_left v.now k }
 {
     word(v, 4 * (k as usize) + 1)
@@ -63,6 +64,36 @@ pub fn axiom_next(v: &[u32], k: u32) -> u32
     ensures { result ≡ axiom_next v.now k }
 {
     word(v, 4 * (k as usize) + 3)
+}
+
+// What a record states, SPECIFICATION 3.2.
+#[derive(Clone, Copy)]
+pub enum Axiom {
+    Below(ClassNo, ClassNo),
+    Disjoint(ClassNo, ClassNo),
+    FunctionalRole(RoleNo),
+    FunctionalFeature(FeatureNo),
+    Range(RoleNo, ClassNo),
+    ManyRole(RoleNo),
+    ManyFeature(FeatureNo),
+}
+
+// What record k states, or none where its kind is no kind of record. It holds the names that the words have, whether or not they fit.
+pub fn axiom_at(v: &[u32], k: u32) -> Option<Axiom>
+    ensures { AxiomRead v.now k result }
+{
+    let a = axiom_left(v, k);
+    let b = axiom_right(v, k);
+    match axiom_kind(v, k) {
+        1 => Some(Axiom::Below(ClassNo(a), ClassNo(b))),
+        2 => Some(Axiom::Disjoint(ClassNo(a), ClassNo(b))),
+        3 => Some(Axiom::FunctionalRole(RoleNo(a))),
+        4 => Some(Axiom::FunctionalFeature(FeatureNo(a))),
+        5 => Some(Axiom::Range(RoleNo(a), ClassNo(b))),
+        6 => Some(Axiom::ManyRole(RoleNo(a))),
+        7 => Some(Axiom::ManyFeature(FeatureNo(a))),
+        _ => None,
+    }
 }
 
 pub fn is_class(v: &[u32], c: ClassNo) -> bool
@@ -119,32 +150,20 @@ fn check_axiom(v: &[u32], k: u32) -> Result<(), VocabularyFault>
     if !is_onward(last_axiom(v), k, axiom_next(v, k)) {
         return Err(VocabularyFault::Record);
     }
-    let kind = axiom_kind(v, k);
-    let a = axiom_left(v, k);
     let b = axiom_right(v, k);
-    match kind {
-        1 => check_names(is_class(v, ClassNo(a)), is_class(v, ClassNo(b))),
-        2 => check_names(is_class(v, ClassNo(a)), is_class(v, ClassNo(b))),
-        3 => check_names(is_role(v, RoleNo(a)), b == 0),
-        4 => check_names(is_feature(v, FeatureNo(a)), b == 0),
-        5 => check_names(is_role(v, RoleNo(a)), is_class(v, ClassNo(b))),
-        6 => check_names(is_role(v, RoleNo(a)), b == 0),
-        7 => check_names(is_feature(v, FeatureNo(a)), b == 0),
-        _ => Err(VocabularyFault::Record),
+    match axiom_at(v, k) {
+        Some(Axiom::Below(c, d)) => check_names(is_class(v, c), is_class(v, d)),
+        Some(Axiom::Disjoint(c, d)) => check_names(is_class(v, c), is_class(v, d)),
+        Some(Axiom::FunctionalRole(r)) => check_names(is_role(v, r), b == 0),
+        Some(Axiom::FunctionalFeature(f)) => check_names(is_feature(v, f), b == 0),
+        Some(Axiom::Range(r, c)) => check_names(is_role(v, r), is_class(v, c)),
+        Some(Axiom::ManyRole(r)) => check_names(is_role(v, r), b == 0),
+        Some(Axiom::ManyFeature(f)) => check_names(is_feature(v, f), b == 0),
+        None => Err(VocabularyFault::Record),
     }
 }
 
-// Puts the name of record k into a set, where the record is of a kind.
-pub fn insert_name(v: &[u32], k: u32, kind: u32, names: &mut [u32])
-    ensures { names.new ≡ including_all names.old (name_at v.now kind k) }
-{
-    if axiom_kind(v, k) != kind {
-        return;
-    }
-    insert(names, axiom_left(v, k));
-}
-
-// The names that records state functional, kinds 3 and 4, and those that they let have many values, kinds 6 and 7.
+// The names that records state functional, and those that they let have many values.
 #[derive(Clone, Copy)]
 struct Sides {
     functional_roles: [u32; NAME_WORDS],
@@ -162,16 +181,20 @@ impl Sides {
     };
 
     // Puts the name of record k into the set of its kind.
+    #[tactic(auto, using(crate::proofs::Axioms::name_passed))]
     fn note(&mut self, v: &[u32], k: u32)
         ensures functional_roles { self.new.functional_roles ≡ including_all self.old.functional_roles (name_at v.now 3 k) }
         ensures functional_features { self.new.functional_features ≡ including_all self.old.functional_features (name_at v.now 4 k) }
         ensures many_roles { self.new.many_roles ≡ including_all self.old.many_roles (name_at v.now 6 k) }
         ensures many_features { self.new.many_features ≡ including_all self.old.many_features (name_at v.now 7 k) }
     {
-        insert_name(v, k, 3, &mut self.functional_roles);
-        insert_name(v, k, 4, &mut self.functional_features);
-        insert_name(v, k, 6, &mut self.many_roles);
-        insert_name(v, k, 7, &mut self.many_features);
+        match axiom_at(v, k) {
+            Some(Axiom::FunctionalRole(r)) => insert(&mut self.functional_roles, r.0),
+            Some(Axiom::FunctionalFeature(f)) => insert(&mut self.functional_features, f.0),
+            Some(Axiom::ManyRole(r)) => insert(&mut self.many_roles, r.0),
+            Some(Axiom::ManyFeature(f)) => insert(&mut self.many_features, f.0),
+            _ => {}
+        }
     }
 }
 

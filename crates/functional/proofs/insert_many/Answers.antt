@@ -15,8 +15,8 @@ loop-k-preserved c =
     let n = c.loop-k-test.true in
     let f = folding_fits l.invariant.0 n in
     let e = c.axiom_next-k.ensures in (
-      folding_on l.invariant.0 n e (name_step v 6 l.k l.roles f c.insert_name.ensures),
-      folding_on l.invariant.1 n e (name_step v 7 l.k l.features f c.insert_name-in-loop-k.ensures),
+      folding_on l.invariant.0 n e (name_step v 6 l.k l.roles f c.note.ensures.roles),
+      folding_on l.invariant.1 n e (name_step v 7 l.k l.features f c.note.ensures.features),
     )
 
 pub returns : goal.returns

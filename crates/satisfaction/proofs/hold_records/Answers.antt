@@ -6,7 +6,7 @@ pub loop-k-init : goal.loop-k-init
 loop-k-init c = search judging_starts
 
 pub is_held-requires : goal.is_held-requires
-is_held-requires c = judging_askable c.loop-k.invariant c.loop-k-test.true c.make_ranges-ranged.ensures c.axiom_kind.ensures
+is_held-requires c = judging_askable c.loop-k.invariant c.loop-k-test.true c.make_ranges-ranged.ensures c.axiom_at.ensures
 
 pub returns-then-not-is_held : goal.returns-then-not-is_held
 returns-then-not-is_held c = search judging_fails

@@ -1,14 +1,11 @@
 use mathlib.Core.Path.{◌∙◌}
 use Rattle.model.proofs.Chain.{scanning_ends, scanning_falls, scanning_on, scanning_starts, scanning_stated}
-use Rattle.satisfaction.proofs.Ranges.{ranges_there, ranges_unasked, ranging_ends, ranging_interpreted, ranging_on}
+use Rattle.satisfaction.proofs.Ranges.{ranges_there, ranging_ends, ranging_interpreted, ranging_on}
 use Rattle.satisfaction.proofs.Ranges.{ranging_starts}
 use Rattle.satisfaction.proofs.make_ranges.Goals as goal
 
 pub returns-then-made : goal.returns-then-made
 returns-then-made c = search ranges_there
-
-pub returns-then-kind-ne5 : goal.returns-then-kind-ne5
-returns-then-kind-ne5 c = search ranges_unasked
 
 pub loop-f-init : goal.loop-f-init
 loop-f-init c = search (scanning_starts, ranging_starts)

@@ -1,6 +1,6 @@
 use mathlib.Core.Path.{refl}
 use Rattle.vocabulary.proofs.Laws.{first}
-use Rattle.vocabulary.proofs.Names.{chain_first, features_opposed, none_opposed, roles_opposed}
+use Rattle.vocabulary.proofs.Names.{features_opposed, none_opposed, roles_opposed}
 use Rattle.vocabulary.proofs.check_chain.Goals as goal
 
 pub check_axioms-requires : goal.check_axioms-requires

@@ -1,4 +1,4 @@
-use mathlib.Core.Path.{◌∙◌, refl, sym}
+use mathlib.Core.Path.{refl}
 use Rattle.meaning.specs.declared.refusals.Refusal.TheVariants.{Vocabulary}
 use Rattle.theory.proofs.Numbers.{converted, reading_told}
 use Rattle.vocabulary.proofs.Laws.{told}
