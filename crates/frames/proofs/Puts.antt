@@ -1,8 +1,8 @@
 -- What is put into a slice piece by piece is what is put at once. Assumes nothing.
 use Prim.Native.Nat.{◌+◌, ◌<◌, ◌≤◌, ℕ}
 use lib.ListN.{drop, length, length-append, length-drop, length-set, length-take, set, take}
-use lib.Seq.{length-sets, set_split, sets, sets-eq, take_at}
-use mathlib.Core.List.{List, [], ◌++◌, ◌∷◌, append_assoc}
+use lib.Seq.{set_split, take_at}
+use mathlib.Core.List.{List, [], ◌++◌, ◌∷◌}
 use mathlib.Core.Path.{◌∙◌, ◌≡◌, ap, refl, subst, sym}
 use native.Mathlib.Nat.{add-zero}
 use native.Mathlib.Numerals.{add-one}
@@ -36,10 +36,6 @@ put_as {w} {u} {at} {r} e p = subst (λ (l : List ℕ). Put w at l u r) e p
 -- one stored
 pub put_one : (w : List ℕ) (at x : ℕ) → at < length w → Put w at (x ∷ []) (set w at x) (at + 1)
 put_one w at x h = record { text = rw add-one (set_split w at x h); place = refl; size = length-set w at x }
-
--- several stored, one after another: `sets` computes to the stores
-pub put_stores : (w : List ℕ) (at : ℕ) (vs : List ℕ) → at + length vs ≤ length w → Put w at vs (sets w at vs) (at + length vs)
-put_stores w at vs h = record { text = sets-eq vs w at h ∙ append_assoc (take at w) _ _; place = refl; size = length-sets w at vs }
 
 -- a slice that begins with what was put there
 pub put_taken : {w u : List ℕ} {r : ℕ} {ys : List ℕ} → Put w 0 ys u r → take r u ≡ ys

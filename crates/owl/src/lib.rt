@@ -25,7 +25,7 @@ use declarations::{Counts, FEATURES, ROLES, list_names, survey};
 use meaning::limits::{MOST_AXIOMS, MOST_CLASSES, MOST_FEATURES, MOST_ROLES, MOST_TEXT};
 use meaning::refusals::{Refusal, VocabularyFault};
 use name_table::{has_repeats, number};
-use records::{link, put_four};
+use records::{link, put_record};
 use statements::{Axiom, Item, NameOf, Said, next_item, open_ontology};
 use tokens::Token;
 use words::{NAME_WORDS, count, insert, insert_others, next};
@@ -296,7 +296,7 @@ fn put(out: &mut [u32], k: usize, last: usize, kind: u32, a: u32, b: u32)
     requires { (k ≤ last) × Room 4 last out.old }
     ensures { out.new ≡ put_at out.old (4 * k) (kind ∷ (a ∷ (b ∷ (link_at last k ∷ [])))) }
 {
-    put_four(out, 4 * k, kind, a, b, link(k, last));
+    put_record(out, 4 * k, [kind, a, b, link(k, last)]);
 }
 
 // A record of a kind for each name of a set, rising, from record k on.

@@ -4,35 +4,13 @@ use mathlib.Core.List.{List, [], ◌++◌, ◌∷◌, append_assoc, append-nil}
 use mathlib.Core.Path.{◌∙◌, ◌≡◌, ap, refl, sym}
 use native.Mathlib.Nat.{add-zero, le_refl, le_trans, mul-add, mul-le-mul, mul-suc, zero-add}
 use native.Mathlib.Omega.{arith}
-use lib.ListN.{length, length-append, set}
+use lib.ListN.{length, length-append}
 use borrow.Author.Tests.{eq-eqb, ne_eqb}
-use Rattle.frames.proofs.Puts.{put_stores}
 use Rattle.frames.proofs.Rows.{length_put, put_append, put_nil}
-use Rattle.frames.specs.Rows.{Put, put_at}
+use Rattle.frames.specs.Rows.{put_at}
 use Rattle.meaning.specs.Operations.{output_after}
-use Rattle.meaning.specs.PolicyWords.{record_words}
 use Rattle.meaning.specs.Records.{chained_words, link_to}
 use Rattle.records.specs.Written.{Format, Room, RoomFor, Wide, Written, link_at, linked_words, recorded}
-
--- ---- one record's words, stored one by one
-
-pub put_four : (o : List ℕ) (at a b c d : ℕ) → at + 4 ≤ length o →
-    Put o at (a ∷ (b ∷ (c ∷ (d ∷ [])))) (set (set (set (set o at a) (at + 1) b) (at + 2) c) (at + 3) d) (at + 4)
-put_four o at a b c d h =
-    let second : at + 1 ≡ suc at = omega arith in
-    let third : at + 2 ≡ suc (suc at) = omega arith in
-    let fourth : at + 3 ≡ suc (suc (suc at)) = omega arith in
-    rw (second, third, fourth) (put_stores o at (a ∷ (b ∷ (c ∷ (d ∷ [])))) h)
-
-pub put_six : (o : List ℕ) (at a b c d e f : ℕ) → at + 6 ≤ length o →
-    Put o at (record_words a b c d e f []) (set (set (set (set (set (set o at a) (at + 1) b) (at + 2) c) (at + 3) d) (at + 4) e) (at + 5) f) (at + 6)
-put_six o at a b c d e f h =
-    let second : at + 1 ≡ suc at = omega arith in
-    let third : at + 2 ≡ suc (suc at) = omega arith in
-    let fourth : at + 3 ≡ suc (suc (suc at)) = omega arith in
-    let fifth : at + 4 ≡ suc (suc (suc (suc at))) = omega arith in
-    let sixth : at + 5 ≡ suc (suc (suc (suc (suc at)))) = omega arith in
-    rw (second, third, fourth, fifth, sixth) (put_stores o at (record_words a b c d e f []) h)
 
 -- ---- records after records
 

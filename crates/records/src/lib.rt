@@ -3,7 +3,6 @@
 
 ghost use Rattle.std.specs.Prelude.{[], ◌∷◌, ◌≡◌, ◌+◌, ◌<◌, ◌^◌, ◌≤◌, get_or, length, set};
 ghost use Rattle.frames.specs.Rows.{Put};
-ghost use Rattle.meaning.specs.PolicyWords.{record_words};
 ghost use Rattle.meaning.specs.Records.{is_name, is_onward, is_sized};
 ghost use Rattle.records.specs.Written.{link_at};
 
@@ -23,39 +22,14 @@ pub fn put_word(l: &mut [u32], i: usize, x: u32)
     }
 }
 
-// A vocabulary's record has four words. They are put from a place on, and the next place is returned.
-pub fn put_four(l: &mut [u32], at: usize, a: u32, b: u32, c: u32, d: u32) -> usize
-    requires { at + 4 ≤ length l.old }
-    ensures { Put l.old at (a ∷ (b ∷ (c ∷ (d ∷ [])))) l.new result }
+// A record's words are put from a place on, and the next place is returned: a vocabulary's has four, a policy's six.
+pub fn put_record<const N: usize>(l: &mut [u32], at: usize, words: [u32; N]) -> usize
+    requires { at + N ≤ length l.old }
+    ensures { Put l.old at words.entry l.new result }
 {
-    l[at] = a;
-    l[at + 1] = b;
-    l[at + 2] = c;
-    l[at + 3] = d;
-    at + 4
-}
-
-// A policy's record has six.
-pub fn put_six(
-    l: &mut [u32],
-    at: usize,
-    kind: u32,
-    a: u32,
-    lo: u32,
-    hi: u32,
-    child: u32,
-    next: u32,
-) -> usize
-    requires { at + 6 ≤ length l.old }
-    ensures { Put l.old at (record_words kind a lo hi child next []) l.new result }
-{
-    l[at] = kind;
-    l[at + 1] = a;
-    l[at + 2] = lo;
-    l[at + 3] = hi;
-    l[at + 4] = child;
-    l[at + 5] = next;
-    at + 6
+    let end = at + N;
+    l[at..end].copy_from_slice(&words);
+    end
 }
 
 // Names count from 1 in each series.

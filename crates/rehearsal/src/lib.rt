@@ -13,7 +13,7 @@ ghost use Rattle.rehearsal.specs.Load.{most_terms, vocabulary_part};
 use meaning::limits::MOST_CLASSES;
 use meaning::refusals::Refusal;
 use meaning::{ClassNo, FeatureNo};
-use records::{is_name, put_four, put_six, put_word};
+use records::{is_name, put_record, put_word};
 use words::place;
 
 // The greatest seed, one less than the modulus.
@@ -68,9 +68,9 @@ fn put_axioms(out: &mut [u32], c: Cursor, n: u32) -> Cursor
     let mut cursor = c;
     for k in 2..n + 1 {
         let above = cursor.draw_class(k - 1);
-        cursor.at = put_four(out, cursor.at, 1, k, above.0, k);
+        cursor.at = put_record(out, cursor.at, [1, k, above.0, k]);
     }
-    cursor.at = put_four(out, cursor.at, 4, FEATURE.0, 0, 0);
+    cursor.at = put_record(out, cursor.at, [4, FEATURE.0, 0, 0]);
     cursor
 }
 
@@ -81,7 +81,7 @@ fn put_vocabulary(out: &mut [u32], seed: u32, n: u32) -> Cursor
         (advance_by (n - 1) seed) out.new result }
 {
     put_word(out, 0, 4 * (n + 1));
-    let at = put_four(out, 1, n, 0, 1, 1);
+    let at = put_record(out, 1, [n, 0, 1, 1]);
     put_axioms(out, Cursor { at, seed }, n)
 }
 
@@ -97,9 +97,9 @@ fn put_term(out: &mut [u32], c: Cursor, n: u32, k: u32, next: u32) -> Cursor
     let class = cursor.draw_class(n);
     let lo = cursor.draw(100);
     let hi = lo + cursor.draw(100);
-    let class_at = put_six(out, c.at, 5, 0, 0, 0, k + 1, next);
-    let interval_at = put_six(out, class_at, 1, class.0, 0, 0, 0, k + 2);
-    cursor.at = put_six(out, interval_at, 4, FEATURE.0, lo, hi, 0, 0);
+    let class_at = put_record(out, c.at, [5, 0, 0, 0, k + 1, next]);
+    let interval_at = put_record(out, class_at, [1, class.0, 0, 0, 0, k + 2]);
+    cursor.at = put_record(out, interval_at, [4, FEATURE.0, lo, hi, 0, 0]);
     cursor
 }
 
@@ -133,7 +133,7 @@ fn put_policy(out: &mut [u32], c: Cursor, n: u32, m: u32) -> Cursor
     let from = c.at;
     let seed = c.seed;
     put_word(out, from, 6 * (3 * m + 1));
-    let at = put_six(out, from + 1, 1, 0, 0, 0, 0, 0);
+    let at = put_record(out, from + 1, [1, 0, 0, 0, 0, 0]);
     put_terms(out, Cursor { at, seed }, n, m)
 }
 

@@ -16,7 +16,7 @@ ghost use Rattle.writing.specs.Written.{is_deep, item_words, link_below, link_be
 use entries::{classes_at, depth_of, fields_of};
 use meaning::ClassNo;
 use meaning::limits::{MOST_DEPTH, MOST_RECORDS};
-use records::put_six;
+use records::put_record;
 use words::{ClassSet, place};
 
 // ---- how many, and how deep
@@ -126,7 +126,7 @@ fn put(out: &mut [u32], k: u32, kind: u32, a: u32, lo: u32, hi: u32, child: u32,
     requires { 6 * (k + 1) ≤ length out.old }
     ensures { out.new ≡ put_at out.old (6 * k) (record_words kind a lo hi child next []) }
 {
-    put_six(out, 6 * place(k), kind, a, lo, hi, child, next);
+    put_record(out, 6 * place(k), [kind, a, lo, hi, child, next]);
 }
 
 // The records of the classes from record first on, each with a link to the next, and the last with a link to what follows. Behind the last

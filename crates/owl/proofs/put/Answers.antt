@@ -1,4 +1,4 @@
 use Rattle.owl.proofs.put.Goals as goal
 
 pub returns : goal.returns
-returns c = rw (← c.link.ensures) c.put_four.ensures.text
+returns c = rw (← c.link.ensures) c.put_record.ensures.text

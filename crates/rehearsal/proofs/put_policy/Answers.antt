@@ -3,4 +3,4 @@ use Rattle.rehearsal.proofs.Parts.{policy_put}
 use Rattle.rehearsal.proofs.put_policy.Goals as goal
 
 pub returns : goal.returns
-returns c = policy_put c.requires c.put_word.ensures c.put_six-at.ensures c.put_terms.ensures
+returns c = policy_put c.requires c.put_word.ensures c.put_record-at.ensures c.put_terms.ensures

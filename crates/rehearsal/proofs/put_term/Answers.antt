@@ -11,4 +11,4 @@ returns c =
     let third = c.draw.ensures in
     let moved = second.seed ∙ ap advance first.seed in
     term_put _ _ first.value (second.value ∙ ap (λ s. draw s 100) first.seed) (third.value ∙ ap (λ s. draw s 100) moved)
-    c.put_six-class_at.ensures c.put_six-interval_at.ensures c.put_six.ensures (third.seed ∙ ap advance moved)
+    c.put_record-class_at.ensures c.put_record-interval_at.ensures c.put_record.ensures (third.seed ∙ ap advance moved)
