@@ -117,6 +117,7 @@ fn mark_row(columns: &mut [u32], r: usize, cut: u64, low: u64, high: u64, k: u32
 }
 
 // Puts record k, where it is a feature's, into the rows of the cuts in its span.
+// The count stands beside the cuts here: with a slice of just these the model check took longer.
 fn mark_span(p: &[u32], cuts: &[u64], n: usize, columns: &mut [u32], k: u32)
     requires { SpanMarkable cuts.now columns.old n k }
     ensures { SpanMarked p.now cuts.now n k columns.old columns.new }
