@@ -6,7 +6,6 @@ use mathlib.Core.Logic.{⊎_elim}
 use mathlib.Core.Path.{◌∙◌, ◌≡◌, refl}
 use lib.Dec.{eqb, ltb}
 use lib.ListN.{get_or, length, take}
-use lib.Seq.{length-take-le, take-take}
 use native.Mathlib.Omega.{arith}
 use borrow.Author.Tests.{eqb-false, eqb-true, ne_eqb}
 use Rattle.keys.proofs.Adding.{gathered_none, gathered_two}
@@ -101,12 +100,3 @@ module _ {p : List ℕ} {first : ℕ} where
             f j ∈ t.keys ++ cuts_at p (k + 1)
         go f j old l new true d = let z = eqb-true j (k + 1) d in rw z (any_right t.keys (new z))
         go f j old l new false d = let z = eqb-false j (k + 1) d in any_left (cuts_at p (k + 1)) (old (omega arith))
-
--- the cuts alone
-pub cuts_alone : {p e : List ℕ} {first last n : ℕ} → n ≤ length e → AllCut p first last e n → AllCut p first last (take n e) (length (take n e))
-cuts_alone {e = e} {n = n} h a = rw (length-take-le n e h) (record {
-  few = a.few;
-  rising = rw (take-take n n e (omega arith)) a.rising;
-  low = λ k i j z. rw (take-take n n e (omega arith)) (a.low k i j z);
-  high = λ k i j z. rw (take-take n n e (omega arith)) (a.high k i j z);
-})

@@ -117,42 +117,42 @@ fn mark_row(columns: &mut [u32], r: usize, cut: u64, low: u64, high: u64, k: u32
 }
 
 // Puts record k, where it is a feature's, into the rows of the cuts in its span.
-fn mark_span(p: &[u32], cuts: &[u64], columns: &mut [u32], k: u32)
-    requires { SpanMarkable cuts.now columns.old (length cuts.now) k }
-    ensures { SpanMarked p.now cuts.now (length cuts.now) k columns.old columns.new }
+// The count stands beside the cuts here: with a slice of just these the model check took longer.
+fn mark_span(p: &[u32], cuts: &[u64], n: usize, columns: &mut [u32], k: u32)
+    requires { SpanMarkable cuts.now columns.old n k }
+    ensures { SpanMarked p.now cuts.now n k columns.old columns.new }
 {
     if kind_of(p, k) != 4 {
         return;
     }
     let low = low_key(p, k);
     let high = high_key(p, k);
-    for (r, cut) in cuts.iter().enumerate() {
+    for (r, cut) in cuts[..n].iter().enumerate() {
         mark_row(columns, r, *cut, low, high, k);
     }
 }
 
-// The rows of the cuts, of the records after the first up to the last.
-fn mark_spans(p: &[u32], cuts: &[u64], columns: &mut [u32], first: u32, last: u32)
-    requires { SpansMarkable cuts.now columns.old (length cuts.now) first last }
-    ensures { Rowed p.now first last cuts.now columns.new (length cuts.now) }
+// The rows of the first n cuts, of the records after the first up to the last.
+fn mark_spans(p: &[u32], cuts: &[u64], n: usize, columns: &mut [u32], first: u32, last: u32)
+    requires { SpansMarkable cuts.now columns.old n first last }
+    ensures { Rowed p.now first last cuts.now columns.new n }
 {
-    clear(columns, 0, cuts.len() * SET_WORDS);
+    clear(columns, 0, n * SET_WORDS);
     for k in first + 1..=last {
-        mark_span(p, cuts, columns, k);
+        mark_span(p, cuts, n, columns, k);
     }
 }
 
 // Where record f of the model is a value, its individual has the records of the row that its key belongs to.
-fn mark_value(m: &[u32], work: &mut [u32], columns: &[u32], cuts: &[u64], f: u32)
-    requires { ValueMarkable m.now work.old columns.now cuts.now (length cuts.now) f }
-    ensures { ValueMarked cuts.now columns.now (length cuts.now) (fact_at m.now f)
+fn mark_value(m: &[u32], work: &mut [u32], columns: &[u32], cuts: &[u64], n: usize, f: u32)
+    requires { ValueMarkable m.now work.old columns.now cuts.now n f }
+    ensures { ValueMarked cuts.now columns.now n (fact_at m.now f)
         work.old work.new }
 {
     if fact_kind(m, f) != 3 {
         return;
     }
     let x = key(FeatureNo(fact_name(m, f)), fact_other(m, f));
-    let n = cuts.len();
     let r = rank(cuts, n, x);
     if n <= r {
         return;
@@ -178,12 +178,10 @@ fn mark_batch(
     if n == 0 {
         return;
     }
-    let cuts = &cuts[..n];
-    mark_spans(p, cuts, columns, first, last);
+    mark_spans(p, cuts, n, columns, first, last);
     let mut f = first_fact(m);
-    // The chain of facts ends at 0, which a record's own word says.
     while f != 0 {
-        mark_value(m, work, columns, cuts, f);
+        mark_value(m, work, columns, cuts, n, f);
         f = fact_next(m, f);
     }
 }

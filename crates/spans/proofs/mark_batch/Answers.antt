@@ -1,8 +1,6 @@
-use lib.ListN.{length-take}
 use native.Mathlib.Omega.{arith}
 use Rattle.model.proofs.Chain.{scanning_ends, scanning_falls, scanning_on, scanning_starts, scanning_stated}
 use Rattle.spans.proofs.Joining.{handing_ends, handing_on, handing_starts}
-use Rattle.spans.proofs.Cuts.{cuts_alone}
 use Rattle.spans.proofs.Tables.{tabled}
 use Rattle.spans.proofs.Values.{values_marked, values_none}
 use Rattle.spans.specs.Cuts.{spans_among}
@@ -17,12 +15,7 @@ returns-then-n-eq0 c =
     c.requires.markable.readable c.cut_all-n.ensures c.if-n-eq0.true
 
 pub mark_spans-requires : goal.mark_spans-requires
-mark_spans-requires c =
-    let pre = c.requires in
-    let few = c.cut_all-n.ensures.few in
-    let r = pre.markable.room in
-    let n = length-take c.cut_all-n.result c.cut_all-n.new.cuts in
-    record { cuts = omega arith; room = omega arith; order = pre.order; few = pre.markable.few }
+mark_spans-requires c = let pre = c.requires in let n = c.cut_all-n.ensures.few in let r = pre.markable.room in record { cuts = omega arith; room = omega arith; order = pre.order; few = pre.markable.few }
 
 pub loop-f-init : goal.loop-f-init
 loop-f-init c = scanning_starts c.requires.markable.readable c.first_fact-f.ensures handing_starts
@@ -33,8 +26,7 @@ mark_value-requires c =
     let l = pre.markable.long in
     let r = pre.markable.room in
     let s = c.loop-f.invariant.walk.holds.only.size in
-    let few = c.cut_all-n.ensures.few in
-    let n = length-take c.cut_all-n.result c.cut_all-n.new.cuts in
+    let n = c.cut_all-n.ensures.few in
     record { stated = scanning_stated c.loop-f.invariant c.loop-f-test.true; readable = pre.markable.readable; long = omega arith; room = omega arith; cuts = omega arith }
 
 pub loop-f-smaller : goal.loop-f-smaller
@@ -46,7 +38,7 @@ loop-f-preserved c =
     let cut = c.cut_all-n.ensures in
     let n = cut.few in
     scanning_on c.loop-f.invariant c.loop-f-test.true c.fact_next-f.ensures
-    (handing_on (c.mark_value.ensures.hands (spans_among c.args.p.now c.args.first c.args.last) (tabled (omega arith) (cuts_alone (omega arith) cut) c.mark_spans.ensures)))
+    (handing_on (c.mark_value.ensures.hands (spans_among c.args.p.now c.args.first c.args.last) (tabled (omega arith) cut c.mark_spans.ensures)))
 
 pub shape_of-work : goal.shape_of-work
 shape_of-work c = c.loop-f.invariant.walk.holds.only.size

@@ -1,4 +1,8 @@
+use Prim.Native.Nat.{◌<◌, ◌≤◌}
 use borrow.Author.Rules.{rules}
+use lib.ListN.{length-take}
+use lib.Seq.{get_or-take}
+use native.Mathlib.Omega.{arith}
 use Rattle.spans.proofs.Tables.{span_none, spanning_ends, spanning_on, spanning_starts}
 use Rattle.spans.proofs.mark_span.Goals as goal
 
@@ -9,7 +13,10 @@ pub loop-r-init : goal.loop-r-init
 loop-r-init c = (search rules, spanning_starts)
 
 pub loop-r-preserved : goal.loop-r-preserved
-loop-r-preserved c = (search rules, spanning_on c.requires c.loop-r.invariant.1 c.loop-r-test.true c.mark_row.ensures)
+loop-r-preserved c =
+    let r = c.loop-r.r in
+    let l : r < c.args.n = omega (arith, length-take c.args.n c.args.cuts.now) in
+    (omega arith, spanning_on c.requires c.loop-r.invariant.1 l (rw (get_or-take c.args.n c.args.cuts.now r 0 l) at c.mark_row.ensures))
 
 pub returns : goal.returns
-returns c = search spanning_ends
+returns c = let l : c.args.n ≤ c.loop-r.r = omega (arith, length-take c.args.n c.args.cuts.now, c.requires.cuts) in search spanning_ends

@@ -1,6 +1,5 @@
 use Prim.Native.Nat.{◌+◌, ◌-◌, ◌≤◌}
 use borrow.Author.Rules.{rules}
-use lib.ListN.{length}
 use mathlib.Core.Path.{◌≡◌}
 use native.Mathlib.Omega.{arith}
 use Rattle.spans.proofs.Tables.{rowed_on, rowed_starts}
@@ -13,7 +12,7 @@ loop-k-init c =
     let i : c.args.first + 1 - 1 ≡ c.args.first = omega arith in
     (search rules, search rules, rw i (rowed_starts c.clear.ensures), search rules)
 
-more : (c : After-mark_span) → Rowed c.args.p.now c.args.first c.loop-k.k c.args.cuts.now c.mark_span.new.columns (length c.args.cuts.now)
+more : (c : After-mark_span) → Rowed c.args.p.now c.args.first c.loop-k.k c.args.cuts.now c.mark_span.new.columns c.args.n
 more c =
     let i : c.loop-k.k - 1 + 1 ≡ c.loop-k.k = omega arith in
     let o : c.args.first ≤ c.loop-k.k - 1 = omega arith in

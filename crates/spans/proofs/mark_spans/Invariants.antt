@@ -5,4 +5,4 @@ use Rattle.spans.specs.Cuts.{Rowed}
 use Rattle.spans.proofs.mark_spans.Given as goal
 
 abbrev pub invariant-loop-k : goal.invariant-loop-k
-invariant-loop-k l = (l.first + 1 ≤ l.k) × (l.k ≤ l.last + 1) × Rowed l.p l.first (l.k - 1) l.cuts l.columns (length l.cuts) × (length l.columns ≡ length l.initial.columns)
+invariant-loop-k l = (l.first + 1 ≤ l.k) × (l.k ≤ l.last + 1) × Rowed l.p l.first (l.k - 1) l.cuts l.columns l.n × (length l.columns ≡ length l.initial.columns)
