@@ -29,8 +29,8 @@ fn note(v: &[u32], k: u32, roles: &mut [u32], features: &mut [u32])
 // Puts the names that records let have many values into two sets, by one walk.
 fn insert_many(v: &[u32], roles: &mut [u32], features: &mut [u32])
     requires { vocabulary_refusal v.now ≡ 0 }
-    ensures noted { Noted v.now 6 roles.old roles.new }
-    ensures noted_2 { Noted v.now 7 features.old features.new }
+    ensures roles { Noted v.now 6 roles.old roles.new }
+    ensures features { Noted v.now 7 features.old features.new }
 {
     let mut k = first_axiom(v);
     // The chain of records ends at 0, which a record's own word says.
@@ -74,14 +74,14 @@ impl Functional {
     // A method for roles and one for features: the type of a number says which of the sets is asked.
     pub fn has_role(self, r: RoleNo) -> bool
         ensures value { result ≡ in_set self.roles r.0 }
-        ensures by_index { (v : List ℕ) → FunctionalNames v self → result ≡ is_functional_role (vocabulary_of v) r.0 }
+        ensures functional { (v : List ℕ) → FunctionalNames v self → result ≡ is_functional_role (vocabulary_of v) r.0 }
     {
         has(&self.roles, r.0)
     }
 
     pub fn has_feature(self, f: FeatureNo) -> bool
         ensures value { result ≡ in_set self.features f.0 }
-        ensures by_index { (v : List ℕ) → FunctionalNames v self → result ≡ is_functional_feature (vocabulary_of v) f.0 }
+        ensures functional { (v : List ℕ) → FunctionalNames v self → result ≡ is_functional_feature (vocabulary_of v) f.0 }
     {
         has(&self.features, f.0)
     }

@@ -42,13 +42,13 @@ pub fn first_axiom(v: &[u32]) -> u32
     word(v, 3)
 }
 
-fn axiom_kind(v: &[u32], k: u32) -> u32
+pub fn axiom_kind(v: &[u32], k: u32) -> u32
     ensures { result ≡ axiom_kind v.now k }
 {
     word(v, 4 * (k as usize))
 }
 
-fn axiom_left(v: &[u32], k: u32) -> u32
+pub fn axiom_left(v: &[u32], k: u32) -> u32
     ensures { result ≡ axiom_left v.now k }
 {
     word(v, 4 * (k as usize) + 1)

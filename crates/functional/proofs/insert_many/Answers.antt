@@ -23,10 +23,10 @@ pub returns : goal.returns
 returns c =
     let a = c.args in
     let z = c.loop-k-test.false in
-    record { noted = names_noted a.v.now 6 a.roles.now (folding_ends c.loop-k.invariant.0 z); noted_2 = names_noted a.v.now 7 a.features.now (folding_ends c.loop-k.invariant.1 z) }
+    record { roles = names_noted a.v.now 6 a.roles.now (folding_ends c.loop-k.invariant.0 z); features = names_noted a.v.now 7 a.features.now (folding_ends c.loop-k.invariant.1 z) }
 
 pub shape_of-roles : goal.shape_of-roles
-shape_of-roles c = let a = c.args in noted_length a.v.now 6 a.roles.now (returns c).noted
+shape_of-roles c = let a = c.args in noted_length a.v.now 6 a.roles.now (returns c).roles
 
 pub shape_of-features : goal.shape_of-features
-shape_of-features c = let a = c.args in noted_length a.v.now 7 a.features.now (returns c).noted_2
+shape_of-features c = let a = c.args in noted_length a.v.now 7 a.features.now (returns c).features

@@ -2,4 +2,4 @@ use mathlib.Core.Path.{◌∙◌}
 use Rattle.functional.proofs.Functional.has_role.Goals as goal
 
 pub returns : goal.returns
-returns c = record { value = c.has.ensures; by_index = λ v h. c.has.ensures ∙ h.role c.args.r.0 }
+returns c = record { value = c.has.ensures; functional = λ v h. c.has.ensures ∙ h.role c.args.r.0 }

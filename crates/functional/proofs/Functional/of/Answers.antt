@@ -3,5 +3,5 @@ use Rattle.functional.proofs.Functional.of.Goals as goal
 
 pub returns : goal.returns
 returns c = let many = c.insert_many.ensures in
-    functional_names c.args.v.now c.requires c.role_count.ensures c.feature_count.ensures many.noted many.noted_2
+    functional_names c.args.v.now c.requires c.role_count.ensures c.feature_count.ensures many.roles many.features
     c.others.ensures c.others-2.ensures
