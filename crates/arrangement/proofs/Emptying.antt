@@ -150,7 +150,7 @@ module _ {w ds : List ℕ} {t : Tables} {o₀ : List ℕ} (g : Arrangeable w t o
           let b = below_top in
           let s = x.same in
           let f = g.few in
-          record { items = record { long = g.items.long; known = set_known }; inside = omega arith }
+          record { items = record { long = g.items.long; known = set_known }; inside = omega arith; few = omega arith }
 
       module _ {o' : List ℕ} {r : ℕ} (y : Settled w ds (top - 1) (set o (top - 1) e) o' r) where
         placed : items_in w ds o' r (length o') ≡ arranged (map (item_at w ds) (e ∷ x.taken))

@@ -6,7 +6,8 @@ use lib.ListN.{drop, get_or, length, length-append, length-drop, take}
 use lib.Seq.{drop_at, length-take-le, take_all}
 use native.Mathlib.Omega.{arith}
 use Rattle.arrangement.specs.Steps.{BelongsAt, Ready, Rotatable, RunEnds, Settled, StandsAt, rotated}
-use Rattle.entries.specs.Entries.{item_at, items_in}
+use Rattle.entries.proofs.Runs.{items_none, items_split}
+use Rattle.entries.specs.Entries.{Item, item_at, items_in}
 use Rattle.frames.proofs.Rows.{length_put, length_row}
 use Rattle.frames.specs.Rows.{put_at, row_at}
 use Rattle.meaning.specs.Limits.{most_records}
@@ -50,7 +51,24 @@ module _ {w ds o : List ℕ} {top : ℕ} (g : Ready w o top) {b : ℕ} (x : RunE
   }
 
   pub place_rotatable : BelongsAt w ds o top b at → Rotatable o top b at
-  place_rotatable f = record { first = (let l = x.first in omega arith); second = f.low; within = f.high }
+  place_rotatable f = record { first = (let l = x.first in omega arith); second = f.low; within = f.high; few = g.few }
+
+  pub settled_left : BelongsAt w ds o top b at → at ≤ b → Settled w ds top o o top
+  settled_left f h =
+      let l = x.first in
+      let n = x.within in
+      let z : at ≡ b = (let k = f.low in omega arith) in
+      record {
+        items =
+            items_split w ds o top b (length o) (omega arith) n
+            ∙ ap (λ (m : List Item). m ++ (items_in w ds o top b ++ items_in w ds o b (length o))) (sym (items_none w ds o b b (omega arith)))
+            ∙ ap (λ (i : ℕ). items_in w ds o b i ++ (items_in w ds o top b ++ items_in w ds o i (length o))) (sym z)
+            ∙ sym f.missing;
+        low = omega arith;
+        high = omega arith;
+        known = g.items.known;
+        same = refl;
+      }
 
   pub settled_moved : {o' : List ℕ} → BelongsAt w ds o top b at → o' ≡ rotated o top b at → Settled w ds top o o' top
   unfolding rotated

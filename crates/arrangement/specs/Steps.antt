@@ -25,6 +25,7 @@ pub record Depths (w : List ℕ) (n : ℕ) (ds : List ℕ) : Type 0 where
 pub record Ready (w o : List ℕ) (i : ℕ) : Type 0 where
   pub items : HasItems w o
   pub inside : i < length o
+  pub few : length o ≤ most_records
 
 -- the run at i ends before r: those behind its first entry that are deeper
 pub record RunEnds (w ds o : List ℕ) (i r : ℕ) : Type 0 where
@@ -58,6 +59,7 @@ pub record Rotatable (o : List ℕ) (a b c : ℕ) : Type 0 where
   pub first : a ≤ b
   pub second : b ≤ c
   pub within : c ≤ length o
+  pub few : length o ≤ most_records
 
 unfoldable pub rotated : List ℕ → ℕ → ℕ → ℕ → List ℕ
 rotated o a b c = put_at o a (row_at (c - b) o b ++ row_at (b - a) o a)

@@ -84,11 +84,16 @@ fn find_place(
 }
 
 // The entries from a to before b go behind those from b to before c.
+// By hand: `rotate_left` has spare words of its own, twice as many, and wants `memmove` of the C library.
 fn rotate(order: &mut [u32], a: usize, b: usize, c: usize)
     requires { Rotatable order.old a b c }
     ensures { order.new ≡ rotated order.old a b c }
 {
-    order[a..c].rotate_left(b - a);
+    let mut spare = [0; MOST_RECORDS];
+    let moved = &mut spare[..c - a];
+    moved[..c - b].copy_from_slice(&order[b..c]);
+    moved[c - b..].copy_from_slice(&order[a..b]);
+    order[a..c].copy_from_slice(moved);
 }
 
 // The run at place top goes to its place among those behind it, or is dropped where an equal one stands there; where the order starts then.
@@ -100,7 +105,9 @@ fn settle(work: &[u32], depths: &[u32], order: &mut [u32], top: usize) -> usize
     match find_place(work, depths, order, top, b) {
         Ok(_) => b,
         Err(at) => {
-            rotate(order, top, b, at);
+            if b < at {
+                rotate(order, top, b, at);
+            }
             top
         }
     }

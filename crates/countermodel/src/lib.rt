@@ -67,6 +67,10 @@ fn next_pair(work: &[u32], n: usize, x: u32, m: Option<usize>) -> Option<usize>
 {
     let mut best = None;
     for i in 0..n {
+        // Most are another's: these are passed before there is a look at the best.
+        if holder_of(work, i) != x {
+            continue;
+        }
         if is_better(work, x, m, best, i) {
             best = Some(i);
         }

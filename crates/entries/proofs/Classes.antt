@@ -1,13 +1,18 @@
 -- The records of two sets of classes, compared by the least class that is in one of them alone. Assumes nothing.
-use Prim.Native.Nat.{◌*◌, ◌+◌, ◌/◌, ◌<◌, ◌≤◌, suc, zero, ℕ}
-use mathlib.Core.Bool.{Bool, beq, ◌||◌, cond, false, not, true}
+use Prim.Native.Nat.{◌%◌, ◌*◌, ◌+◌, ◌-◌, ◌/◌, ◌<◌, ◌^◌, ◌≤◌, suc, zero, ℕ}
+use mathlib.Core.Bool.{Bool, ◌||◌, cond, false, not, true}
 use mathlib.Core.List.{List, [], ◌∷◌}
-use mathlib.Core.Path.{◌∙◌, ◌≡◌, ap, refl, subst, sym}
+use mathlib.Core.Path.{◌∙◌, ◌≡◌, ap, ap₂, refl, subst, sym}
+use lib.Bits.{and_le_l, and_le_r, bit_xor, xor_add_and, xor_lt}
+use lib.Count.{count_trailing_zeros}
 use lib.Dec.{eqb, ltb}
 use lib.ListN.{get_or, length}
 use native.Mathlib.Omega.{arith}
 use borrow.Author.Tests.{eqb-false, eqb-true, le-ltb, ltb-false, ltb-true}
+use Rattle.std.proofs.Common.{w32}
 use Rattle.std.proofs.lemmas.Cmp.{nat_list_cmp_total}
+use Rattle.std.proofs.lemmas.Nat.Bits.{bit_at-lt, bit_at-trailing_zeros, bit_at_xor}
+use Rattle.std.specs.Int.{bit_at}
 use Rattle.std.specs.Ordering.{ordering_reverse, ordering_then}
 use Rattle.std.specs.declared.cmp.Ordering.{Ordering}
 use Rattle.std.specs.declared.cmp.Ordering.TheVariants.{Equal, Greater, Less}
@@ -20,7 +25,7 @@ use Rattle.words.proofs.Listing.{next_none, next_some}
 use Rattle.words.proofs.Lists.{above_all, above_first, rising_counting, rising_filter}
 use Rattle.words.specs.Members.{members, members_above, next_member}
 use Rattle.words.specs.Rows.{class_words}
-use Rattle.words.specs.Sets.{capacity, in_set}
+use Rattle.words.specs.Sets.{capacity, in_set, test_bit}
 
 -- ---- equal classes
 
@@ -193,23 +198,62 @@ module _ (s t : List ℕ) (left : length s ≡ class_words) (right : length t �
 pub continues_else : {more : Bool} {n x : ℕ} → more ≡ false → n ≡ x → not (eqb n 0) ≡ (more || not (eqb x 0))
 continues_else p q = rw (p, q)
 
-pub agree_more : (s t : List ℕ) (i c : ℕ) → ((x : ℕ) → x ≤ i → in_set s x ≡ in_set t x) → c ≡ i + 1 → in_set s c ≡ in_set t c → (x : ℕ) → x ≤ i + 1 → in_set s x ≡ in_set t x
-agree_more s t i c h e g x k = go (eqb x c) refl
+-- ---- the word at place i is the first that differs
+
+-- bit k of that word is the number 32 * i + k + 1
+in_place : (ws : List ℕ) (i k x : ℕ) → k < 32 → x ≡ 32 * i + k + 1 → in_set ws x ≡ test_bit (get_or ws i 0) k
+unfolding in_set
+in_place ws i k zero h e = absurd (omega arith)
+in_place ws i k (suc j) h e =
+    let word : j / 32 ≡ i = omega arith in
+    let bit : j % 32 ≡ k = omega arith in
+    ap₂ (λ (q r : ℕ). test_bit (get_or ws q 0) r) word bit
+
+same_bit : (a b k : ℕ) → bit_at (bit_xor a b) k ≡ 0 → test_bit a k ≡ test_bit b k
+same_bit a b k e = ap (λ (x : ℕ). eqb x 1) (same (bit_at a k) (bit_at b k) (bit_at-lt a k) (bit_at-lt b k) (sym (bit_at_xor a b k) ∙ e))
   where
-    go : (b : Bool) → eqb x c ≡ b → in_set s x ≡ in_set t x
-    go true f = let z = eqb-true x c f in rw z g
-    go false f = h x (let n = eqb-false x c f in omega arith)
+    same : (x y : ℕ) → x < 2 → y < 2 → (x + y) % 2 ≡ 0 → x ≡ y
+    same x y p q e = omega arith
 
--- ---- two tests that are told apart, or not
+other_bit : (a b k : ℕ) → bit_at (bit_xor a b) k ≡ 1 → test_bit a k ≡ test_bit b k → ⊥
+other_bit a b k e = other (bit_at a k) (bit_at b k) (bit_at-lt a k) (bit_at-lt b k) (sym (bit_at_xor a b k) ∙ e)
+  where
+    other : (x y : ℕ) → x < 2 → y < 2 → (x + y) % 2 ≡ 1 → eqb x 1 ≡ eqb y 1 → ⊥
+    other zero zero p q e f = absurd (omega arith)
+    other zero (suc zero) p q e f = absurd (cc)
+    other (suc zero) zero p q e f = absurd (cc)
+    other (suc zero) (suc zero) p q e f = absurd (omega arith)
+    other zero (suc (suc y)) p q e f = absurd (omega arith)
+    other (suc zero) (suc (suc y)) p q e f = absurd (omega arith)
+    other (suc (suc x)) y p q e f = absurd (omega arith)
 
-pub alike_tests : (a b : Bool) → not (beq a b) ≡ false → a ≡ b
-alike_tests true true e = refl
-alike_tests true false e = absurd (cc)
-alike_tests false true e = absurd (cc)
-alike_tests false false e = refl
+module _ (s t : List ℕ) (i : ℕ) (h : AlikeTo s t i) where
+  -- k is the lowest bit in which it differs
+  lowest_apart : (k : ℕ) → k < 32 → bit_at (bit_xor (get_or s i 0) (get_or t i 0)) k ≡ 1
+      → ((j : ℕ) → j < k → bit_at (bit_xor (get_or s i 0) (get_or t i 0)) j ≡ 0) → FirstDifference s t (32 * i + k + 1)
+  lowest_apart k m e none = record { before = before; at = at }
+    where
+      before : (c : ℕ) → c < 32 * i + k + 1 → in_set s c ≡ in_set t c
+      before c l = go (ltb (32 * i) c) refl
+        where
+          go : (b : Bool) → ltb (32 * i) c ≡ b → in_set s c ≡ in_set t c
+          go true f =
+              let g = ltb-true (32 * i) c f in
+              let j = c - (32 * i + 1) in
+              in_place s i j c (omega arith) (omega arith) ∙ same_bit (get_or s i 0) (get_or t i 0) j (none j (omega arith))
+              ∙ sym (in_place t i j c (omega arith) (omega arith))
+          go false f = words_agree s t i h c (ltb-false (32 * i) c f)
 
-pub unlike_tests : (a b : Bool) → a ≡ b → not (beq a b) ≡ true → ⊥
-unlike_tests true true f e = absurd (cc)
-unlike_tests true false f e = absurd (cc)
-unlike_tests false true f e = absurd (cc)
-unlike_tests false false f e = absurd (cc)
+      at : in_set s (32 * i + k + 1) ≡ in_set t (32 * i + k + 1) → ⊥
+      at f =
+          other_bit (get_or s i 0) (get_or t i 0) k e (sym (in_place s i k (32 * i + k + 1) m refl) ∙ f ∙ in_place t i k (32 * i + k + 1) m refl)
+
+  pub differs_first : get_or s i 0 < 2 ^ 32 → get_or t i 0 < 2 ^ 32 → (get_or s i 0 ≡ get_or t i 0 → ⊥)
+      → FirstDifference s t (32 * i + count_trailing_zeros 32 (bit_xor (get_or s i 0) (get_or t i 0)) + 1)
+  differs_first p q n =
+      let a = get_or s i 0 in
+      let b = get_or t i 0 in
+      let d = bit_xor a b in
+      let some : d ≡ 0 → ⊥ = λ e. n (omega (arith, xor_add_and a b, and_le_l a b, and_le_r a b)) in
+      let low = bit_at-trailing_zeros w32 d (omega arith) (xor_lt 32 a b p q) in
+      lowest_apart (count_trailing_zeros 32 d) low.0 low.1 low.2

@@ -5,7 +5,7 @@ use mathlib.Core.List.{List, [], ◌++◌, ◌∷◌, map, map-append}
 use mathlib.Core.Path.{◌∙◌, ◌≡◌, ap, ap₂, refl, subst, sym}
 use lib.Dec.{ltb}
 use lib.ListN.{drop, get_or, length, length-drop, take}
-use lib.Seq.{drop-cons, drop-drop, take-length, get_or-drop, take-add}
+use lib.Seq.{drop-cons, drop-drop, get_or-drop, take-add}
 use native.Mathlib.Omega.{arith}
 use borrow.Author.Tests.{lt-ltb}
 use Rattle.std.proofs.lemmas.Map.Lookups.{exact_bytes}

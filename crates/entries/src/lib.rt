@@ -3,7 +3,7 @@
 #![tactic(auto)]
 
 ghost use Rattle.std.specs.Option.{MatchOption};
-ghost use Rattle.std.specs.Prelude.{◌<◌, ◌||◌, not, [], ◌≡◌, eqb};
+ghost use Rattle.std.specs.Prelude.{◌<◌, ◌||◌, not, [], ◌≡◌, eqb, get_or};
 ghost use Rattle.entries.specs.Entries.{AlikeTo, Beside, Comparable, ComparesClasses, ComparesNext, FirstDifference, HasItem, HasItems, HasSame, Steps};
 ghost use Rattle.entries.specs.Entries.{classes_at, depth_at, fields_at, items_of, owner_at, rank_of, rest_fields, run_key, sibling_fields};
 ghost use Rattle.entries.specs.Order.{order_of};
@@ -110,23 +110,18 @@ fn compare_siblings(a: Fields, b: Fields) -> Ordering
 
 // The first word in which the sets differ.
 fn first_word(s: ClassSet, t: ClassSet) -> Option<usize>
-    ensures { MatchOption result (AlikeTo s.words t.words class_words) (λ i. (i < class_words) × AlikeTo s.words t.words i) }
+    ensures { MatchOption result (AlikeTo s.words t.words class_words) (λ i. (i < class_words) × AlikeTo s.words t.words i × (get_or s.words i 0 ≡ get_or t.words i 0 → ⊥)) }
 {
     s.words.iter().zip(t.words.iter()).position(|(a, b)| a != b)
 }
 
-// The least class that is in one set alone.
+// The least class that is in one set alone: the lowest bit that differs, in the first word that does.
 fn first_difference(s: ClassSet, t: ClassSet) -> Option<ClassNo>
     ensures { MatchOption result (HasSame s.words t.words) (λ c. FirstDifference s.words t.words c.0) }
 {
     let from = first_word(s, t)?;
-    for i in 32 * from..32 * ClassSet::WORDS {
-        let c = ClassNo(i as u32 + 1);
-        if s.has(c) != t.has(c) {
-            return Some(c);
-        }
-    }
-    None
+    let apart = s.words[from] ^ t.words[from];
+    Some(ClassNo(32 * from as u32 + apart.trailing_zeros() + 1))
 }
 
 // Whether a list of records goes on behind class c.

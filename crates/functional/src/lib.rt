@@ -10,20 +10,16 @@ ghost use Rattle.words.specs.Members.{others_of};
 ghost use Rattle.words.specs.Sets.{in_set, including_all};
 
 use meaning::{FeatureNo, RoleNo};
-use vocabulary::{Axiom, axiom_at, axiom_next, feature_count, first_axiom, role_count};
-use words::{NAME_WORDS, has, insert, insert_others};
+use vocabulary::{axiom_next, feature_count, first_axiom, insert_name, role_count};
+use words::{NAME_WORDS, has, insert_others};
 
 // Puts the name that record k lets have many values into the set of its series.
-#[tactic(auto, using(vocabulary::proofs::Axioms::name_passed))]
 fn note(v: &[u32], k: u32, roles: &mut [u32], features: &mut [u32])
     ensures roles { roles.new ≡ including_all roles.old (name_at v.now 6 k) }
     ensures features { features.new ≡ including_all features.old (name_at v.now 7 k) }
 {
-    match axiom_at(v, k) {
-        Some(Axiom::ManyRole(r)) => insert(roles, r.0),
-        Some(Axiom::ManyFeature(f)) => insert(features, f.0),
-        _ => {}
-    }
+    insert_name(v, k, 6, roles);
+    insert_name(v, k, 7, features);
 }
 
 // Puts the names that records let have many values into two sets, by one walk.

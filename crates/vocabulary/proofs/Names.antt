@@ -1,18 +1,18 @@
 -- The names that the reader notes on its way along the chain, and what it finds in them.
 use Prim.Native.Nat.{◌≤◌, suc, zero, ℕ}
 use mathlib.Core.Bool.{Bool, cond, false, true}
-use mathlib.Core.List.{List, foldl, foldl-append}
+use mathlib.Core.List.{List, [], ◌∷◌, foldl, foldl-append}
 use mathlib.Core.Path.{◌∙◌, ◌≡◌, ap, refl, subst, sym}
 use lib.Dec.{T, eqb, eqb→eq}
 use lib.Ieee.Bits.{is_true as is_true_lem}
 use lib.ListN.{length, replicate}
 use native.Mathlib.Omega.{arith}
-use borrow.Author.Tests.{ne_eqb}
+use borrow.Author.Tests.{eq-eqb, ne_eqb}
 use Rattle.meaning.specs.Accepted.{AxiomOf}
 use Rattle.meaning.specs.Limits.{most_features, most_roles}
 use Rattle.meaning.specs.Lists.{All, any}
 use Rattle.meaning.specs.Records.{Enough, Name, Onward, last_of}
-use Rattle.meaning.specs.Vocabulary.{Axiom, axiom_at, axiom_fits, axiom_next, axioms_from, axioms_of, axioms_refusal}
+use Rattle.meaning.specs.Vocabulary.{Axiom, axiom_at, axiom_fits, axiom_kind, axiom_left, axiom_next, axioms_from, axioms_of, axioms_refusal}
 use Rattle.meaning.specs.Vocabulary.{feature_count, first_axiom, headed_vocabulary, is_named, is_opposed, name_by, names_by, role_count}
 use Rattle.meaning.specs.Vocabulary.{sound_axiom, vocabulary_of}
 use Rattle.theory.proofs.Links.{enough_end, falling_le, falls, onward_le, passed, tests}
@@ -26,6 +26,24 @@ use Rattle.words.proofs.Laws.{in_listed, listed_in}
 use Rattle.words.proofs.Others.{in_all, length_including_all}
 use Rattle.words.specs.Members.{members}
 use Rattle.words.specs.Sets.{in_set, including, including_all}
+
+-- ---- one record
+
+module _ (v : List ℕ) (k kind : ℕ) {t : ℕ} (e : t ≡ axiom_kind v k) where
+  pub other_kind : (t ≡ kind → ⊥) → [] ≡ name_at v kind k
+  other_kind n = rw (sym e, ne_eqb t kind n)
+
+  pub same_kind : t ≡ kind → axiom_left v k ∷ [] ≡ name_at v kind k
+  same_kind z = rw (eq-eqb (axiom_kind v k) kind (sym e ∙ z))
+
+module _ (v : List ℕ) (k kind : ℕ) {t : ℕ} (e : t ≡ axiom_kind v k) (w : List ℕ) where
+  pub name_passed : (t ≡ kind → ⊥) → w ≡ including_all w (name_at v kind k)
+  unfolding including_all
+  name_passed n = ap (including_all w) (other_kind v k kind e n)
+
+  pub name_put : t ≡ kind → {a : ℕ} {x : List ℕ} → a ≡ axiom_left v k → x ≡ including w a → x ≡ including_all w (name_at v kind k)
+  unfolding including_all
+  name_put z p q = q ∙ ap (including w) p ∙ ap (including_all w) (same_kind v k kind e z)
 
 -- ---- along the chain
 

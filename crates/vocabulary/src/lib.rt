@@ -163,6 +163,15 @@ fn check_axiom(v: &[u32], k: u32) -> Result<(), VocabularyFault>
     }
 }
 
+// Puts the name of record k into a set, where the record is of a kind.
+pub fn insert_name(v: &[u32], k: u32, kind: u32, names: &mut [u32])
+    ensures { names.new ≡ including_all names.old (name_at v.now kind k) }
+{
+    if axiom_kind(v, k) == kind {
+        insert(names, axiom_left(v, k));
+    }
+}
+
 // The names that records state functional, and those that they let have many values.
 #[derive(Clone, Copy)]
 struct Sides {
@@ -181,20 +190,16 @@ impl Sides {
     };
 
     // Puts the name of record k into the set of its kind.
-    #[tactic(auto, using(crate::proofs::Axioms::name_passed))]
     fn note(&mut self, v: &[u32], k: u32)
         ensures functional_roles { self.new.functional_roles ≡ including_all self.old.functional_roles (name_at v.now 3 k) }
         ensures functional_features { self.new.functional_features ≡ including_all self.old.functional_features (name_at v.now 4 k) }
         ensures many_roles { self.new.many_roles ≡ including_all self.old.many_roles (name_at v.now 6 k) }
         ensures many_features { self.new.many_features ≡ including_all self.old.many_features (name_at v.now 7 k) }
     {
-        match axiom_at(v, k) {
-            Some(Axiom::FunctionalRole(r)) => insert(&mut self.functional_roles, r.0),
-            Some(Axiom::FunctionalFeature(f)) => insert(&mut self.functional_features, f.0),
-            Some(Axiom::ManyRole(r)) => insert(&mut self.many_roles, r.0),
-            Some(Axiom::ManyFeature(f)) => insert(&mut self.many_features, f.0),
-            _ => {}
-        }
+        insert_name(v, k, 3, &mut self.functional_roles);
+        insert_name(v, k, 4, &mut self.functional_features);
+        insert_name(v, k, 6, &mut self.many_roles);
+        insert_name(v, k, 7, &mut self.many_features);
     }
 }
 

@@ -13,13 +13,13 @@ loop-end-init c =
     finding_starts a.work.now a.depths.now a.order.now c.requires.0 c.requires.1 c.depth_of-d.ensures
 
 pub is_at-requires : goal.is_at-requires
-is_at-requires c = let g = c.requires.0 in record { items = g.items; inside = (let i = g.inside in omega arith) }
+is_at-requires c = let g = c.requires.0 in record { items = g.items; inside = (let i = g.inside in omega arith); few = g.few }
 
 pub run_end-end-requires : goal.run_end-end-requires
 run_end-end-requires c =
     let a = c.args in
     let g = c.requires.0 in
-    record { items = g.items; inside = here a.work.now a.depths.now a.order.now c.loop-end.invariant (sym c.is_at.ensures ∙ c.loop-end-test.true) }
+    record { items = g.items; inside = here a.work.now a.depths.now a.order.now c.loop-end.invariant (sym c.is_at.ensures ∙ c.loop-end-test.true); few = g.few }
 
 pub compare_runs-requires : goal.compare_runs-requires
 compare_runs-requires c =

@@ -1,4 +1,4 @@
-use Rattle.arrangement.proofs.Settling.{place_rotatable, settled_dropped, settled_moved}
+use Rattle.arrangement.proofs.Settling.{place_rotatable, settled_dropped, settled_left, settled_moved}
 use Rattle.arrangement.proofs.settle.Goals as goal
 
 pub run_end-b-requires : goal.run_end-b-requires
@@ -13,5 +13,8 @@ returns-in-Ok c = settled_dropped c.requires c.run_end-b.ensures c.in-Ok.ensures
 pub rotate-requires : goal.rotate-requires
 rotate-requires c = place_rotatable c.requires c.run_end-b.ensures c.in-Err.ensures
 
-pub returns-in-Err : goal.returns-in-Err
-returns-in-Err c = settled_moved c.requires c.run_end-b.ensures c.in-Err.ensures c.rotate.ensures
+pub returns-then-b-at : goal.returns-then-b-at
+returns-then-b-at c = settled_moved c.requires c.run_end-b.ensures c.in-Err.ensures c.rotate.ensures
+
+pub returns-else-b-at : goal.returns-else-b-at
+returns-else-b-at c = settled_left c.requires c.run_end-b.ensures c.in-Err.ensures c.if-b-at.false

@@ -9,13 +9,13 @@ use Rattle.tokens.proofs.next_token.Goals as goal
 pub overflow_add-from : goal.overflow_add-from
 overflow_add-from c =
     let t = c.args.text.now in
-    let e = c.passing.ensures is_space (λ b r e. search rules) ∙ ap (prefix_len is_space) (whole c.args.at t) in
+    let e = c.blanks.ensures ∙ ap (prefix_len is_space) (whole c.args.at t) in
     omega (arith, space_small t c.args.at c.requires e)
 
 pub returns-in_err-first : goal.returns-in_err-first
 returns-in_err-first c =
     let t = c.args.text.now in
-    let e = c.passing.ensures is_space (λ b r e. search rules) ∙ ap (prefix_len is_space) (whole c.args.at t) in
+    let e = c.blanks.ensures ∙ ap (prefix_len is_space) (whole c.args.at t) in
     rw c.from_residual.ensures (read_none t c.args.at c.requires e c.in_err-first.ensures.lookup.3)
 
 pub overflow_add-to-2 : goal.overflow_add-to-2
@@ -23,8 +23,8 @@ overflow_add-to-2 c =
     let t = c.args.text.now in
     let p = goes_on c.in_ok-first.field-0.now in
     let l = c.in_ok-first.ensures.lookup in
-    let e = c.passing.ensures is_space (λ b r e. search rules) ∙ ap (prefix_len is_space) (whole c.args.at t) in
-    let q = c.passing-2.ensures p (λ b r e. search rules) ∙ ap (prefix_len p) (whole (c.args.at + c.passing.result + 1) t) in
+    let e = c.blanks.ensures ∙ ap (prefix_len is_space) (whole c.args.at t) in
+    let q = c.passing.ensures p (λ b r e. search rules) ∙ ap (prefix_len p) (whole (c.args.at + c.blanks.result + 1) t) in
     omega (arith, token_small t c.args.at c.requires e l.3.0 (l.3.1 0) q)
 
 pub returns : goal.returns
@@ -32,6 +32,6 @@ returns c =
     let t = c.args.text.now in
     let p = goes_on c.in_ok-first.field-0.now in
     let l = c.in_ok-first.ensures.lookup in
-    let e = c.passing.ensures is_space (λ b r e. search rules) ∙ ap (prefix_len is_space) (whole c.args.at t) in
-    let q = c.passing-2.ensures p (λ b r e. search rules) ∙ ap (prefix_len p) (whole (c.args.at + c.passing.result + 1) t) in
+    let e = c.blanks.ensures ∙ ap (prefix_len is_space) (whole c.args.at t) in
+    let q = c.passing.ensures p (λ b r e. search rules) ∙ ap (prefix_len p) (whole (c.args.at + c.blanks.result + 1) t) in
     read_token t c.args.at c.requires e l.3.0 (l.3.1 0) q
