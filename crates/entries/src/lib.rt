@@ -110,7 +110,8 @@ fn compare_siblings(a: Fields, b: Fields) -> Ordering
 
 // The first word in which the sets differ.
 fn first_word(s: ClassSet, t: ClassSet) -> Option<usize>
-    ensures { MatchOption result (AlikeTo s.words t.words class_words) (λ i. (i < class_words) × AlikeTo s.words t.words i × (get_or s.words i 0 ≡ get_or t.words i 0 → ⊥)) }
+    ensures { MatchOption result (AlikeTo s.words t.words class_words)
+        (λ i. (i < class_words) × AlikeTo s.words t.words i × (get_or s.words i 0 ≡ get_or t.words i 0 → ⊥)) }
 {
     s.words.iter().zip(t.words.iter()).position(|(a, b)| a != b)
 }

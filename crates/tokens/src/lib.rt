@@ -43,7 +43,8 @@ fn passing<F: Fn(u8) -> bool>(text: &[u8], passes: F) -> usize
 // Whether the four bytes from a place on are blanks.
 fn are_blank(text: &[u8], at: usize) -> bool
     requires { at + 4 ≤ length text.now }
-    ensures { result ≡ (is_space (get_or text.now at 0) && is_space (get_or text.now (at + 1) 0) && is_space (get_or text.now (at + 2) 0) && is_space (get_or text.now (at + 3) 0)) }
+    ensures { result ≡ (is_space (get_or text.now at 0) && is_space (get_or text.now (at + 1) 0)
+        && is_space (get_or text.now (at + 2) 0) && is_space (get_or text.now (at + 3) 0)) }
 {
     is_space(text[at]) & is_space(text[at + 1]) & is_space(text[at + 2]) & is_space(text[at + 3])
 }
@@ -53,6 +54,7 @@ fn blanks(text: &[u8]) -> usize
     ensures { result ≡ prefix_len is_space text.now }
 {
     let mut n = 0;
+    // By hand: where to go on is told by what was passed.
     while 4 <= text.len() - n && are_blank(text, n) {
         n += 4;
     }
